@@ -1,0 +1,11 @@
+-- The laws of `specs/`, and of tests, bytes in lists and lent buffers. No contract cites these files.
+--     Tests      what a test's value tells, `&&`, `||` and a choice by a test
+--     Lists      total, joined, all and lists that rise
+--     Numbers    firstFrom, run and sumTo
+--     Stores     a buffer that is written from the front
+--     Refusals   the first refusal of a ladder of tests
+pub mod Tests
+pub mod Lists
+pub mod Numbers
+pub mod Stores
+pub mod Refusals

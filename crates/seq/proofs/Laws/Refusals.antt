@@ -1,0 +1,86 @@
+-- The laws of `specs/Refusals.antt`: a ladder of tests answers the first refusal that applies. No contract cites this file.
+--     Sound          what each rung of a ladder keeps
+--     rung, end      a ladder by its first test and the rest; its end
+--     first-refusal  a sound ladder answers the first refusal that applies
+--     before-or      of two refusals one comes before the other, or they are one
+--     laid-refused, laid-answered
+-- Assumes nothing.
+use Prim.Native.Nat.{ℕ, _<_, _≤_}
+use native.Mathlib.Nat.{lt-irrefl}
+use native.Mathlib.Omega.{arith}
+use mathlib.Core.Path.{_≡_, refl, sym, ap, ap₂, _∙_, subst}
+use mathlib.Core.Bool.{Bool, true, false, cond}
+use mathlib.Core.Logic.{_⊎_, inl, inr, ⊎-elim, _↔_}
+use mathlib.Core.List.{List, [], _∷_, _++_}
+use lib.ListN.{length, drop}
+use Rattle.seq.specs.Refusals.{Said, refused, answered, laid, Before, First, FirstRefusal}
+use Rattle.seq.proofs.Laws.Tests.{below-or, true-or}
+
+pub laid-refused : {A : Type 0} (s : Said A) (n p : ℕ) (xs out : List ℕ) → s ≡ refused n p → laid s xs out ≡ out
+unfolding laid
+laid-refused s n p xs out e = rw e
+
+pub laid-answered : {A : Type 0} (s : Said A) (a : A) (xs out : List ℕ) → s ≡ answered a → laid s xs out ≡ xs ++ drop (length xs) out
+unfolding laid
+laid-answered s a xs out e = rw e
+
+pub not-both : {A : Type 0} (s : Said A) (a : A) (n p : ℕ) → s ≡ answered a → s ≡ refused n p → ⊥
+not-both s a n p x y = let z : _≡_ {A = ℕ} 0 1 = cc in omega arith
+
+lt-or : (a b : ℕ) → (a < b) ⊎ ((b < a) ⊎ (a ≡ b))
+lt-or a b = ⊎-elim (λ (h : a < b). inl h) (λ (h : b ≤ a). inr (⊎-elim (λ (k : b < a). inl k) (λ (k : a ≤ b). inr (omega arith)) (below-or b a))) (below-or a b)
+
+module _ (stage : ℕ → ℕ) where
+  pub before-or : (m q n p : ℕ) → Before stage m q n p ⊎ (Before stage n p m q ⊎ ((m ≡ n) × (q ≡ p)))
+  before-or m q n p = go (lt-or (stage m) (stage n)) (lt-or q p) (lt-or m n)
+    where
+      go : ((stage m < stage n) ⊎ ((stage n < stage m) ⊎ (stage m ≡ stage n))) → ((q < p) ⊎ ((p < q) ⊎ (q ≡ p))) → ((m < n) ⊎ ((n < m) ⊎ (m ≡ n))) → Before stage m q n p ⊎ (Before stage n p m q ⊎ ((m ≡ n) × (q ≡ p)))
+      go (inl a) b c = inl (inl a)
+      go (inr (inl a)) b c = inr (inl (inl a))
+      go (inr (inr a)) (inl b) c = inl (inr (a, inl b))
+      go (inr (inr a)) (inr (inl b)) c = inr (inl (inr (sym a, inl b)))
+      go (inr (inr a)) (inr (inr b)) (inl c) = inl (inr (a, inr (b, c)))
+      go (inr (inr a)) (inr (inr b)) (inr (inl c)) = inr (inl (inr (sym a, inr (sym b, c))))
+      go (inr (inr a)) (inr (inr b)) (inr (inr c)) = inr (inr (c, b))
+
+module _ {A : Type 0} (stage : ℕ → ℕ) (Applies : ℕ → ℕ → Type 0) (value : A) where
+  -- a refusal that is told is the first; where the value is told none applies; and one of the two is told
+  pub record Sound (said : Said A) : Type 0 where
+    pub first : (n p : ℕ) → said ≡ refused n p → First stage Applies n p
+    pub clear : said ≡ answered value → (n p : ℕ) → Applies n p → ⊥
+    pub total : (said ≡ answered value) ⊎ ((n : ℕ) × (p : ℕ) × (said ≡ refused n p))
+
+  pub end : ((n p : ℕ) → Applies n p → ⊥) → Sound (answered value)
+  end none = record { first = λ n p e. absurd (not-both (answered value) value n p refl e); clear = λ e. none; total = inl refl }
+
+  told : (n p : ℕ) → First stage Applies n p → Sound (refused n p)
+  told n p f = record {
+    first = λ m q e. subst (λ (x : ℕ). First stage Applies x q) (same m q e .0) (subst (λ (x : ℕ). First stage Applies n x) (same m q e .1) f);
+    clear = λ e. absurd (not-both (refused n p) value n p e refl);
+    total = inr (n, p, refl);
+  }
+    where
+      same : (m q : ℕ) → _≡_ {A = Said A} (refused n p) (refused m q) → (n ≡ m) × (p ≡ q)
+      same m q e = (cc, cc)
+
+  pub rung : (t : Bool) (n p : ℕ) (rest : Said A) → (t ≡ true → First stage Applies n p) → (t ≡ false → Sound rest) → Sound (cond t (refused n p) rest)
+  rung true n p rest f g = told n p (f refl)
+  rung false n p rest f g = g refl
+
+  pub first-refusal : (said : Said A) → Sound said → FirstRefusal stage Applies value said
+  first-refusal said s = record {
+    refuses = λ n p. (s .first n p, λ f. found n p f (s .total));
+    answers = (s .clear, λ none. none-found none (s .total));
+    either = s .total;
+  }
+    where
+      found : (n p : ℕ) → First stage Applies n p → (said ≡ answered value) ⊎ ((m : ℕ) × (q : ℕ) × (said ≡ refused m q)) → said ≡ refused n p
+      found n p f (inl e) = absurd (s .clear e n p (f .applies))
+      found n p f (inr e) =
+          let g = s .first (e .0) (e .1) (e .2) in
+          ⊎-elim (λ b. absurd (f .nothing-before (e .0) (e .1) (g .applies) b))
+          (λ r. ⊎-elim (λ b. absurd (g .nothing-before n p (f .applies) b)) (λ (q : (e .0 ≡ n) × (e .1 ≡ p)). e .2 ∙ ap₂ (λ (x y : ℕ). refused x y) (q .0) (q .1)) r)
+          (before-or stage (e .0) (e .1) n p)
+      none-found : ((n p : ℕ) → Applies n p → ⊥) → (said ≡ answered value) ⊎ ((m : ℕ) × (q : ℕ) × (said ≡ refused m q)) → said ≡ answered value
+      none-found none (inl e) = e
+      none-found none (inr e) = absurd (none (e .0) (e .1) (s .first (e .0) (e .1) (e .2) .applies))

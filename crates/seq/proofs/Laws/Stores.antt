@@ -1,0 +1,38 @@
+-- A buffer that is written from the front: what is written so far, then the rest of d as it was. No contract cites this file.
+--     put-next    one more element is stored
+--     put-many    several are stored, as straight-line code does (`sets`)
+--     put-part    a part `&mut out[a..e]` comes back as ys
+-- Assumes nothing.
+use Prim.Native.Nat.{ℕ, zero, suc, _+_, _-_, _<_, _≤_}
+use native.Mathlib.Numerals.{add-one}
+use native.Mathlib.Omega.{arith}
+use mathlib.Core.Path.{_≡_, refl, sym, ap, _∙_}
+use mathlib.Core.List.{List, [], _∷_, _++_, append-assoc}
+use lib.ListN.{length, getD, set, take, drop, length-append, length-drop}
+use lib.Seq.{drop-cons, set-at, append-snoc, sets, sets-eq, take-at, drop-append-add, drop-drop, drop-at}
+use borrow.Rule.Slice.PartMut.{putMid, post-is}
+
+module _ {A : Type 0} where
+  -- past a list as long as n
+  pub drop-past : (p q : List A) (n m : ℕ) → length p ≡ n → drop (n + m) (p ++ q) ≡ drop m q
+  drop-past p q n m e = rw (← e) (drop-append-add p q m)
+
+  pub put-next : (xs d : List A) (i : ℕ) (x : A) → length xs ≡ i → i < length d → set (xs ++ drop i d) i x ≡ (xs ++ (x ∷ [])) ++ drop (i + 1) d
+  put-next xs d i x e h =
+      ap (λ (l : List A). set (xs ++ l) i x) (drop-cons d i x h) ∙ set-at xs (getD d i x) (drop (suc i) d) x i e
+      ∙ rw (add-one i) (sym (append-snoc xs x (drop (suc i) d)))
+
+  pub put-many : (xs d vs : List A) (i : ℕ) → length xs ≡ i → i + length vs ≤ length d → sets (xs ++ drop i d) i vs ≡ (xs ++ vs) ++ drop (i + length vs) d
+  put-many xs d vs i e h =
+      let room : i + length vs ≤ length (xs ++ drop i d) = simp (length-append, length-drop) (omega arith) in
+      sets-eq vs (xs ++ drop i d) i room
+      ∙ ap (λ (l : List A). l ++ vs ++ drop (i + length vs) (xs ++ drop i d)) (take-at xs (drop i d) i e)
+      ∙ ap (λ (l : List A). xs ++ vs ++ l) (drop-past xs (drop i d) i (length vs) e ∙ drop-drop (length vs) i d)
+
+  pub put-part : (p d out ys : List A) (a e : ℕ) → length p ≡ a → a ≤ e → out ≡ p ++ drop a d → putMid a (e - a) out ys ≡ (p ++ ys) ++ drop e d
+  put-part p d out ys a e l h o =
+      ap (λ (xs : List A). putMid a (e - a) xs ys) o
+      ∙ ap (λ (xs : List A). xs ++ (ys ++ drop (e - a) (drop a (p ++ drop a d)))) (take-at p (drop a d) a l)
+      ∙ ap (λ (xs : List A). p ++ (ys ++ drop (e - a) xs)) (drop-at p (drop a d) a l)
+      ∙ ap (λ (xs : List A). p ++ (ys ++ xs)) (post-is a e d h)
+      ∙ sym (append-assoc p ys (drop e d))

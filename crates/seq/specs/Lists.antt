@@ -1,0 +1,42 @@
+-- Words for lists: the elements that pass a test, whether all do, sums and joins over a list, and lists that rise.
+-- Assumes nothing.
+use Prim.Native.Nat.{ℕ, _+_}
+use mathlib.Core.Bool.{Bool, true, false, _&&_}
+use mathlib.Core.List.{List, [], _∷_, _++_}
+use lib.Dec.{ltb}
+
+module _ {A : Type 0} where
+  -- x in front where the test passes
+  abbrev pub consIf : Bool → A → List A → List A
+  consIf true x xs = x ∷ xs
+  consIf false x xs = xs
+
+  -- the elements that pass a test, in order
+  unfoldable pub keep : (A → Bool) → List A → List A
+  keep test [] = []
+  keep test (x ∷ xs) = consIf (test x) x (keep test xs)
+
+  -- every element passes
+  unfoldable pub all : (A → Bool) → List A → Bool
+  all test [] = true
+  all test (x ∷ xs) = test x && all test xs
+
+  -- f's numbers, added up
+  unfoldable pub total : (A → ℕ) → List A → ℕ
+  total f [] = 0
+  total f (x ∷ xs) = f x + total f xs
+
+  -- lists, joined in order
+  unfoldable pub joined : List (List A) → List A
+  joined [] = []
+  joined (xs ∷ xss) = xs ++ joined xss
+
+-- a list rises strictly, and from above a
+unfoldable pub above : ℕ → List ℕ → Bool
+above a [] = true
+above a (x ∷ xs) = ltb a x && above x xs
+
+-- a list rises strictly
+unfoldable pub rises : List ℕ → Bool
+rises [] = true
+rises (x ∷ xs) = above x xs

@@ -1,0 +1,20 @@
+-- What a volume is and what the calls on it answer, in reading order.
+--     Posting     a document and a position as one number
+--     Bytes       little-endian numbers
+--     Checksum    the two running sums of a block
+--     Layout      blocks, the stream of words, the counts and the lists of a volume
+--     Answers     document 01's number and values for each answer
+--     Check       the verdict on a volume: its tests, and the first that fails
+--     Read        reading a list
+--     Write       the volume of given lists, and the writer
+--     Refusals    document 01's refusals as relations, one line for each number
+--     Demands     the statements that the crate is held to
+--     Sums        the sums of a block by columns of eight, and the falls of the stream: for the proofs of `src/` alone
+pub mod Posting
+pub mod Bytes
+pub mod Checksum
+pub mod Layout
+pub mod Answers
+pub mod Check
+pub mod Read
+pub mod Write

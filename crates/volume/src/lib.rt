@@ -1,0 +1,13 @@
+// Volumes: an inverted index as a file. `check` reads a volume's sizes or says why it is refused,
+// `read_list` copies a list out of it, and `write` makes the volume of given lists.
+//
+// No call has a `requires`. What each one answers, and what it leaves in a lent buffer, is an
+// equation with a definition of `specs/`.
+mod answers;
+mod posting;
+
+pub use answers::Checked;
+pub use answers::ListRead;
+pub use answers::Refusal;
+pub use answers::Written;
+pub use posting::Posting;

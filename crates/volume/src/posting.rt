@@ -1,0 +1,36 @@
+// Postings.
+ghost use mathlib.Core.Path.{_≡_};
+ghost use Rattle.volume.specs.Posting.{postingOf, docOf, posOf};
+
+// A posting: a document (01: scene) and a position in it (01: place), as one number.
+pub struct Posting {
+    pub bits: u32,
+}
+
+impl Posting {
+    // The last document.
+    pub const LAST_DOC: u32 = 65535;
+    // The last position.
+    pub const LAST_POS: u32 = 65535;
+
+    // The posting of a document and a position.
+    pub fn new(doc: u16, pos: u16) -> Posting
+        ensures { λ r. ⌜ r ≡ postingOf doc pos ⌝ }
+    {
+        Posting {
+            bits: doc as u32 * 65536 + pos as u32,
+        }
+    }
+
+    pub fn doc(self) -> u32
+        ensures { λ r. ⌜ r ≡ docOf (self .bits) ⌝ }
+    {
+        self.bits / 65536
+    }
+
+    pub fn pos(self) -> u32
+        ensures { λ r. ⌜ r ≡ posOf (self .bits) ⌝ }
+    {
+        self.bits % 65536
+    }
+}
