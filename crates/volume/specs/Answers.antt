@@ -10,16 +10,30 @@ use Rattle.volume.specs.declared.answers.ListRead.the-variants as list
 use Rattle.volume.specs.declared.answers.Written.{Written}
 use Rattle.volume.specs.declared.answers.Written.the-variants as written
 
--- the number and place of a refusal of a volume
+-- the number of a refusal of a volume
+abbrev pub codeOf : Refusal → ℕ
+codeOf Length = 1
+codeOf (Number block) = 2
+codeOf (Checksum block) = 3
+codeOf Version = 4
+codeOf ListCount = 5
+codeOf Extent = 6
+codeOf (Order list) = 7
+codeOf (Padding word) = 8
+
+-- the place (01: place of a refusal) that it names, or 0
+abbrev pub atOf : Refusal → ℕ
+atOf Length = 0
+atOf (Number block) = block
+atOf (Checksum block) = block
+atOf Version = 0
+atOf ListCount = 0
+atOf Extent = 0
+atOf (Order list) = list
+atOf (Padding word) = word
+
 abbrev pub saidRefusal : {A : Type 0} → Refusal → Said A
-saidRefusal Length = refused 1 0
-saidRefusal (Number block) = refused 2 block
-saidRefusal (Checksum block) = refused 3 block
-saidRefusal Version = refused 4 0
-saidRefusal ListCount = refused 5 0
-saidRefusal Extent = refused 6 0
-saidRefusal (Order list) = refused 7 list
-saidRefusal (Padding word) = refused 8 word
+saidRefusal why = refused (codeOf why) (atOf why)
 
 -- what an accepted volume gives (01: T and S)
 pub record Sizes : Type 0 where

@@ -4,6 +4,7 @@ use Prim.Native.Nat.{ℕ, _+_, _*_, _/_, _%_}
 use mathlib.Core.List.{List}
 use lib.ListN.{length, take, drop}
 use Rattle.seq.specs.Numbers.{run, sumTo}
+use Rattle.volume.specs.declared.reading.Span.{Span}
 use Rattle.volume.specs.Bytes.{le16, le32}
 
 -- the number of blocks of v
@@ -68,3 +69,7 @@ postingsOf v i = run (word v) (start v i) (count v i)
 -- the lists of v
 unfoldable pub listsOf : List ℕ → List (List ℕ)
 listsOf v = run (postingsOf v) 0 (listCount v)
+
+-- where list i lies in the stream
+abbrev pub spanOf : List ℕ → ℕ → Span
+spanOf v i = record { start = start v i; count = count v i }

@@ -9,7 +9,8 @@
 --     Write       the volume of given lists, and the writer
 --     Refusals    document 01's refusals as relations, one line for each number
 --     Demands     the statements that the crate is held to
---     Sums        the sums of a block by columns of eight, and the falls of the stream: for the proofs of `src/` alone
+--     Sums        the sums of a block by columns of eight bytes, for the contracts inside `src/checksum.rt`
+--     Falls       the falls of the stream, for the contracts inside `src/order.rt`
 pub mod Posting
 pub mod Bytes
 pub mod Checksum
@@ -18,3 +19,6 @@ pub mod Answers
 pub mod Check
 pub mod Read
 pub mod Write
+pub mod Refusals
+pub mod Sums
+pub mod Falls

@@ -4,10 +4,22 @@
 // No call has a `requires`. What each one answers, and what it leaves in a lent buffer, is an
 // equation with a definition of `specs/`.
 mod answers;
+mod block;
+mod bytes;
+mod checking;
+mod checksum;
+mod order;
 mod posting;
+mod reading;
+mod stream;
 
 pub use answers::Checked;
 pub use answers::ListRead;
 pub use answers::Refusal;
 pub use answers::Written;
+pub use checking::check;
 pub use posting::Posting;
+pub use reading::Span;
+pub use reading::list_span;
+pub use reading::read_list;
+pub use stream::word_at;

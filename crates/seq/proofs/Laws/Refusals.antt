@@ -81,6 +81,7 @@ module _ {A : Type 0} (stage : ℕ → ℕ) (Applies : ℕ → ℕ → Type 0) (
           ⊎-elim (λ b. absurd (f .nothing-before (e .0) (e .1) (g .applies) b))
           (λ r. ⊎-elim (λ b. absurd (g .nothing-before n p (f .applies) b)) (λ (q : (e .0 ≡ n) × (e .1 ≡ p)). e .2 ∙ ap₂ (λ (x y : ℕ). refused x y) (q .0) (q .1)) r)
           (before-or stage (e .0) (e .1) n p)
+
       none-found : ((n p : ℕ) → Applies n p → ⊥) → (said ≡ answered value) ⊎ ((m : ℕ) × (q : ℕ) × (said ≡ refused m q)) → said ≡ answered value
       none-found none (inl e) = e
       none-found none (inr e) = absurd (none (e .0) (e .1) (s .first (e .0) (e .1) (e .2) .applies))

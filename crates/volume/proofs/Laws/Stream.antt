@@ -1,0 +1,34 @@
+-- Where the words of the stream stand, and what stands behind them. No contract cites this file.
+--     word-in-block    word i of block k
+--     word-behind      behind the last block stand zeros
+-- Assumes nothing.
+use Prim.Native.Nat.{ℕ, _+_, _*_, _/_, _%_, _<_, _≤_}
+use native.Mathlib.Omega.{arith}
+use mathlib.Core.Path.{_≡_, refl, sym, ap, _∙_}
+use mathlib.Core.List.{List}
+use lib.ListN.{length, getD, List·getD-eq-default}
+use Rattle.volume.specs.Bytes.{le32}
+use Rattle.volume.specs.Layout.{word, offset}
+
+offset-in-block : (k i : ℕ) → i < 126 → offset (126 * k + i) ≡ 512 * k + 4 + 4 * i
+unfolding offset
+offset-in-block k i h = omega arith
+
+pub word-in-block : (v : List ℕ) (k i : ℕ) → i < 126 → word v (126 * k + i) ≡ le32 v (512 * k + 4 + 4 * i)
+unfolding word
+word-in-block v k i h = ap (le32 v) (offset-in-block k i h)
+
+offset-behind : (n i : ℕ) → 126 * n ≤ i → 512 * n ≤ offset i
+unfolding offset
+offset-behind n i h = omega arith
+
+le32-behind : (v : List ℕ) (o : ℕ) → length v ≤ o → le32 v o ≡ 0
+le32-behind v o h =
+    let h1 : length v ≤ o + 1 = omega arith in
+    let h2 : length v ≤ o + 2 = omega arith in
+    let h3 : length v ≤ o + 3 = omega arith in
+    rw (List·getD-eq-default v 0 h, List·getD-eq-default v 0 h1, List·getD-eq-default v 0 h2, List·getD-eq-default v 0 h3)
+
+pub word-behind : (v : List ℕ) (n i : ℕ) → length v ≡ 512 * n → 126 * n ≤ i → word v i ≡ 0
+unfolding word
+word-behind v n i l h = let o = offset-behind n i h in le32-behind v (offset i) (omega arith)

@@ -1,0 +1,66 @@
+-- Document 01's refusals as relations, one line for each number: refusal n applies at place p. The order in which a call tells
+-- them is the order of its stages, in a stage by place, at a place by number. Assumes nothing.
+use Prim.Native.Nat.{ℕ, suc, _+_, _*_, _%_, _<_, _≤_}
+use mathlib.Core.Path.{_≡_}
+use mathlib.Core.Bool.{cond}
+use mathlib.Core.Logic.{_⊎_, _≢_}
+use mathlib.Core.List.{List, [], _∷_}
+use lib.ListN.{length, getD}
+use lib.Dec.{eqb}
+use Rattle.seq.specs.Lists.{total}
+use Rattle.volume.specs.Checksum.{checkA, checkB}
+use Rattle.volume.specs.Layout.{blocks, blockNumber, covered, storedA, storedB, word, version, listCount, count, extent, postingsOf}
+use Rattle.volume.specs.Write.{givenList}
+
+-- each element of a list is below the next
+abbrev pub Rising : List ℕ → Type 0
+Rising xs = (j : ℕ) → j + 1 < length xs → getD xs j 0 < getD xs (j + 1) 0
+
+-- some element of a list is not below the next
+abbrev pub NotRising : List ℕ → Type 0
+NotRising xs = (j : ℕ) × (j + 1 < length xs) × (getD xs (j + 1) 0 ≤ getD xs j 0)
+
+-- n is the least number of blocks that holds w stream words, 126 to a block
+pub record LeastBlocks (w n : ℕ) : Type 0 where
+  pub enough : w ≤ 126 * n
+  pub least : (m : ℕ) → w ≤ 126 * m → n ≤ m
+
+-- the refusals of a volume
+pub data VolumeApplies (v : List ℕ) : ℕ → ℕ → Type 0 where
+  wrongLength : (length v ≡ 0) ⊎ ((length v % 512 ≢ 0) ⊎ (8192 < blocks v)) → VolumeApplies v 1 0
+  wrongNumber : (k : ℕ) → k < blocks v → blockNumber v k ≢ k → VolumeApplies v 2 k
+  wrongChecksum : (k : ℕ) → k < blocks v → (storedA v k ≢ checkA (covered v k)) ⊎ (storedB v k ≢ checkB (covered v k)) → VolumeApplies v 3 k
+  wrongVersion : version v ≢ 1 → VolumeApplies v 4 0
+  wrongListCount : (listCount v < 1) ⊎ (1024 < listCount v) → VolumeApplies v 5 0
+  wrongExtent : (LeastBlocks (extent v) (blocks v) → ⊥) → VolumeApplies v 6 0
+  wrongOrder : (i : ℕ) → i < listCount v → NotRising (postingsOf v i) → VolumeApplies v 7 i
+  wrongPadding : (i : ℕ) → extent v ≤ i → i < 126 * blocks v → word v i ≢ 0 → VolumeApplies v 8 i
+
+-- the refusals of reading list i of a volume into a buffer of so many words: those of the volume, then 17 and 16
+pub data ReadApplies (v : List ℕ) (i room : ℕ) : ℕ → ℕ → Type 0 where
+  ofVolume : (n p : ℕ) → VolumeApplies v n p → ReadApplies v i room n p
+  noList : listCount v ≤ i → ReadApplies v i room 17 0
+  shortBuffer : i < listCount v → room < count v i → ReadApplies v i room 16 0
+
+-- the refusals of writing counts and postings into an output of so many bytes
+pub data WriteApplies (counts postings : List ℕ) (room : ℕ) : ℕ → ℕ → Type 0 where
+  wrongCounts : (length counts < 1) ⊎ (1024 < length counts) → WriteApplies counts postings room 5 0
+  wrongSum : total (λ x. x) counts ≢ length postings → WriteApplies counts postings room 18 0
+  wrongGiven : (i : ℕ) → i < length counts → NotRising (givenList counts postings i) → WriteApplies counts postings room 7 i
+  overLarge : 1032192 < 2 + length counts + length postings → WriteApplies counts postings room 19 0
+  outputShort : (n : ℕ) → LeastBlocks (2 + length counts + length postings) n → room < 512 * n → WriteApplies counts postings room 20 0
+
+-- how many numbers of a list stand before n
+unfoldable pub placeIn : List ℕ → ℕ → ℕ
+placeIn [] n = 0
+placeIn (x ∷ xs) n = let rest = suc (placeIn xs n) in cond (eqb x n) 0 rest
+
+-- the stages of the calls, by number; 2 and 3 share one, so that blocks go upward, 2 before 3 in each
+unfoldable pub volumeStage : ℕ → ℕ
+volumeStage n = placeIn (1 ∷ 2 ∷ 4 ∷ 5 ∷ 6 ∷ 7 ∷ 8 ∷ []) (cond (eqb n 3) 2 n)
+
+unfoldable pub readStage : ℕ → ℕ
+readStage n = placeIn (1 ∷ 2 ∷ 4 ∷ 5 ∷ 6 ∷ 7 ∷ 8 ∷ 17 ∷ 16 ∷ []) (cond (eqb n 3) 2 n)
+
+unfoldable pub writeStage : ℕ → ℕ
+writeStage n = placeIn (5 ∷ 18 ∷ 7 ∷ 19 ∷ 20 ∷ []) n

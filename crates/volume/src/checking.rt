@@ -1,0 +1,79 @@
+// Checking a volume.
+ghost use mathlib.Core.Path.{_≡_};
+ghost use Prim.Native.Nat.{_+_, _*_, _/_, _<_, _≤_};
+ghost use lib.ListN.{length};
+ghost use Rattle.volume.specs.Answers.{saidChecked};
+ghost use Rattle.volume.specs.Check.{streamVerdict, verdict};
+ghost use Rattle.volume.specs.Falls.{fallsBefore};
+use super::answers::Checked;
+use super::answers::Refusal;
+use super::block::check_blocks;
+use super::block::number_wrong;
+use super::order::bad_list;
+use super::stream::bad_word;
+use super::stream::count_sum;
+use super::stream::word_at;
+
+// The stream of a volume whose blocks are in order, given its falls.
+fn check_stream(volume: &[u8], all: usize) -> Checked
+    requires { ⌜ (length (now volume) ≡ 512 * (length (now volume) / 512)) × (1 ≤ length (now volume) / 512) × (length (now volume) / 512 ≤ 8192) × (all ≡ fallsBefore (now volume) (126 * (length (now volume) / 512))) ⌝ }
+    ensures { λ r. ⌜ saidChecked r ≡ streamVerdict (now (volume .entry)) ⌝ }
+{
+    let end = 126 * (volume.len() / 512);
+    if word_at(volume, 0) != 1 {
+        return Checked::Refused(Refusal::Version);
+    }
+    let t = word_at(volume, 1);
+    if t < 1 {
+        return Checked::Refused(Refusal::ListCount);
+    }
+    if 1024 < t {
+        return Checked::Refused(Refusal::ListCount);
+    }
+    let lists = t as usize;
+    if end < 2 + lists {
+        return Checked::Refused(Refusal::Extent);
+    }
+    let sum = count_sum(volume, lists) as usize;
+    let used = 2 + lists + sum;
+    if (used + 125) / 126 != volume.len() / 512 {
+        return Checked::Refused(Refusal::Extent);
+    }
+    let bad = bad_list(volume, lists, used, all);
+    if bad < lists {
+        let list = bad as u32;
+        return Checked::Refused(Refusal::Order(list));
+    }
+    let last = bad_word(volume, used, end);
+    if last < end {
+        let i = last as u32;
+        return Checked::Refused(Refusal::Padding(i));
+    }
+    let postings = sum as u32;
+    Checked::Accepted(t, postings)
+}
+
+// The number of lists and of postings of a volume, or why it is refused.
+pub fn check(volume: &[u8]) -> Checked
+    ensures { λ r. ⌜ saidChecked r ≡ verdict (now (volume .entry)) ⌝ }
+{
+    if volume.len() == 0 {
+        return Checked::Refused(Refusal::Length);
+    }
+    if volume.len() % 512 != 0 {
+        return Checked::Refused(Refusal::Length);
+    }
+    if 8192 < volume.len() / 512 {
+        return Checked::Refused(Refusal::Length);
+    }
+    let found = check_blocks(volume);
+    let bad = found.bad;
+    if bad < volume.len() / 512 {
+        let block = bad as u32;
+        if number_wrong(volume, bad) {
+            return Checked::Refused(Refusal::Number(block));
+        }
+        return Checked::Refused(Refusal::Checksum(block));
+    }
+    check_stream(volume, found.falls)
+}

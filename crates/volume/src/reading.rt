@@ -1,0 +1,70 @@
+// Reading a list of a volume.
+ghost use mathlib.Core.Path.{_≡_};
+ghost use mathlib.Core.List.{_++_};
+ghost use Prim.Native.Nat.{_+_, _*_, _/_, _<_, _≤_};
+ghost use lib.ListN.{length, drop};
+ghost use Rattle.seq.specs.Numbers.{run, sumTo};
+ghost use Rattle.volume.specs.Answers.{saidRead};
+ghost use Rattle.volume.specs.Layout.{word, listCount, extent, start, count, spanOf};
+ghost use Rattle.volume.specs.Check.{Accepted};
+ghost use Rattle.volume.specs.Read.{readAnswer, readOut};
+use super::answers::Checked;
+use super::answers::ListRead;
+use super::checking::check;
+use super::stream::count_sum;
+use super::stream::word_at;
+
+// Where a list lies: the stream index of its first posting, and how many it has.
+pub struct Span {
+    pub start: usize,
+    pub count: usize,
+}
+
+// The span of a list of an accepted volume.
+pub fn list_span(volume: &[u8], list: usize) -> Span
+    requires { ⌜ Accepted (now volume) × (list < listCount (now volume)) ⌝ }
+    ensures { λ r. ⌜ r ≡ spanOf (now (volume .entry)) list ⌝ }
+{
+    let lists = word_at(volume, 1) as usize;
+    let before = count_sum(volume, list) as usize;
+    let count = word_at(volume, 2 + list) as usize;
+    let start = 2 + lists + before;
+    Span { start, count }
+}
+
+// Copies the words from stream index `from` on, n of them, to the front of out.
+fn copy_words(volume: &[u8], from: usize, n: usize, out: &mut [u32])
+    requires { ⌜ (from + n ≤ 126 * (length (now volume) / 512)) × (n ≤ length (now out)) ⌝ }
+    ensures { λ _. ⌜ now (out .exit) ≡ run (word (now (volume .entry))) from n ++ drop n (now (out .entry)) ⌝ }
+{
+    let mut i: usize = 0;
+    while i < n {
+        out[i] = word_at(volume, from + i);
+        i += 1;
+    }
+}
+
+// Copies list number `list` (0 too) of a volume to the front of out, and answers how many postings
+// it has.
+pub fn read_list(volume: &[u8], list: u32, out: &mut [u32]) -> ListRead
+    ensures { λ r. ⌜ (saidRead r ≡ readAnswer (now (volume .entry)) list (length (now (out .entry)))) × (now (out .exit) ≡ readOut (now (volume .entry)) list (now (out .entry))) ⌝ }
+{
+    let checked = check(volume);
+    match checked {
+        Checked::Refused(why) => ListRead::Refused(why),
+        Checked::Accepted(lists, _) => {
+            if lists <= list {
+                return ListRead::NoList;
+            }
+            let span = list_span(volume, list as usize);
+            let n = span.count;
+            if out.len() < n {
+                return ListRead::Short;
+            }
+            let start = span.start;
+            copy_words(volume, start, n, out);
+            let count = n as u32;
+            ListRead::Read(count)
+        }
+    }
+}
