@@ -1,13 +1,19 @@
--- The laws of `specs/`, and of tests, bytes in lists and lent buffers. No contract cites these files.
---     Tests      what a test's value tells, `&&`, `||` and a choice by a test
---     Lists      total, joined, all and lists that rise
+-- The laws of `specs/`, of tests, and of lent buffers. No contract cites these files.
+--     Tests      what a test's value tells
+--     Decides    a test decides a fact
+--     Lists      total, joined and lists that rise
 --     Numbers    firstFrom, run and sumTo
---     Rising     whether a run of values rises
+--     Runs       runs, sums and searches of lists
+--     Rising     lists and runs that rise
 --     Stores     a buffer that is written from the front
---     Refusals   the first refusal of a ladder of tests
+--     Refusals   a ladder of tests answers the first refusal that applies
+--     Ladder     the rungs of such a ladder, stage by stage
 pub mod Tests
+pub mod Decides
 pub mod Lists
 pub mod Numbers
+pub mod Runs
 pub mod Rising
 pub mod Stores
 pub mod Refusals
+pub mod Ladder

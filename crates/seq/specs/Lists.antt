@@ -1,9 +1,10 @@
 -- Words for lists: the elements that pass a test, whether all do, sums and joins over a list, and lists that rise.
 -- Assumes nothing.
-use Prim.Native.Nat.{ℕ, _+_}
+use Prim.Native.Nat.{ℕ, _+_, _<_, _≤_}
 use mathlib.Core.Bool.{Bool, true, false, _&&_}
 use mathlib.Core.List.{List, [], _∷_, _++_}
 use lib.Dec.{ltb}
+use lib.ListN.{length, getD}
 
 module _ {A : Type 0} where
   -- x in front where the test passes
@@ -40,3 +41,11 @@ above a (x ∷ xs) = ltb a x && above x xs
 unfoldable pub rises : List ℕ → Bool
 rises [] = true
 rises (x ∷ xs) = above x xs
+
+-- each element is below the next
+abbrev pub Rising : List ℕ → Type 0
+Rising xs = (j : ℕ) → j + 1 < length xs → getD xs j 0 < getD xs (j + 1) 0
+
+-- some element is not below the next
+abbrev pub NotRising : List ℕ → Type 0
+NotRising xs = (j : ℕ) × (j + 1 < length xs) × (getD xs (j + 1) 0 ≤ getD xs j 0)

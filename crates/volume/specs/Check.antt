@@ -1,5 +1,5 @@
 -- The verdict on a volume: a test for each of document 01's refusals 1 to 8, and the first that fails. Assumes nothing.
-use Prim.Native.Nat.{ℕ, _+_, _*_, _-_, _%_}
+use Prim.Native.Nat.{ℕ, _*_, _-_, _%_}
 use mathlib.Core.Bool.{Bool, not, cond, _&&_, _||_}
 use mathlib.Core.Path.{_≡_}
 use mathlib.Core.List.{List}

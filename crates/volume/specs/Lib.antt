@@ -20,5 +20,6 @@ pub mod Check
 pub mod Read
 pub mod Write
 pub mod Refusals
+pub mod Demands
 pub mod Sums
 pub mod Falls

@@ -11,13 +11,13 @@ use mathlib.Core.Path.{_≡_}
 use mathlib.Core.List.{List, [], _∷_}
 use lib.ListN.{length, getD, drop}
 use Rattle.seq.specs.Numbers.{sumTo}
+use Rattle.seq.specs.Lists.{total}
 use Rattle.volume.specs.declared.checksum.Row.{Row}
 use Rattle.volume.specs.declared.checksum.Part.{Part}
 
 -- the elements, added up
-unfoldable pub tot : List ℕ → ℕ
-tot [] = 0
-tot (x ∷ xs) = x + tot xs
+abbrev pub tot : List ℕ → ℕ
+tot xs = total (λ x. x) xs
 
 -- each element as often as there are elements from it on
 unfoldable pub weigh : List ℕ → ℕ

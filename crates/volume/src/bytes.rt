@@ -39,3 +39,23 @@ pub fn read32(s: &[u8], at: usize) -> u32
 {
     join32(s[at], s[at + 1], s[at + 2], s[at + 3])
 }
+
+// Stores the low 16 bits of x at `at`.
+pub fn put16(out: &mut [u8], at: usize, x: u32)
+    requires { ⌜ at + 2 ≤ length (now out) ⌝ }
+    ensures { λ _. ⌜ now (out .exit) ≡ take at (now (out .entry)) ++ bytes16 x ++ drop (at + 2) (now (out .entry)) ⌝ }
+{
+    out[at] = (x % 256) as u8;
+    out[at + 1] = (x / 256 % 256) as u8;
+}
+
+// Stores x at `at`.
+pub fn put32(out: &mut [u8], at: usize, x: u32)
+    requires { ⌜ at + 4 ≤ length (now out) ⌝ }
+    ensures { λ _. ⌜ now (out .exit) ≡ take at (now (out .entry)) ++ bytes32 x ++ drop (at + 4) (now (out .entry)) ⌝ }
+{
+    out[at] = (x % 256) as u8;
+    out[at + 1] = (x / 256 % 256) as u8;
+    out[at + 2] = (x / 65536 % 256) as u8;
+    out[at + 3] = (x / 16777216 % 256) as u8;
+}

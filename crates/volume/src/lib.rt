@@ -12,6 +12,7 @@ mod order;
 mod posting;
 mod reading;
 mod stream;
+mod writing;
 
 pub use answers::Checked;
 pub use answers::ListRead;
@@ -23,3 +24,4 @@ pub use reading::Span;
 pub use reading::list_span;
 pub use reading::read_list;
 pub use stream::word_at;
+pub use writing::write;

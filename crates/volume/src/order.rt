@@ -17,7 +17,8 @@ ghost use Rattle.volume.specs.Falls.{ListFalls};
 use super::bytes::read32;
 use super::stream::word_at;
 
-fn fall_of(x: u32, y: u32) -> u32
+// 1 where y, which stands behind x, is not above it.
+pub fn fall_of(x: u32, y: u32) -> u32
     ensures { λ r. ⌜ (r ≡ fallOf x y) × (r ≤ 1) ⌝ }
 {
     if x < y { 0 } else { 1 }

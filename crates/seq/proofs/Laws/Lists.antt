@@ -3,16 +3,15 @@
 --     lastOf, above-append                                            a list that rises in two parts
 --     length-joined, joined-append, total-append
 -- Assumes nothing.
-use Prim.Native.Nat.{ℕ, zero, suc, _+_, _<_, _≤_}
+use Prim.Native.Nat.{ℕ, _+_, _<_, _≤_}
 use native.Mathlib.Nat.{add-assoc, zero-add}
 use mathlib.Core.Path.{_≡_, refl, sym, ap, _∙_}
 use mathlib.Core.Bool.{Bool, true, false, _&&_}
-use mathlib.Core.List.{List, [], _∷_, _++_, append-assoc, map}
-use lib.ListN.{length, getD, length-append}
+use mathlib.Core.List.{List, [], _∷_, _++_, append-assoc}
+use lib.ListN.{length, length-append}
 use lib.Dec.{ltb}
 use borrow.Author.Tests.{lt-ltb, le-ltb}
-use Rattle.seq.specs.Lists.{total, joined, above, rises, all}
-use Rattle.seq.proofs.Laws.Tests.{both}
+use Rattle.seq.specs.Lists.{total, joined, above}
 
 pub above-here : (a x : ℕ) (xs : List ℕ) → a < x → above a (x ∷ xs) ≡ above x xs
 unfolding above

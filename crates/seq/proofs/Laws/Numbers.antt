@@ -3,17 +3,17 @@
 --     first-none, first-clear              no index passes the test: the search ends, and back
 --     first-le, first-at, first-before     where it ends; the test holds there; and at no index before
 --     run-end, run-step, run-snoc, run-append, run-ext, length-run, getD-run
---     sum-step, sum-more, sum-le, sum-ext, sum-append
+--     sum-step, sum-more, sum-le, sum-mono, sum-within, sum-ext, sum-append
 -- Assumes nothing.
-use Prim.Native.Nat.{ℕ, zero, suc, _+_, _-_, _*_, _<_, _≤_}
-use native.Mathlib.Nat.{add-zero, zero-add, suc-add, add-suc, le-of-suc-le-suc, not-suc-le-zero, le-refl, eq-or-lt-of-le}
+use Prim.Native.Nat.{ℕ, zero, suc, _+_, _-_, _<_, _≤_}
+use native.Mathlib.Nat.{add-zero, zero-add, suc-add, add-suc, le-refl, eq-or-lt-of-le}
 use native.Mathlib.Numerals.{add-one}
 use native.Mathlib.Omega.{arith}
-use mathlib.Core.Path.{_≡_, refl, sym, ap, ap₂, _∙_, subst}
+use mathlib.Core.Path.{_≡_, refl, sym, ap, ap₂, _∙_}
 use mathlib.Core.Bool.{Bool, true, false, cond}
-use mathlib.Core.Logic.{_⊎_, inl, inr, ⊎-elim}
+use mathlib.Core.Logic.{⊎-elim}
 use mathlib.Core.List.{List, [], _∷_, _++_}
-use lib.ListN.{length, getD, take, drop}
+use lib.ListN.{length, getD}
 use Rattle.seq.specs.Numbers.{firstFrom, run, sumTo}
 use Rattle.seq.proofs.Laws.Tests.{contrary, below-or}
 
@@ -139,6 +139,16 @@ pub sum-le : (f : ℕ → ℕ) (i k : ℕ) → sumTo f i ≤ sumTo f (i + k)
 unfolding sumTo
 sum-le f i zero = rw add-zero (le-refl _)
 sum-le f i (suc k) = rw (add-suc i k) (let h = sum-le f i k in omega arith)
+
+pub sum-mono : (f : ℕ → ℕ) (i n : ℕ) → i ≤ n → sumTo f i ≤ sumTo f n
+sum-mono f i n h = let e : i + (n - i) ≡ n = omega arith in rw e at (sum-le f i (n - i))
+
+-- the first i values and the next lie within all n
+pub sum-within : (f : ℕ → ℕ) (i n : ℕ) → i < n → sumTo f i + f i ≤ sumTo f n
+sum-within f i n h =
+    let step = sum-step f i in
+    let more : sumTo f (i + 1) ≤ sumTo f n = sum-mono f (i + 1) n (omega arith) in
+    omega arith
 
 pub sum-ext : (f g : ℕ → ℕ) (m : ℕ) → ((j : ℕ) → j < m → f j ≡ g j) → sumTo f m ≡ sumTo g m
 unfolding sumTo

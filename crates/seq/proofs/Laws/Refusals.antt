@@ -6,15 +6,14 @@
 --     laid-refused, laid-answered
 -- Assumes nothing.
 use Prim.Native.Nat.{ℕ, _<_, _≤_}
-use native.Mathlib.Nat.{lt-irrefl}
 use native.Mathlib.Omega.{arith}
-use mathlib.Core.Path.{_≡_, refl, sym, ap, ap₂, _∙_, subst}
+use mathlib.Core.Path.{_≡_, refl, sym, ap₂, _∙_, subst}
 use mathlib.Core.Bool.{Bool, true, false, cond}
-use mathlib.Core.Logic.{_⊎_, inl, inr, ⊎-elim, _↔_}
-use mathlib.Core.List.{List, [], _∷_, _++_}
+use mathlib.Core.Logic.{_⊎_, inl, inr, ⊎-elim}
+use mathlib.Core.List.{List, _++_}
 use lib.ListN.{length, drop}
 use Rattle.seq.specs.Refusals.{Said, refused, answered, laid, Before, First, FirstRefusal}
-use Rattle.seq.proofs.Laws.Tests.{below-or, true-or}
+use Rattle.seq.proofs.Laws.Tests.{below-or}
 
 pub laid-refused : {A : Type 0} (s : Said A) (n p : ℕ) (xs out : List ℕ) → s ≡ refused n p → laid s xs out ≡ out
 unfolding laid

@@ -1,17 +1,69 @@
--- Whether a run of values rises, step by step. No contract cites this file.
---     rises-none, rises-start                 the first value of a run
+-- Lists and runs that rise: as a test, as a fact on neighbours, and step by step. No contract cites this file.
+--     rises-decides, falls-decides            `rises` decides Rising, and its negation NotRising
+--     rises-none, rises-suc, rises-start      the first value of a run
 --     above-next, above-stop, above-done      the next value, in a walk that is at i and ends at e
 -- Assumes nothing.
 use Prim.Native.Nat.{ℕ, zero, suc, _+_, _-_, _<_, _≤_}
+use native.Mathlib.Nat.{suc-add}
 use native.Mathlib.Numerals.{add-one}
 use native.Mathlib.Omega.{arith}
-use mathlib.Core.Path.{_≡_, refl, sym, ap, _∙_}
-use mathlib.Core.Bool.{Bool, true, false}
+use mathlib.Core.Path.{_≡_, refl, ap, _∙_}
+use mathlib.Core.Bool.{Bool, true, false, not, _&&_}
 use mathlib.Core.List.{List, [], _∷_}
-use Rattle.seq.specs.Lists.{above, rises}
+use lib.ListN.{length, getD}
+use lib.Dec.{ltb}
+use borrow.Author.Tests.{ltb-true, ltb-false, not-true, not-false}
+use Rattle.seq.specs.Lists.{above, rises, Rising, NotRising}
 use Rattle.seq.specs.Numbers.{run}
+use Rattle.seq.proofs.Laws.Tests.{both}
+use Rattle.seq.proofs.Laws.Decides.{Decides}
 use Rattle.seq.proofs.Laws.Lists.{above-here, above-fall}
 use Rattle.seq.proofs.Laws.Numbers.{run-end, run-step}
+
+-- one more in front of a list that rises
+rising-cons : (a x : ℕ) (xs : List ℕ) → a < x → Rising (x ∷ xs) → Rising (a ∷ x ∷ xs)
+rising-cons a x xs h r zero l = h
+rising-cons a x xs h r (suc j) l = rw (suc-add j 1) (r j (omega arith))
+
+above-rising : (a : ℕ) (xs : List ℕ) → above a xs ≡ true → Rising (a ∷ xs)
+unfolding above
+above-rising a [] e = λ j l. absurd (omega arith)
+above-rising a (x ∷ xs) e = let w = both (ltb a x) (above x xs) e in rising-cons a x xs (ltb-true a x (w .0)) (above-rising x xs (w .1))
+
+above-falls : (a : ℕ) (xs : List ℕ) → above a xs ≡ false → NotRising (a ∷ xs)
+unfolding above
+above-falls a [] e = absurd (mathlib.Core.Bool.true≢false e)
+above-falls a (x ∷ xs) e = go (ltb a x) refl (above-falls x xs) e
+  where
+    later : NotRising (x ∷ xs) → NotRising (a ∷ x ∷ xs)
+    later n = (suc (n .0), let h : n .0 + 1 < suc (length xs) = n .1 in omega arith, rw (suc-add (n .0) 1) (n .2))
+
+    go : (t : Bool) → ltb a x ≡ t → (above x xs ≡ false → NotRising (x ∷ xs)) → (ltb a x && above x xs) ≡ false → NotRising (a ∷ x ∷ xs)
+    go true q rest f = later (rest (rw q at f))
+    go false q rest f = (0, omega arith, ltb-false a x q)
+
+pub rises-rising : (xs : List ℕ) → rises xs ≡ true → Rising xs
+unfolding rises
+rises-rising [] e = λ j l. absurd (omega arith)
+rises-rising (x ∷ xs) e = above-rising x xs e
+
+pub rises-falls : (xs : List ℕ) → rises xs ≡ false → NotRising xs
+unfolding rises
+rises-falls [] e = absurd (mathlib.Core.Bool.true≢false e)
+rises-falls (x ∷ xs) e = above-falls x xs e
+
+-- a list does not both rise and not rise
+pub not-both-ways : (xs : List ℕ) → Rising xs → NotRising xs → ⊥
+not-both-ways xs r n = let h : getD xs (n .0) 0 < getD xs (n .0 + 1) 0 = r (n .0) (n .1) in omega (arith, n .2)
+
+pub rises-decides : (xs : List ℕ) → Decides (rises xs) (Rising xs)
+rises-decides xs = record { yes = rises-rising xs; no = λ e r. not-both-ways xs r (rises-falls xs e) }
+
+pub falls-decides : (xs : List ℕ) → Decides (not (rises xs)) (NotRising xs)
+falls-decides xs = record {
+  yes = λ e. rises-falls xs (not-true (rises xs) e);
+  no = λ e. not-both-ways xs (rises-rising xs (not-false (rises xs) e));
+}
 
 module _ (f : ℕ → ℕ) where
   pub rises-none : (k : ℕ) → rises (run f k 0) ≡ true

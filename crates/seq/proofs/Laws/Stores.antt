@@ -1,12 +1,13 @@
 -- A buffer that is written from the front: what is written so far, then the rest of d as it was. No contract cites this file.
 --     put-next    one more element is stored
 --     put-many    several are stored, as straight-line code does (`sets`)
+--     put-over    several are stored in the place of n, as a promise says it
 --     put-part    a part `&mut out[a..e]` comes back as ys
 -- Assumes nothing.
-use Prim.Native.Nat.{ℕ, zero, suc, _+_, _-_, _<_, _≤_}
+use Prim.Native.Nat.{ℕ, suc, _+_, _-_, _<_, _≤_}
 use native.Mathlib.Numerals.{add-one}
 use native.Mathlib.Omega.{arith}
-use mathlib.Core.Path.{_≡_, refl, sym, ap, _∙_}
+use mathlib.Core.Path.{_≡_, sym, ap, ap₂, _∙_}
 use mathlib.Core.List.{List, [], _∷_, _++_, append-assoc}
 use lib.ListN.{length, getD, set, take, drop, length-append, length-drop}
 use lib.Seq.{drop-cons, set-at, append-snoc, sets, sets-eq, take-at, drop-append-add, drop-drop, drop-at}
@@ -28,6 +29,10 @@ module _ {A : Type 0} where
       sets-eq vs (xs ++ drop i d) i room
       ∙ ap (λ (l : List A). l ++ vs ++ drop (i + length vs) (xs ++ drop i d)) (take-at xs (drop i d) i e)
       ∙ ap (λ (l : List A). xs ++ vs ++ l) (drop-past xs (drop i d) i (length vs) e ∙ drop-drop (length vs) i d)
+
+  pub put-over : (xs d vs : List A) (i n : ℕ) → length xs ≡ i → take i (xs ++ drop i d) ++ vs ++ drop (i + n) (xs ++ drop i d) ≡ (xs ++ vs) ++ drop (i + n) d
+  put-over xs d vs i n e =
+      ap₂ (λ (a b : List A). a ++ vs ++ b) (take-at xs (drop i d) i e) (drop-past xs (drop i d) i n e ∙ drop-drop n i d)
 
   pub put-part : (p d out ys : List A) (a e : ℕ) → length p ≡ a → a ≤ e → out ≡ p ++ drop a d → putMid a (e - a) out ys ≡ (p ++ ys) ++ drop e d
   put-part p d out ys a e l h o =

@@ -4,28 +4,28 @@
 --     lengthWrong-decides .. paddingWrong-decides    what each test decides
 --     Good, good, accepted                what acceptance gives, and back
 -- Assumes nothing.
-use Prim.Native.Nat.{ℕ, _+_, _-_, _*_, _/_, _%_, _<_, _≤_}
+use Prim.Native.Nat.{ℕ, _+_, _-_, _*_, _%_, _<_, _≤_}
 use native.Mathlib.Omega.{arith}
-use mathlib.Core.Path.{_≡_, refl, sym, ap, _∙_}
+use mathlib.Core.Path.{_≡_, refl, sym, _∙_}
 use mathlib.Core.Bool.{Bool, true, false, not, cond, _&&_}
 use mathlib.Core.Logic.{_⊎_, inl, inr, ⊎-elim, _≢_}
 use mathlib.Core.List.{List}
 use lib.ListN.{length}
-use lib.Dec.{eqb, leb, ltb}
+use lib.Dec.{eqb, leb}
 use borrow.Author.Tests.{lt-ltb, le-ltb, ltb-true, ltb-false, not-false}
-use Rattle.seq.specs.Lists.{rises}
-use Rattle.seq.specs.Numbers.{firstFrom, sumTo}
-use Rattle.seq.proofs.Laws.Tests.{true-or, contrary}
-use Rattle.seq.proofs.Laws.Numbers.{first-none, first-clear, first-at, first-ge, sum-le, sum-step}
+use Rattle.seq.specs.Lists.{rises, NotRising}
+use Rattle.seq.specs.Numbers.{firstFrom}
+use Rattle.seq.proofs.Laws.Numbers.{first-none, first-clear, first-at, first-ge, sum-within}
 use Rattle.seq.proofs.Laws.Refusals.{not-both}
 use Rattle.seq.specs.Refusals.{Said, refused, answered}
 use Rattle.volume.specs.Answers.{Sizes}
 use Rattle.volume.specs.Checksum.{checkA, checkB}
 use Rattle.volume.specs.Layout.{blocks, blockNumber, covered, storedA, storedB, word, version, listCount, count, extent, blocksFor, start, postingsOf}
 use Rattle.volume.specs.Check.{lengthWrong, numberWrong, checksumWrong, blockWrong, badBlock, blocksWrong, versionWrong, listCountWrong, extentWrong, orderWrong, badList, listsWrong, paddingWrong, badWord, tailWrong, sizes, streamVerdict, verdict, Accepted}
-use Rattle.volume.specs.Refusals.{NotRising, LeastBlocks}
-use Rattle.volume.proofs.Laws.Decides.{Decides, decided, fails, not-decides, eqb-decides, leb-decides, ltb-decides, and-decides, or-decides, nand-decides, same-decides}
-use Rattle.volume.proofs.Laws.Rising.{falls-decides}
+use Rattle.volume.specs.Refusals.{LeastBlocks}
+use Rattle.seq.proofs.Laws.Decides.{Decides, decided, fails, not-decides, eqb-decides, leb-decides, ltb-decides, or-decides, nand-decides, same-decides}
+use Rattle.seq.proofs.Laws.Rising.{falls-decides}
+use Rattle.seq.proofs.Laws.Runs.{first-past}
 
 -- the tests of several places, by the place at which the search for them ends
 module _ (v : List ℕ) where
@@ -223,13 +223,7 @@ pub record Good (v : List ℕ) : Type 0 where
 module _ (v : List ℕ) where
   -- list i ends in front of the extent, in any byte list
   pub list-within : (i : ℕ) → i < listCount v → start v i + count v i ≤ extent v
-  list-within i h =
-      let a : sumTo (count v) (i + 1) ≡ sumTo (count v) i + count v i = sum-step (count v) i in
-      let b : sumTo (count v) (i + 1) ≤ sumTo (count v) (listCount v) = upTo (listCount v) h in
-      omega arith
-    where
-      upTo : (n : ℕ) → i < n → sumTo (count v) (i + 1) ≤ sumTo (count v) n
-      upTo n l = let e : i + 1 + (n - (i + 1)) ≡ n = omega arith in rw e at (sum-le (count v) (i + 1) (n - (i + 1)))
+  list-within i h = let w = sum-within (count v) i (listCount v) h in omega arith
 
   pub blocks-clear : blocksWrong v ≡ false → (k : ℕ) → k < blocks v → blockWrong v k ≡ false
   unfolding blocksWrong
@@ -310,11 +304,11 @@ module _ (v : List ℕ) where
   unfolding orderWrong
   good-passed g = record {
     length-passed = fails (lengthWrong-decides v) len;
-    blocks-passed = blocksWrong-false v (none-first (blockWrong v) (blocks v) (g .blocks-right));
+    blocks-passed = blocksWrong-false v (first-past (blockWrong v) (blocks v) (g .blocks-right));
     version-passed = fails (versionWrong-decides v) (λ n. n (g .version-is));
     listCount-passed = fails (listCountWrong-decides v) range;
     extent-passed = fails (extentWrong-decides v) (λ n. n (rw (g .blocks-are) at (least-blocksFor (extent v))));
-    lists-passed = listsWrong-false v (none-first (orderWrong v) (listCount v) (λ j h. rw (g .lists-rise j h)));
+    lists-passed = listsWrong-false v (first-past (orderWrong v) (listCount v) (λ j h. rw (g .lists-rise j h)));
     tail-passed = tailWrong-false v (tail (le-first (paddingWrong v) (extent v) (126 * blocks v - extent v) (λ j a b. fails (paddingWrong-decides v j) (λ n. n (zero-at j a b)))));
   }
     where
@@ -327,9 +321,6 @@ module _ (v : List ℕ) where
 
       le-first : (test : ℕ → Bool) (k m : ℕ) → ((j : ℕ) → k ≤ j → j < k + m → test j ≡ false) → k + m ≤ firstFrom test k m
       le-first test k m none = let e = first-none test k m none in omega arith
-
-      none-first : (test : ℕ → Bool) (n : ℕ) → ((j : ℕ) → j < n → test j ≡ false) → n ≤ firstFrom test 0 n
-      none-first test n none = let h = le-first test 0 n (λ j a b. none j (omega arith)) in omega arith
 
       zero-at : (j : ℕ) → extent v ≤ j → j < extent v + (126 * blocks v - extent v) → word v j ≡ 0
       zero-at j a b = let f = g .fits in g .zeros j a (omega arith)

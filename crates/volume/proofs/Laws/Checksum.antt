@@ -10,10 +10,11 @@ use mathlib.Core.Path.{_≡_, ap, _∙_}
 use mathlib.Core.List.{List, [], _∷_}
 use lib.ListN.{length}
 use Rattle.volume.specs.Checksum.{sumA, sumB, checkA, checkB}
+use Rattle.seq.specs.Lists.{total}
 use Rattle.volume.specs.Sums.{tot, weigh}
 
 pub sumA-late : (a : ℕ) (xs : List ℕ) → sumA (a % 65535) xs ≡ (a + tot xs) % 65535
-unfolding sumA tot
+unfolding sumA total
 sumA-late a [] = rw (add-zero a)
 sumA-late a (x ∷ xs) = rw (mod-add-mod a 65535 x, sumA-late (a + x) xs, add-assoc a x (tot xs))
 

@@ -1,21 +1,29 @@
--- The laws of `specs/Falls.antt`: a stretch of the stream without falls rises. No contract cites this file.
+-- The laws of `specs/Falls.antt`: what has no falls rises. No contract cites this file.
+--     rise-run                                   a run without falls rises
+--     falls-again, falls-done                    a run rises exactly if no fall is counted in it
+--     fall-in-block, fall-last, falls-more       the falls of the stream, one by one
+--     ListsSoFar, lists-first, lists-none, lists-some, lists-done
+--                                                the falls at the last postings of the lists, list by list
+--     lists-rise                                 with no more falls than are allowed every list rises
 -- Assumes nothing.
 use Prim.Native.Nat.{ℕ, zero, suc, _+_, _*_, _-_, _<_, _≤_}
 use native.Mathlib.Nat.{add-zero, sub-zero}
 use native.Mathlib.Numerals.{add-one}
 use native.Mathlib.Omega.{arith}
 use mathlib.Core.Path.{_≡_, refl, sym, ap, _∙_, subst}
-use mathlib.Core.Bool.{Bool, true, false, not, cond, _&&_}
-use mathlib.Core.List.{List, [], _∷_}
+use mathlib.Core.Logic.{⊎-elim}
+use mathlib.Core.Bool.{Bool, true, false, not, cond, _&&_, and-true, and-false}
+use mathlib.Core.List.{List, _∷_}
 use lib.ListN.{length}
-use lib.Dec.{ltb}
-use borrow.Author.Tests.{lt-ltb, le-ltb, ltb-true}
+use lib.Dec.{ltb, eqb}
+use borrow.Author.Tests.{le-ltb, ne-eqb}
 use Rattle.seq.specs.Lists.{above, rises}
 use Rattle.seq.specs.Numbers.{firstFrom, run, sumTo}
-use Rattle.seq.proofs.Laws.Numbers.{sum-le, sum-step, first-miss, first-end}
+use Rattle.seq.proofs.Laws.Tests.{below-or}
+use Rattle.seq.proofs.Laws.Numbers.{run-step, run-end, sum-le, sum-step, first-miss, first-end}
 use Rattle.seq.proofs.Laws.Rising.{rises-none, rises-suc}
 use Rattle.volume.specs.Bytes.{le32}
-use Rattle.volume.specs.Layout.{word, count, listCount, postingCount, start, extent, postingsOf}
+use Rattle.volume.specs.Layout.{word, count, listCount, start, extent}
 use Rattle.volume.specs.Check.{orderWrong, badList}
 use Rattle.volume.specs.Falls.{fallOf, fall, fallsBefore, ListFalls}
 use Rattle.volume.proofs.Laws.Stream.{word-in-block, word-behind}
@@ -47,6 +55,27 @@ rise-run f k (suc m) e =
 
     trans′ : sumTo (fall f) (k + 1 + m) ≡ sumTo (fall f) k → sumTo (fall f) (k + 1) ≡ sumTo (fall f) k + fall f k → fall f k ≡ 0 → sumTo (fall f) (k + 1 + m) ≡ sumTo (fall f) (k + 1)
     trans′ a b c = omega arith
+
+-- one fall more, or none: d falls so far in front of a
+falls-here : (d a b : ℕ) (xs : List ℕ) → (eqb d 0 && rises (a ∷ b ∷ xs)) ≡ (eqb (d + fallOf a b) 0 && rises (b ∷ xs))
+unfolding rises above
+falls-here d a b xs = go (ltb a b)
+  where
+    go : (t : Bool) → (eqb d 0 && (t && above b xs)) ≡ (eqb (d + cond t 0 1) 0 && above b xs)
+    go true = rw add-zero
+    go false = rw (and-false, ne-eqb (d + 1) 0 (λ (e : d + 1 ≡ 0). omega arith))
+
+-- d falls so far, in a run that is at i and ends at n
+module _ (f : ℕ → ℕ) (d i n : ℕ) where
+  pub falls-again : i + 1 < n → (eqb d 0 && rises (run f i (n - i))) ≡ (eqb (d + fallOf (f i) (f (i + 1))) 0 && rises (run f (i + 1) (n - (i + 1))))
+  falls-again h = rw (run-step f i n (omega arith), run-step f (i + 1) n h) (falls-here d (f i) (f (i + 1)) _)
+
+  pub falls-done : n ≤ i + 1 → (eqb d 0 && rises (run f i (n - i))) ≡ eqb d 0
+  unfolding rises above
+  falls-done h = ⊎-elim
+      (λ (l : i < n). rw (run-step f i n l, run-end f (i + 1) n h, and-true))
+      (λ (l : n ≤ i). rw (run-end f i n l, and-true))
+      (below-or i n)
 
 -- a fall between two words of one block
 pub fall-in-block : (v : List ℕ) (k i : ℕ) → i < 125 → fall (word v) (126 * k + i) ≡ fallOf (le32 v (512 * k + 4 + 4 * i)) (le32 v (512 * k + 4 + 4 * i + 4))
@@ -94,7 +123,7 @@ unfolding sumTo
 lists-first v = record { reached = omega arith; few = omega arith; here = omega arith; within = omega arith; exact = λ e. ap (firstFrom (orderWrong v) 0) (sub-zero (listCount v)) }
 
 -- the next list is empty
-pub lists-empty : (v : List ℕ) (n s i : ℕ) → ListsSoFar v n s i → i < listCount v → count v i ≡ 0 → ListsSoFar v n (s + 0) (i + 1)
+lists-empty : (v : List ℕ) (n s i : ℕ) → ListsSoFar v n s i → i < listCount v → count v i ≡ 0 → ListsSoFar v n (s + 0) (i + 1)
 lists-empty v n s i l h c =
     let step : sumTo (count v) (i + 1) ≡ sumTo (count v) i + count v i = sum-step (count v) i in
     let at = l .here in
@@ -107,7 +136,7 @@ lists-empty v n s i l h c =
     })
 
 -- the next list has m + 1 postings, and r tells of a fall at the last
-pub lists-more : (v : List ℕ) (n s i m r : ℕ) → ListsSoFar v n s i → i < listCount v → count v i ≡ suc m → r ≤ 1 → r ≡ fall (word v) (s + m) → ListsSoFar v (n + r) (s + suc m) (i + 1)
+lists-more : (v : List ℕ) (n s i m r : ℕ) → ListsSoFar v n s i → i < listCount v → count v i ≡ suc m → r ≤ 1 → r ≡ fall (word v) (s + m) → ListsSoFar v (n + r) (s + suc m) (i + 1)
 lists-more v n s i m r l h c small e =
     let step : sumTo (count v) (i + 1) ≡ sumTo (count v) i + count v i = sum-step (count v) i in
     let at = l .here in

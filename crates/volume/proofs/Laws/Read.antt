@@ -5,11 +5,11 @@
 --     read-kept, read-laid     the buffer after a refusal, and after an answer
 -- Assumes nothing.
 use Prim.Native.Nat.{ℕ, _<_, _≤_}
-use mathlib.Core.Path.{_≡_, sym, ap, _∙_}
+use mathlib.Core.Path.{_≡_, ap, _∙_}
 use mathlib.Core.List.{List, _++_}
 use lib.ListN.{length, drop}
 use borrow.Author.Tests.{lt-ltb, le-ltb, le-leb, lt-leb}
-use Rattle.seq.specs.Refusals.{Said, refused, answered, laid}
+use Rattle.seq.specs.Refusals.{refused, answered}
 use Rattle.seq.proofs.Laws.Numbers.{length-run}
 use Rattle.seq.proofs.Laws.Refusals.{laid-refused, laid-answered}
 use Rattle.volume.specs.declared.answers.Refusal.{Refusal}

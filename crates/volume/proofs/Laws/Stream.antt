@@ -1,16 +1,17 @@
 -- Where the words of the stream stand, and what stands behind them. No contract cites this file.
---     word-in-block    word i of block k
---     word-behind      behind the last block stand zeros
+--     offset-in-block, word-in-block    word i of block k
+--     word-behind                       behind the last block stand zeros
 -- Assumes nothing.
-use Prim.Native.Nat.{ℕ, _+_, _*_, _/_, _%_, _<_, _≤_}
+use Prim.Native.Nat.{ℕ, _+_, _*_, _<_, _≤_}
 use native.Mathlib.Omega.{arith}
-use mathlib.Core.Path.{_≡_, refl, sym, ap, _∙_}
+use mathlib.Core.Path.{_≡_, ap}
 use mathlib.Core.List.{List}
-use lib.ListN.{length, getD, List·getD-eq-default}
+use lib.ListN.{length, List·getD-eq-default}
 use Rattle.volume.specs.Bytes.{le32}
 use Rattle.volume.specs.Layout.{word, offset}
 
-offset-in-block : (k i : ℕ) → i < 126 → offset (126 * k + i) ≡ 512 * k + 4 + 4 * i
+-- where word i of block k stands
+pub offset-in-block : (k i : ℕ) → i < 126 → offset (126 * k + i) ≡ 512 * k + 4 + 4 * i
 unfolding offset
 offset-in-block k i h = omega arith
 

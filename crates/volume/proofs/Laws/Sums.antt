@@ -20,6 +20,7 @@ use Rattle.seq.proofs.Laws.Numbers.{sum-step, sum-le}
 use Rattle.volume.specs.declared.checksum.Row.{Row}
 use Rattle.volume.specs.declared.checksum.Part.{Part}
 use Rattle.volume.specs.Checksum.{checkA, checkB}
+use Rattle.seq.specs.Lists.{total}
 use Rattle.volume.specs.Sums.{tot, weigh, rowAt, zeros, plus, columns, slope, Within, Room, tri, Rows, Sevens}
 use Rattle.volume.proofs.Laws.Checksum.{checkA-late, checkB-late}
 
@@ -66,7 +67,7 @@ module _ (s : List ℕ) (o : ℕ) where
 
     module _ {row : Row} (row-is : row ≡ rowAt s o) where
       tot-row : tot (drop o s) ≡ columns row + tot (drop (o + 8) s)
-      unfolding columns tot
+      unfolding columns total
       tot-row = rw (drop-row, row-is) (omega arith)
 
       weigh-row : weigh (drop o s) + slope row ≡ (length s - o) * columns row + weigh (drop (o + 8) s)
@@ -163,7 +164,7 @@ module _ {s : List ℕ} where
     slope-done = omega (arith, weigh-done)
 
     pub checkA-done : {n : ℕ} → n ≡ 1 + getD s 0 0 + getD s 1 0 + getD s 2 0 + getD s 3 0 → (n + columns (t .all)) % 65535 ≡ checkA s
-    unfolding tot
+    unfolding total
     checkA-done h = rw checkA-late (ap (λ (a : ℕ). a % 65535) (omega (arith, ap tot (drop-four (omega arith)), rw drop-done at (d .tot-is))))
 
     pub checkB-done : {n : ℕ} → n ≡ 508 + 508 * getD s 0 0 + 507 * getD s 1 0 + 506 * getD s 2 0 + 505 * getD s 3 0 → (n + (8 * columns (t .near) + 56 * columns (t .far) - slope (t .all))) % 65535 ≡ checkB s

@@ -1,7 +1,7 @@
 -- `block::check_blocks` meets its contract. The loop's invariant: the lowest block that is wrong from block k on is the lowest of all,
 -- and `falls` is the number of falls in front of block k. The measure is what is left of the blocks. Assumes nothing.
 use native.Mathlib.Omega.{arith}
-use Prim.Native.Nat.{ℕ, _+_, _*_, _/_, _-_, _<_, _≤_}
+use Prim.Native.Nat.{_+_, _*_, _/_, _-_, _≤_}
 use native.Mathlib.Nat.{sub-zero}
 use mathlib.Core.Path.{_≡_, refl, sym, ap, ap₂, _∙_}
 use mathlib.Core.Bool.{Bool, true, false, _||_}
@@ -10,7 +10,7 @@ use lib.ListN.{length}
 use Rattle.seq.specs.Numbers.{firstFrom, sumTo}
 use Rattle.seq.proofs.Laws.Numbers.{first-hit, first-miss, first-end, sum-step}
 use Rattle.volume.specs.Layout.{word}
-use Rattle.volume.specs.Check.{numberWrong, checksumWrong, blockWrong, badBlock}
+use Rattle.volume.specs.Check.{checksumWrong, blockWrong, badBlock}
 use Rattle.volume.specs.Falls.{fall, fallsBefore}
 use Rattle.volume.proofs.block.check_blocks.Statement.{statement}
 use Rattle.volume.proofs.block.check_blocks.Tie as tie

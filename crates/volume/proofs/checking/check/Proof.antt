@@ -1,16 +1,15 @@
 -- `checking::check` meets its contract: the length, the blocks, and then the stream. Assumes nothing.
 use native.Mathlib.Omega.{arith}
 use borrow.Author.Needs.{needs}
-use Prim.Native.Nat.{ℕ, _+_, _*_, _/_, _-_, _<_, _≤_}
+use Prim.Native.Nat.{_/_}
 use mathlib.Core.Path.{_≡_, sym, ap, _∙_}
-use mathlib.Core.Bool.{true, false}
+use mathlib.Core.Bool.{false}
 use mathlib.Core.Logic.{inl, inr, ⊎-elim}
 use denote.Ref.{now}
 use lib.ListN.{length}
 use Rattle.seq.specs.Refusals.{refused}
-use Rattle.volume.specs.Check.{lengthWrong, numberWrong, badBlock}
-use Rattle.volume.specs.Falls.{fallsBefore}
-use Rattle.volume.proofs.Laws.Decides.{holds, fails}
+use Rattle.volume.specs.Check.{lengthWrong}
+use Rattle.seq.proofs.Laws.Decides.{holds, fails}
 use Rattle.volume.proofs.Laws.Check.{lengthWrong-decides, blocksWrong-true, blocksWrong-false, verdict-length, verdict-number, verdict-checksum, verdict-stream}
 use Rattle.volume.proofs.checking.check.Statement.{statement}
 use Rattle.volume.proofs.checking.check.Tie as tie

@@ -1,18 +1,16 @@
 -- `checking::check_stream` meets its contract: each test of the stream in its turn. Assumes nothing.
 use native.Mathlib.Omega.{arith}
 use borrow.Author.Needs.{needs}
-use Prim.Native.Nat.{ℕ, _+_, _*_, _/_, _-_, _<_, _≤_}
+use Prim.Native.Nat.{ℕ, _+_, _*_, _-_}
 use mathlib.Core.Path.{_≡_, sym, ap, ap₂, _∙_}
 use mathlib.Core.Bool.{false}
 use mathlib.Core.Logic.{inl, inr, ⊎-elim}
 use denote.Ref.{now}
-use lib.ListN.{length}
 use Rattle.seq.specs.Numbers.{firstFrom, sumTo}
-use Rattle.seq.specs.Refusals.{Said, refused, answered}
-use Rattle.volume.specs.Answers.{Sizes}
-use Rattle.volume.specs.Layout.{count, listCount, postingCount, extent, blocks, blocksFor}
+use Rattle.seq.specs.Refusals.{refused, answered}
+use Rattle.volume.specs.Layout.{count, listCount, extent, blocks, blocksFor}
 use Rattle.volume.specs.Check.{versionWrong, listCountWrong, extentWrong, listsWrong, paddingWrong, badWord}
-use Rattle.volume.proofs.Laws.Decides.{holds, fails}
+use Rattle.seq.proofs.Laws.Decides.{holds, fails}
 use Rattle.volume.proofs.Laws.Check.{versionWrong-decides, listCountWrong-decides, extentWrong-decides, blocksFor-least, least-blocksFor, listsWrong-true, listsWrong-false, tailWrong-true, tailWrong-false, stream-version, stream-listCount, stream-extent, stream-order, stream-padding, stream-answer}
 use Rattle.volume.proofs.checking.check_stream.Statement.{statement}
 use Rattle.volume.proofs.checking.check_stream.Tie as tie

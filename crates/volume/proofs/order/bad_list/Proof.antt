@@ -1,8 +1,8 @@
 -- `order::bad_list` meets its contract: with no more falls than are allowed every list rises, and else the lists are walked. Assumes nothing.
 use borrow.Author.Needs.{needs}
-use mathlib.Core.Path.{_≡_, sym, ap, _∙_}
+use mathlib.Core.Path.{_≡_, sym, _∙_}
 use denote.Ref.{now}
-use Prim.Native.Nat.{ℕ, _+_}
+use Prim.Native.Nat.{_+_}
 use Rattle.volume.specs.Layout.{listCount, extent}
 use Rattle.volume.specs.Falls.{fallsBefore}
 use Rattle.volume.proofs.Laws.Falls.{lists-rise}

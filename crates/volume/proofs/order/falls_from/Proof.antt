@@ -1,7 +1,7 @@
 -- `order::falls_from` meets its contract. The loop's invariant: n is the number of falls from `from` up to i.
 -- The measure is what is left up to `end`. Assumes nothing.
 use native.Mathlib.Omega.{arith}
-use Prim.Native.Nat.{ℕ, _+_, _*_, _-_, _≤_}
+use Prim.Native.Nat.{_+_, _-_, _≤_}
 use mathlib.Core.Path.{_≡_}
 use denote.Ref.{now}
 use Rattle.volume.specs.Falls.{fallsBefore, fall}

@@ -1,7 +1,7 @@
 -- `order::falls_in` meets its contract. The loop's invariant: n is the number of falls at the first i words of the block.
 -- The measure is what is left of 125. Assumes nothing.
 use native.Mathlib.Omega.{arith}
-use Prim.Native.Nat.{ℕ, _+_, _*_, _-_, _≤_}
+use Prim.Native.Nat.{_+_, _*_, _-_, _≤_}
 use native.Mathlib.Nat.{add-zero}
 use mathlib.Core.Path.{_≡_, refl, ap₂, _∙_, sym}
 use denote.Ref.{now}

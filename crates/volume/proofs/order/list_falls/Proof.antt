@@ -1,14 +1,12 @@
 -- `order::list_falls` meets its contract. The loop's invariant: n falls at the last postings of the first i lists, which end in front of `end`.
 -- The measure is what is left of the lists. Assumes nothing.
 use native.Mathlib.Omega.{arith}
-use Prim.Native.Nat.{ℕ, suc, _+_, _*_, _/_, _-_, _<_, _≤_}
-use mathlib.Core.Path.{_≡_, sym, ap, _∙_}
+use Prim.Native.Nat.{_+_, _*_, _/_, _-_, _<_, _≤_}
+use mathlib.Core.Path.{_≡_}
 use mathlib.Core.Logic.{⊎-elim}
 use denote.Ref.{now}
 use lib.ListN.{length}
 use Rattle.volume.specs.Layout.{listCount, count}
-use Rattle.volume.specs.Falls.{fall}
-use Rattle.volume.specs.Layout.{word}
 use Rattle.volume.proofs.Laws.Falls.{ListsSoFar, lists-first, lists-none, lists-some, lists-done}
 use Rattle.volume.proofs.Laws.Check.{list-within}
 use Rattle.volume.proofs.order.list_falls.Statement.{statement}

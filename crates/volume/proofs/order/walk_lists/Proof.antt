@@ -1,13 +1,12 @@
 -- `order::walk_lists` meets its contract. The loop's invariant: the lowest list that does not rise from list i on is the lowest of all,
 -- and list i begins at `start`. The measure is what is left of the lists. Assumes nothing.
 use native.Mathlib.Omega.{arith}
-use Prim.Native.Nat.{ℕ, _+_, _*_, _/_, _-_, _<_, _≤_}
+use Prim.Native.Nat.{ℕ, _+_, _*_, _/_, _-_, _≤_}
 use native.Mathlib.Nat.{sub-zero}
 use mathlib.Core.Path.{_≡_, sym, ap, ap₂, _∙_}
-use mathlib.Core.Bool.{Bool, true, false, not}
+use mathlib.Core.Bool.{not}
 use denote.Ref.{now}
 use lib.ListN.{length}
-use borrow.Author.Tests.{not-true, not-false}
 use Rattle.seq.specs.Lists.{rises}
 use Rattle.seq.specs.Numbers.{firstFrom, run, sumTo}
 use Rattle.seq.proofs.Laws.Numbers.{first-hit, first-miss, first-end, sum-step}

@@ -1,9 +1,9 @@
 -- `reading::copy_words` meets its contract. The loop's invariant: the first i words are copied, and the rest of the buffer is as it was.
 -- The measure is what is left of n. Assumes nothing.
 use native.Mathlib.Omega.{arith}
-use Prim.Native.Nat.{ℕ, _+_, _-_, _<_, _≤_}
+use Prim.Native.Nat.{ℕ, _+_, _-_, _≤_}
 use mathlib.Core.Path.{_≡_, refl, sym, ap, ap₂, _∙_}
-use mathlib.Core.List.{List, [], _∷_, _++_}
+use mathlib.Core.List.{List, _++_}
 use denote.Ref.{now}
 use lib.ListN.{length, set, drop, length-set}
 use Rattle.seq.specs.Numbers.{run}

@@ -1,7 +1,7 @@
 -- `reading::list_span` meets its contract: the counts of an accepted volume lie in its blocks. Assumes nothing.
 use native.Mathlib.Omega.{arith}
-use Prim.Native.Nat.{ℕ, _+_, _≤_}
-use mathlib.Core.Path.{_≡_, ap₂, _∙_}
+use Prim.Native.Nat.{ℕ, _+_}
+use mathlib.Core.Path.{ap₂}
 use denote.Ref.{now}
 use Rattle.volume.specs.Layout.{start, count}
 use Rattle.volume.specs.declared.reading.Span.{Span}

@@ -3,16 +3,16 @@ use native.Mathlib.Omega.{arith}
 use borrow.Author.Needs.{needs}
 use Prim.Native.Nat.{ℕ, _+_, _*_, _/_, _<_, _≤_}
 use mathlib.Core.Path.{_≡_, sym, ap, ap₂, _∙_}
-use mathlib.Core.List.{List, _++_}
+use mathlib.Core.List.{_++_}
 use denote.Ref.{now}
 use lib.ListN.{length, drop}
 use Rattle.seq.specs.Numbers.{run}
 use Rattle.seq.specs.Refusals.{answered}
 use Rattle.volume.specs.Answers.{Sizes, saidChecked}
-use Rattle.volume.specs.Layout.{word, listCount, count, start, spanOf}
+use Rattle.volume.specs.Layout.{word, listCount, count, start}
 use Rattle.volume.specs.declared.reading.Span.{Span}
-use Rattle.volume.specs.Check.{verdict, Accepted, sizes}
-use Rattle.volume.proofs.Laws.Check.{Good, good, accepted-by, sizes-are}
+use Rattle.volume.specs.Check.{verdict}
+use Rattle.volume.proofs.Laws.Check.{good, accepted-by, sizes-are}
 use Rattle.volume.proofs.Laws.Read.{read-volume, read-none, read-short, read-answer, read-kept, read-laid}
 use Rattle.volume.proofs.reading.read_list.Statement.{statement}
 use Rattle.volume.proofs.reading.read_list.Tie as tie

@@ -1,11 +1,10 @@
 -- `stream::bad_word` meets its contract. The loop's invariant: the first word that is not 0 from i on is the first from `from` on.
 -- The measure is what is left up to `end`. Assumes nothing.
 use native.Mathlib.Omega.{arith}
-use Prim.Native.Nat.{ℕ, _+_, _*_, _-_, _≤_}
+use Prim.Native.Nat.{_-_, _≤_}
 use mathlib.Core.Path.{_≡_, refl, sym, ap, _∙_}
-use mathlib.Core.Bool.{Bool, true, false, not}
+use mathlib.Core.Bool.{not}
 use denote.Ref.{now}
-use lib.Dec.{eqb}
 use borrow.Author.Tests.{eq-eqb, ne-eqb}
 use Rattle.seq.specs.Numbers.{firstFrom}
 use Rattle.seq.proofs.Laws.Numbers.{first-hit, first-miss, first-end}

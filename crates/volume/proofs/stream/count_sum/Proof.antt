@@ -1,7 +1,7 @@
 -- `stream::count_sum` meets its contract. The loop's invariant: sum is the sum of the first i counts, each below 2^32.
 -- The measure is what is left of n. Assumes nothing.
 use native.Mathlib.Omega.{arith}
-use Prim.Native.Nat.{ℕ, _+_, _*_, _-_, _≤_}
+use Prim.Native.Nat.{_*_, _-_, _≤_}
 use mathlib.Core.Path.{_≡_}
 use denote.Ref.{now}
 use Rattle.seq.specs.Numbers.{sumTo}

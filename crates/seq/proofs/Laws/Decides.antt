@@ -3,14 +3,14 @@
 --     holds, fails                    the test from the fact
 --     eqb-decides, leb-decides, ltb-decides, not-decides, and-decides, or-decides, nand-decides, same-decides
 -- Assumes nothing.
-use Prim.Native.Nat.{ℕ, _<_, _≤_, _+_, _-_}
+use Prim.Native.Nat.{ℕ, _<_, _≤_}
 use native.Mathlib.Omega.{arith}
-use mathlib.Core.Path.{_≡_, refl, sym, _∙_}
+use mathlib.Core.Path.{_≡_}
 use mathlib.Core.Bool.{Bool, true, false, not, _&&_, _||_}
 use mathlib.Core.Logic.{_⊎_, inl, inr, ⊎-elim}
 use lib.Dec.{ltb, leb, eqb}
-use borrow.Author.Tests.{ltb-true, ltb-false, leb-true, leb-false, eqb-true, eqb-false, not-true, not-false, lt-ltb}
+use borrow.Author.Tests.{ltb-true, ltb-false, leb-true, leb-false, eqb-true, eqb-false, not-true, not-false}
 use Rattle.seq.proofs.Laws.Tests.{both, neither, either, true-or, contrary}
 
 -- a test decides a fact: where it is true the fact holds, where it is false the fact does not
 pub record Decides (t : Bool) (P : Type 0) : Type 0 where

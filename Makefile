@@ -1,0 +1,64 @@
+# make        proves every crate, builds the library and the Rust package, describes the sample volume
+# make test   the gate (rt ci), then every other test; the last line is the gate's own, if all passed
+# make bench  times the library beside plain Rust and beside a copy
+# make clean  removes all that these made
+
+SHELL := bash
+.SHELLFLAGS := -euo pipefail -c
+.NOTPARALLEL:
+.PHONY: all test bench clean
+
+CARGO := cargo
+PACKAGE := --manifest-path rust/Cargo.toml --offline --locked
+HEADER := include/lihambozy.h
+WARNINGS := -Wall -Wextra -Werror
+GATE_LOG := build/ci.log
+LIBRARY_LOG := build/staticlib.log
+
+all:
+	rt check
+	rt staticlib lihambozy
+	$(CARGO) build --release $(PACKAGE)
+	$(CARGO) run --release --quiet $(PACKAGE) --example describe
+
+# `rt ci` removes target/: its log is kept in build/, and the library is built after it.
+test:
+	mkdir -p build
+	rt ci 2>&1 | tee $(GATE_LOG) || { echo 'rt ci failed'; exit 1; }
+	awk "$$ASSUME_NOTHING" crates.txt $(GATE_LOG)
+	rt staticlib lihambozy 2>&1 | tee $(LIBRARY_LOG)
+	grep -q '^logic=proved ' $(LIBRARY_LOG) && ! grep -E ' (foreign=|axioms=[1-9])' $(LIBRARY_LOG)
+	$(CC) -std=c99 $(WARNINGS) -fsyntax-only -x c $(HEADER)
+	if $(CC) -fsyntax-only -x c++ /dev/null; then $(CC) $(WARNINGS) -fsyntax-only -x c++ $(HEADER); fi
+	$(CARGO) test --release $(PACKAGE)
+	$(CARGO) test --release $(PACKAGE) --bench volume
+	@tail -n 1 $(GATE_LOG)
+
+bench:
+	rt staticlib lihambozy
+	$(CARGO) bench $(PACKAGE) --bench volume
+
+clean:
+	rm -rf target build rust/target
+
+# Reads crates.txt, then the gate's log, where a crate's verdict stands above its line `rt: NAME proved`.
+# Fails unless the log ends as that of a passed gate, every listed crate has its verdict there, and no
+# verdict but a program's names a foreign function or counts an axiom.
+define ASSUME_NOTHING
+FNR == NR { sub(/#.*/, ""); if (sub(/:.*/, "")) { gsub(/[ \t]/, ""); listed[$$0] }; next }
+{ last = $$0 }
+/^logic=proved / { verdict = $$0 }
+/^rt: [A-Za-z0-9_]+ proved / { verdicts[$$2] = verdict; verdict = "" }
+function fail(why) { print FILENAME ": " why; failed = 1 }
+END {
+    if (last !~ /^[1-9][0-9]* passed, 0 failed$$/) fail("it does not end as the log of a passed gate")
+    for (crate in listed) {
+        verdict = verdicts[crate]
+        if (verdict == "") fail(crate " has no verdict")
+        if (verdict ~ / (foreign=|axioms=[1-9])/ && system("test -f crates/" crate "/src/main.rt"))
+            fail(crate " assumes something: " verdict)
+    }
+    exit failed
+}
+endef
+export ASSUME_NOTHING

@@ -1,0 +1,1 @@
+-- The proofs of the crate's functions need no laws of their own.

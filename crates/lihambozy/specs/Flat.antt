@@ -1,0 +1,22 @@
+-- What the C functions answer: refusal 0 and the values, or a refusal's number, its place, and zeros. Assumes nothing.
+use Prim.Native.Nat.{ℕ}
+use Rattle.seq.specs.Refusals.{Said, refused, answered}
+use Rattle.volume.specs.Answers.{Sizes}
+use Rattle.lihambozy.specs.declared.VolumeSizes.{VolumeSizes}
+use Rattle.lihambozy.specs.declared.ListLength.{ListLength}
+use Rattle.lihambozy.specs.declared.VolumeLength.{VolumeLength}
+
+-- the answer of checking a volume
+abbrev pub flatSizes : Said Sizes → VolumeSizes
+flatSizes (refused n p) = record { refusal = n; at = p; lists = 0; postings = 0 }
+flatSizes (answered s) = record { refusal = 0; at = 0; lists = s .lists; postings = s .postings }
+
+-- the answer of reading a list
+abbrev pub flatList : Said ℕ → ListLength
+flatList (refused n p) = record { refusal = n; at = p; count = 0 }
+flatList (answered n) = record { refusal = 0; at = 0; count = n }
+
+-- the answer of writing a volume
+abbrev pub flatVolume : Said ℕ → VolumeLength
+flatVolume (refused n p) = record { refusal = n; at = p; blocks = 0 }
+flatVolume (answered n) = record { refusal = 0; at = 0; blocks = n }

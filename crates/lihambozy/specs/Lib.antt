@@ -1,0 +1,2 @@
+-- The answers of the calls as structs of words.
+pub mod Flat

@@ -1,0 +1,172 @@
+// The library that other languages link: the public calls as C functions.
+//
+// A slice passes as a pointer and a count of its elements. Each answer is a struct of 32-bit words:
+// refusal 0 and then the values, or the number of a refusal and its place and zeros. No call has a
+// `requires`; each promise is that of the call below it, told as a struct.
+ghost use mathlib.Core.Path.{_≡_};
+ghost use lib.ListN.{length};
+ghost use Rattle.volume.specs.Answers.{codeOf, atOf};
+ghost use Rattle.volume.specs.Check.{verdict};
+ghost use Rattle.volume.specs.Read.{readAnswer, readOut};
+ghost use Rattle.volume.specs.Write.{writeAnswer, writeOut};
+ghost use Rattle.lihambozy.specs.Flat.{flatSizes, flatList, flatVolume};
+use volume::Checked;
+use volume::ListRead;
+use volume::Refusal;
+use volume::Written;
+
+// The number of a refusal, and its place.
+struct Place {
+    refusal: u32,
+    at: u32,
+}
+
+// What `lhz_check_volume` answers: the number of lists and of postings.
+#[repr(C)]
+pub struct VolumeSizes {
+    pub refusal: u32,
+    pub at: u32,
+    pub lists: u32,
+    pub postings: u32,
+}
+
+// What `lhz_read_list` answers: the number of postings at the front of the buffer.
+#[repr(C)]
+pub struct ListLength {
+    pub refusal: u32,
+    pub at: u32,
+    pub count: u32,
+}
+
+// What `lhz_write_volume` answers: the number of blocks at the front of the output.
+#[repr(C)]
+pub struct VolumeLength {
+    pub refusal: u32,
+    pub at: u32,
+    pub blocks: u32,
+}
+
+fn place_of(why: Refusal) -> Place
+    ensures { λ r. ⌜ (r .refusal ≡ codeOf why) × (r .at ≡ atOf why) ⌝ }
+{
+    match why {
+        Refusal::Length => Place { refusal: 1, at: 0 },
+        Refusal::Number(block) => Place {
+            refusal: 2,
+            at: block,
+        },
+        Refusal::Checksum(block) => Place {
+            refusal: 3,
+            at: block,
+        },
+        Refusal::Version => Place { refusal: 4, at: 0 },
+        Refusal::ListCount => Place { refusal: 5, at: 0 },
+        Refusal::Extent => Place { refusal: 6, at: 0 },
+        Refusal::Order(list) => Place {
+            refusal: 7,
+            at: list,
+        },
+        Refusal::Padding(word) => Place {
+            refusal: 8,
+            at: word,
+        },
+    }
+}
+
+// Checks a volume.
+#[no_mangle]
+pub extern "C" fn lhz_check_volume(volume: &[u8]) -> VolumeSizes
+    ensures { λ r. ⌜ r ≡ flatSizes (verdict (now (volume .entry))) ⌝ }
+{
+    let checked = volume::check(volume);
+    match checked {
+        Checked::Accepted(lists, postings) => VolumeSizes {
+            refusal: 0,
+            at: 0,
+            lists,
+            postings,
+        },
+        Checked::Refused(why) => {
+            let place = place_of(why);
+            VolumeSizes {
+                refusal: place.refusal,
+                at: place.at,
+                lists: 0,
+                postings: 0,
+            }
+        }
+    }
+}
+
+// Copies a list of a volume to the front of out.
+#[no_mangle]
+pub extern "C" fn lhz_read_list(volume: &[u8], list: u32, out: &mut [u32]) -> ListLength
+    ensures { λ r. ⌜ (r ≡ flatList (readAnswer (now (volume .entry)) list (length (now (out .entry))))) × (now (out .exit) ≡ readOut (now (volume .entry)) list (now (out .entry))) ⌝ }
+{
+    let read = volume::read_list(volume, list, out);
+    match read {
+        ListRead::Read(count) => ListLength {
+            refusal: 0,
+            at: 0,
+            count,
+        },
+        ListRead::Refused(why) => {
+            let place = place_of(why);
+            ListLength {
+                refusal: place.refusal,
+                at: place.at,
+                count: 0,
+            }
+        }
+        ListRead::NoList => ListLength {
+            refusal: 17,
+            at: 0,
+            count: 0,
+        },
+        ListRead::Short => ListLength {
+            refusal: 16,
+            at: 0,
+            count: 0,
+        },
+    }
+}
+
+// Writes the volume of counts and postings to the front of out.
+#[no_mangle]
+pub extern "C" fn lhz_write_volume(counts: &[u32], postings: &[u32], out: &mut [u8]) -> VolumeLength
+    ensures { λ r. ⌜ (r ≡ flatVolume (writeAnswer (now (counts .entry)) (now (postings .entry)) (length (now (out .entry))))) × (now (out .exit) ≡ writeOut (now (counts .entry)) (now (postings .entry)) (now (out .entry))) ⌝ }
+{
+    let written = volume::write(counts, postings, out);
+    match written {
+        Written::Blocks(blocks) => VolumeLength {
+            refusal: 0,
+            at: 0,
+            blocks,
+        },
+        Written::ListCount => VolumeLength {
+            refusal: 5,
+            at: 0,
+            blocks: 0,
+        },
+        Written::CountSum => VolumeLength {
+            refusal: 18,
+            at: 0,
+            blocks: 0,
+        },
+        Written::Order(list) => VolumeLength {
+            refusal: 7,
+            at: list,
+            blocks: 0,
+        },
+        Written::TooLarge => VolumeLength {
+            refusal: 19,
+            at: 0,
+            blocks: 0,
+        },
+        Written::Short => VolumeLength {
+            refusal: 20,
+            at: 0,
+            blocks: 0,
+        },
+    }
+}

@@ -1,0 +1,60 @@
+-- A ladder of tests answers the first refusal that applies, stage by stage. No contract cites this file.
+--     Clear          no refusal of an earlier stage applies
+--     clear-next     nor one of this stage
+--     first-of       the first refusal, by what applies in its own stage
+--     alone          the same where a stage has one number
+--     single         a rung of such a stage, at place 0
+--     searched       a rung of such a stage, at the lowest place
+--     choice         a rung that tells one of two numbers at a place
+-- Assumes nothing.
+use Prim.Native.Nat.{ℕ, suc, _<_, _≤_}
+use native.Mathlib.Omega.{arith}
+use mathlib.Core.Path.{_≡_, refl}
+use mathlib.Core.Bool.{Bool, true, false, cond, true≢false}
+use mathlib.Core.Logic.{_⊎_, ⊎-elim, _≢_}
+use Rattle.seq.specs.Refusals.{Said, refused, First}
+use Rattle.seq.proofs.Laws.Refusals.{Sound, rung}
+use Rattle.seq.proofs.Laws.Decides.{Decides}
+
+module _ (stage : ℕ → ℕ) (Applies : ℕ → ℕ → Type 0) where
+  -- no refusal of a stage below k applies
+  abbrev pub Clear : ℕ → Type 0
+  Clear k = (m q : ℕ) → Applies m q → k ≤ stage m
+
+  -- nor one of stage k
+  pub clear-next : (k : ℕ) → Clear k → ((m q : ℕ) → Applies m q → stage m ≡ k → ⊥) → Clear (suc k)
+  clear-next k c none m q a = let h = c m q a in let n : stage m ≢ k = none m q a in omega arith
+
+  -- the first refusal, by what applies in its own stage
+  pub first-of : (n p : ℕ) → Clear (stage n) → Applies n p → ((m q : ℕ) → Applies m q → stage m ≡ stage n → ((q < p) ⊎ ((q ≡ p) × (m < n))) → ⊥) → First stage Applies n p
+  first-of n p c a none = record { applies = a; nothing-before = λ m q x b. ⊎-elim (λ (h : stage m < stage n). let l = c m q x in omega arith) (λ e. none m q x (e .0) (e .1)) b }
+
+  -- the first refusal, where its stage has one number, n, which applies at the places of P
+  pub alone : (n p : ℕ) (P : ℕ → Type 0) → Clear (stage n) → ((m q : ℕ) → Applies m q → stage m ≡ stage n → (m ≡ n) × P q) → Applies n p → ((q : ℕ) → P q → q < p → ⊥) → First stage Applies n p
+  alone n p P c only a least =
+      first-of n p c a
+      (λ m q x e w.
+      let o = only m q x e in
+      ⊎-elim (λ (h : q < p). least q (o .1) h) (λ (h : (q ≡ p) × (m < n)). let s : m ≡ n = o .0 in let l : m < n = h .1 in omega arith) w)
+
+module _ {A : Type 0} (stage : ℕ → ℕ) (Applies : ℕ → ℕ → Type 0) (value : A) where
+  -- a rung of a stage with one number n, which applies at the places of P, at the lowest of them
+  pub searched : (t : Bool) (n p : ℕ) (rest : Said A) (P : ℕ → Type 0) → Clear stage Applies (stage n) → ((m q : ℕ) → Applies m q → stage m ≡ stage n → (m ≡ n) × P q) → (t ≡ true → Applies n p × ((q : ℕ) → P q → q < p → ⊥)) → (t ≡ false → (q : ℕ) → P q → ⊥) → (Clear stage Applies (suc (stage n)) → Sound stage Applies value rest) → Sound stage Applies value (cond t (refused n p) rest)
+  searched t n p rest P c only found none later =
+      rung stage Applies value t n p rest
+      (λ e. let f = found e in alone stage Applies n p P c only (f .0) (f .1))
+      (λ e. later (clear-next stage Applies (stage n) c (λ m q a s. none e q (only m q a s .1))))
+
+  -- a rung of a stage with one number n, which has no place
+  pub single : (t : Bool) (n : ℕ) (rest : Said A) (P : Type 0) → Decides t P → (P → Applies n 0) → Clear stage Applies (stage n) → ((m q : ℕ) → Applies m q → stage m ≡ stage n → (m ≡ n) × ((q ≡ 0) × P)) → (Clear stage Applies (suc (stage n)) → Sound stage Applies value rest) → Sound stage Applies value (cond t (refused n 0) rest)
+  single t n rest P d make c only later =
+      searched t n 0 rest (λ q. (q ≡ 0) × P) c only
+      (λ e. (make (d .yes e), λ q w h. let z : q ≡ 0 = w .0 in omega arith))
+      (λ e q w. d .no e (w .1))
+      later
+
+  -- a rung that tells one of two numbers at a place
+  pub choice : (s t : Bool) (n m p : ℕ) (rest : Said A) → (s ≡ true → t ≡ true → First stage Applies n p) → (s ≡ true → t ≡ false → First stage Applies m p) → (s ≡ false → Sound stage Applies value rest) → Sound stage Applies value (cond s (cond t (refused n p) (refused m p)) rest)
+  choice true true n m p rest f g h = rung stage Applies value true n p rest (λ e. f refl refl) (λ e. absurd (true≢false e))
+  choice true false n m p rest f g h = rung stage Applies value true m p rest (λ e. g refl refl) (λ e. absurd (true≢false e))
+  choice false t n m p rest f g h = h refl

@@ -1,0 +1,117 @@
+-- Bytes whose blocks are in order are the blocks of the stream that is read from them. No contract cites this file.
+--     covered-of, block-of     block k, from its words
+--     rebuild                  all blocks
+--     blocksFrom-ext           blocks of streams that agree
+-- Assumes nothing.
+use Prim.Native.Nat.{ℕ, zero, suc, _+_, _*_, _<_, _≤_}
+use native.Mathlib.Nat.{add-zero, add-suc}
+use native.Mathlib.Omega.{arith}
+use mathlib.Core.Path.{_≡_, refl, sym, ap, ap₂, _∙_}
+use mathlib.Core.Bool.{false}
+use mathlib.Core.Logic.{_≢_, inl, inr, ⊎-elim}
+use mathlib.Core.List.{List, _++_}
+use lib.ListN.{length, take, drop, take-append-drop, drop-of-length-le}
+use lib.Seq.{drop-drop, take-add}
+use Rattle.seq.proofs.Laws.Tests.{neither}
+use Rattle.volume.specs.Bytes.{IsBytes, le32, bytes16, bytes32}
+use Rattle.volume.specs.Checksum.{checkA, checkB}
+use Rattle.volume.specs.Layout.{blockNumber, covered, storedA, storedB, word}
+use Rattle.volume.specs.Check.{numberWrong, checksumWrong, blockWrong}
+use Rattle.volume.specs.Write.{wordBytes, blockBody, sealed, blocksFrom}
+use Rattle.seq.proofs.Laws.Decides.{decided, eqb-decides}
+use Rattle.volume.proofs.Laws.Check.{numberWrong-decides, checksumWrong-decides}
+use Rattle.volume.proofs.Laws.Stream.{offset-in-block}
+use Rattle.volume.proofs.Laws.Bytes.{bytes16-of, bytes32-of}
+
+-- what a block that is not wrong holds
+pub record Right (v : List ℕ) (k : ℕ) : Type 0 where
+  pub number-right : blockNumber v k ≡ k
+  pub checkA-right : storedA v k ≡ checkA (covered v k)
+  pub checkB-right : storedB v k ≡ checkB (covered v k)
+
+pub right : (v : List ℕ) (k : ℕ) → blockWrong v k ≡ false → Right v k
+unfolding blockWrong
+right v k e = record {
+  number-right = fact (blockNumber v k) k (λ n. numberWrong-decides v k .no (w .0) n);
+  checkA-right = fact (storedA v k) (checkA (covered v k)) (λ n. checksumWrong-decides v k .no (w .1) (inl n));
+  checkB-right = fact (storedB v k) (checkB (covered v k)) (λ n. checksumWrong-decides v k .no (w .1) (inr n));
+}
+  where
+    w : (numberWrong v k ≡ false) × (checksumWrong v k ≡ false)
+    w = neither (numberWrong v k) (checksumWrong v k) e
+
+    fact : (a b : ℕ) → ((a ≢ b) → ⊥) → a ≡ b
+    fact a b nn = ⊎-elim (λ q. q) (λ n. absurd (nn n)) (decided (eqb-decides a b))
+
+module _ (v : List ℕ) (bytes : IsBytes v) where
+  -- m words of block k from word r on
+  words-of : (k r m : ℕ) → r + m ≤ 126 → 512 * k + 512 ≤ length v → take (4 * m) (drop (512 * k + 4 + 4 * r) v) ≡ wordBytes (word v) (126 * k + r) m
+  unfolding wordBytes word
+  words-of k r zero h l = refl
+  words-of k r (suc m) h l =
+      let o : ℕ = 512 * k + 4 + 4 * r in
+      let e : 4 * suc m ≡ 4 + 4 * m = omega arith in
+      let f : o + 4 ≡ 512 * k + 4 + 4 * suc r = omega arith in
+      ap (λ (n : ℕ). take n (drop o v)) e
+      ∙ take-add 4 (4 * m) (drop o v)
+      ∙ ap₂ (λ (a b : List ℕ). a ++ b)
+      (bytes32-of v o bytes (omega arith) ∙ ap (λ (p : ℕ). bytes32 (le32 v p)) (sym (offset-in-block k r (omega arith))))
+      (ap (λ (p : List ℕ). take (4 * m) p) (drop-drop 4 o v ∙ ap (λ (p : ℕ). drop p v) f)
+      ∙ words-of k (suc r) m (omega arith) l
+      ∙ ap (λ (p : ℕ). wordBytes (word v) p m) (add-suc (126 * k) r))
+
+  covered-of : (k : ℕ) → 512 * k + 512 ≤ length v → blockNumber v k ≡ k → covered v k ≡ blockBody (word v) k
+  unfolding blockBody
+  covered-of k l e =
+      take-add 4 504 (drop (512 * k) v)
+      ∙ ap₂ (λ (a b : List ℕ). a ++ b)
+      (bytes32-of v (512 * k) bytes (omega arith) ∙ ap bytes32 e)
+      (ap (λ (p : List ℕ). take 504 p) (drop-drop 4 (512 * k) v ∙ ap (λ (p : ℕ). drop p v) (sym (add-zero (512 * k + 4))))
+      ∙ words-of k 0 126 (omega arith) l
+      ∙ ap (λ (p : ℕ). wordBytes (word v) p 126) (add-zero (126 * k)))
+
+  block-of : (k : ℕ) → 512 * k + 512 ≤ length v → Right v k → take 512 (drop (512 * k) v) ≡ sealed (blockBody (word v) k)
+  unfolding sealed
+  block-of k l r =
+      let c = covered-of k l (r .number-right) in
+      take-add 508 4 (drop (512 * k) v)
+      ∙ ap₂ (λ (a b : List ℕ). a ++ b) c
+      (ap (λ (p : List ℕ). take 4 p) (drop-drop 508 (512 * k) v)
+      ∙ take-add 2 2 (drop (512 * k + 508) v)
+      ∙ ap₂ (λ (a b : List ℕ). a ++ b)
+      (bytes16-of v (512 * k + 508) bytes (omega arith) ∙ ap bytes16 (r .checkA-right ∙ ap checkA c))
+      (ap (λ (p : List ℕ). take 2 p) (drop-drop 2 (512 * k + 508) v ∙ ap (λ (p : ℕ). drop p v) two)
+      ∙ bytes16-of v (512 * k + 510) bytes (omega arith)
+      ∙ ap bytes16 (r .checkB-right ∙ ap checkB c)))
+    where
+      two : 512 * k + 508 + 2 ≡ 512 * k + 510
+      two = omega arith
+
+  blocks-of : (k m : ℕ) → length v ≡ 512 * (k + m) → ((j : ℕ) → j < k + m → Right v j) → drop (512 * k) v ≡ blocksFrom (word v) k m
+  unfolding blocksFrom
+  blocks-of k zero l r = let h : length v ≤ 512 * k = omega arith in drop-of-length-le v h
+  blocks-of k (suc m) l r =
+      let e : 512 * k + 512 ≡ 512 * suc k = omega arith in
+      sym (take-append-drop 512 (drop (512 * k) v))
+      ∙ ap₂ (λ (a b : List ℕ). a ++ b)
+      (block-of k (omega arith) (r k (omega arith)))
+      (drop-drop 512 (512 * k) v ∙ ap (λ (p : ℕ). drop p v) e ∙ blocks-of (suc k) m (omega arith) (λ j h. r j (omega arith)))
+
+  -- bytes in order are the blocks of their own stream
+  pub rebuild : (n : ℕ) → length v ≡ 512 * n → ((j : ℕ) → j < n → blockWrong v j ≡ false) → v ≡ blocksFrom (word v) 0 n
+  rebuild n l r = blocks-of 0 n (omega arith) (λ j h. right v j (r j (omega arith)))
+
+-- blocks of two streams that agree
+module _ (f g : ℕ → ℕ) where
+  wordBytes-ext : (k m : ℕ) → ((j : ℕ) → k ≤ j → j < k + m → f j ≡ g j) → wordBytes f k m ≡ wordBytes g k m
+  unfolding wordBytes
+  wordBytes-ext k zero e = refl
+  wordBytes-ext k (suc m) e = ap₂ (λ (x : ℕ) (l : List ℕ). bytes32 x ++ l) (e k (omega arith) (omega arith)) (wordBytes-ext (suc k) m (λ j a b. e j (omega arith) (omega arith)))
+
+  pub blocksFrom-ext : (k m : ℕ) → ((j : ℕ) → 126 * k ≤ j → j < 126 * (k + m) → f j ≡ g j) → blocksFrom f k m ≡ blocksFrom g k m
+  unfolding blocksFrom blockBody
+  blocksFrom-ext k zero e = refl
+  blocksFrom-ext k (suc m) e =
+      ap₂ (λ (x l : List ℕ). sealed (bytes32 k ++ x) ++ l)
+      (wordBytes-ext (126 * k) 126 (λ j a b. e j a (omega arith)))
+      (blocksFrom-ext (suc k) m (λ j a b. e j (omega arith) (omega arith)))

@@ -1,0 +1,132 @@
+//! Times the library's check and writer on the largest volume, beside a copy of the same bytes and
+//! beside plain Rust. Every shape runs once a round, so that a slow moment of the machine falls on
+//! all of them. Run as a test, it makes one round, to compare the results, and prints no times.
+
+mod late;
+
+use lihambozy::{check_volume, volume_len, write_volume};
+use std::hint::black_box;
+use std::time::{Duration, Instant};
+
+const SEED: u64 = 1;
+const ROUNDS: usize = 101;
+const LISTS: usize = 1_000;
+const WORDS: usize = lihambozy::MAX_WORDS;
+
+/// Lists that fill the largest volume: their counts, and their postings back to back.
+fn lists() -> (Vec<u32>, Vec<u32>) {
+    // SplitMix64
+    let mut state = SEED;
+    let mut random = move |end: u64| {
+        state = state.wrapping_add(0x9e37_79b9_7f4a_7c15);
+        let mut z = state;
+        z = (z ^ (z >> 30)).wrapping_mul(0xbf58_476d_1ce4_e5b9);
+        z = (z ^ (z >> 27)).wrapping_mul(0x94d0_49bb_1331_11eb);
+        (z ^ (z >> 31)) % end
+    };
+    let mut left = WORDS - 2 - LISTS;
+    let mut counts = Vec::new();
+    let mut postings = Vec::new();
+    for behind in (0..LISTS).rev() {
+        let count = match behind {
+            0 => left,
+            _ => random(2 * left as u64 / (behind as u64 + 1)) as usize,
+        };
+        left -= count;
+        counts.push(count as u32);
+        let gap = u64::from(u32::MAX) / (count as u64 + 1);
+        let mut posting = 0;
+        postings.extend((0..count).map(|_| {
+            posting += 1 + random(gap);
+            posting as u32
+        }));
+    }
+    (counts, postings)
+}
+
+/// A shape: its name and its times.
+struct Shape {
+    name: &'static str,
+    times: Vec<Duration>,
+}
+
+impl Shape {
+    fn new(name: &'static str) -> Shape {
+        Shape { name, times: Vec::new() }
+    }
+
+    fn time<R>(&mut self, run: impl FnOnce() -> R) {
+        let start = Instant::now();
+        black_box(run());
+        self.times.push(start.elapsed());
+    }
+
+    /// Median and minimum, in milliseconds.
+    fn figures(&self) -> [f64; 2] {
+        let mut times = self.times.clone();
+        times.sort();
+        [times[times.len() / 2], times[0]].map(|time| time.as_secs_f64() * 1e3)
+    }
+}
+
+fn main() {
+    // cargo passes --bench to a benchmark that it runs as one, and nothing where it tests it.
+    let timed = std::env::args().any(|word| word == "--bench");
+    let rounds = if timed { ROUNDS } else { 1 };
+
+    let (counts, postings) = lists();
+    let length = volume_len(counts.len(), postings.len()).expect("the lists fill a volume");
+    let (mut ours, mut theirs, mut copy) = (vec![0; length], vec![1; length], vec![2; length]);
+
+    // The results, before anything is timed.
+    let written = write_volume(&counts, &postings, &mut ours).map(|written| written.blocks);
+    assert_eq!(written.ok(), late::write_volume(&counts, &postings, &mut theirs).ok());
+    assert_eq!(written, Ok(8_192));
+    assert!(ours == theirs, "the two writers differ");
+    let volume = ours.clone();
+    let checked = check_volume(&volume).map(|checked| (checked.lists, checked.postings));
+    assert_eq!(checked.ok(), late::check_volume(&volume).ok());
+    assert_eq!(checked, Ok((counts.len() as u32, postings.len() as u32)));
+
+    let mut shapes =
+        ["copy", "check, library", "check, plain Rust", "write, library", "write, plain Rust"]
+            .map(Shape::new);
+    let [copied, check, plain_check, write, plain_write] = &mut shapes;
+    for _ in 0..rounds {
+        copied.time(|| {
+            copy.copy_from_slice(black_box(&volume));
+            black_box(&mut copy);
+        });
+        check.time(|| check_volume(black_box(&volume)));
+        plain_check.time(|| late::check_volume(black_box(&volume)));
+        write.time(|| write_volume(black_box(&counts), black_box(&postings), &mut ours));
+        plain_write
+            .time(|| late::write_volume(black_box(&counts), black_box(&postings), &mut theirs));
+    }
+    assert!(ours == volume && theirs == volume && copy == volume);
+    if !timed {
+        println!("the library and plain Rust agree on the largest volume");
+        return;
+    }
+
+    let (lists, postings) = (counts.len(), postings.len());
+    println!("A volume of 8,192 blocks, {lists} lists, {postings} postings, seed {SEED}.");
+    println!(
+        "Release build, {rounds} rounds, every shape once a round; buffers not cleared before."
+    );
+    println!();
+    println!("| | median ms | minimum ms |");
+    println!("|---|---|---|");
+    for shape in &shapes {
+        let [median, minimum] = shape.figures();
+        println!("| {} | {median:.3} | {minimum:.3} |", shape.name);
+    }
+    println!("\n| ratio | of medians | of minima |");
+    println!("|---|---|---|");
+    for (name, over, under) in
+        [("check / copy", 1, 0), ("check / plain check", 1, 2), ("write / plain write", 3, 4)]
+    {
+        let (over, under) = (shapes[over].figures(), shapes[under].figures());
+        println!("| {name} | {:.2} | {:.2} |", over[0] / under[0], over[1] / under[1]);
+    }
+}

@@ -1,0 +1,245 @@
+//! Reads and writes the volumes of a surtitle archive.
+//!
+//! A volume is an inverted index as one piece of bytes: 1 to 1,024 posting lists in blocks of 512
+//! bytes, each block numbered and under a checksum. A posting is a document (01: scene) and a
+//! position in it (01: place), as one 32-bit number. Each list rises strictly; list 0 holds the
+//! positions at which titles start, the others belong to words. (01 is the document that fixes the
+//! layout; `include/lihambozy.h` tells it.)
+//!
+//! The work is done by the proved library behind `include/lihambozy.h`; this crate lends it
+//! slices. Every call takes any input. One that does not fit is answered by a [`Refusal`], and what
+//! was lent for writing then is exactly as it was.
+//!
+//! ```
+//! use lihambozy::{check_volume, posting, read_list, volume_len, write_volume};
+//!
+//! // List 0: titles start at document 1, positions 0 and 6. List 1: a word, at three places.
+//! let counts = [2, 3];
+//! let postings = [posting(1, 0), posting(1, 6), posting(1, 2), posting(1, 8), posting(2, 4)];
+//!
+//! let mut volume = vec![0; volume_len(counts.len(), postings.len()).unwrap()];
+//! assert_eq!(write_volume(&counts, &postings, &mut volume)?.blocks, 1);
+//!
+//! let checked = check_volume(&volume)?;
+//! assert_eq!((checked.lists, checked.postings), (2, 5));
+//!
+//! let mut list = [0; 3];
+//! assert_eq!(read_list(&volume, 1, &mut list)?.count, 3);
+//! assert_eq!(list, postings[2..]);
+//!
+//! let refusal = read_list(&volume, 2, &mut list).unwrap_err();
+//! assert_eq!((refusal.number, refusal.at), (17, 0));
+//! # Ok::<(), lihambozy::Refusal>(())
+//! ```
+
+#![deny(unsafe_code)]
+#![warn(missing_docs)]
+
+use std::error::Error;
+use std::fmt;
+
+#[allow(unsafe_code)]
+mod ffi;
+
+#[cfg(test)]
+#[path = "../tests/plain/mod.rs"]
+mod plain;
+
+/// Bytes of a block.
+pub const BLOCK_BYTES: usize = 512;
+/// Words of a block that belong to the stream, 32 bits each.
+pub const BLOCK_WORDS: usize = 126;
+/// Blocks of the largest volume.
+pub const MAX_BLOCKS: usize = 8_192;
+/// Stream words of the largest volume.
+pub const MAX_WORDS: usize = MAX_BLOCKS * BLOCK_WORDS;
+/// Lists of a volume, at most.
+pub const MAX_LISTS: usize = 1_024;
+
+/// Why a call was not answered: the first refusal that applies, in document 01's numbers.
+#[derive(Clone, Copy, Debug, PartialEq, Eq, Hash)]
+pub struct Refusal {
+    /// Document 01's number of the refusal.
+    pub number: u32,
+    /// The block, list or stream index that it is about (01: place), from 0; 0 where the refusal is
+    /// about none.
+    pub at: u32,
+}
+
+impl fmt::Display for Refusal {
+    fn fmt(&self, f: &mut fmt::Formatter<'_>) -> fmt::Result {
+        let Refusal { number, at } = *self;
+        match number {
+            1 => write!(
+                f,
+                "the volume has no bytes, no whole number of blocks, or over 8,192 blocks"
+            ),
+            2 => write!(f, "block {at} does not hold its own number"),
+            3 => write!(f, "the checksum of block {at} is wrong"),
+            4 => write!(f, "the volume's format version is not 1"),
+            5 => write!(f, "the number of lists is not 1 to 1,024"),
+            6 => write!(f, "the number of blocks is not the least that holds the lists"),
+            7 => write!(f, "list {at} does not rise strictly"),
+            8 => write!(f, "word {at} of the stream, behind the lists, is not 0"),
+            16 => write!(f, "the buffer is shorter than the list"),
+            17 => write!(f, "the volume has no list of that number"),
+            18 => write!(f, "the counts do not sum to the number of postings"),
+            19 => write!(f, "the volume would have over 1,032,192 words"),
+            20 => write!(f, "the output is shorter than the volume"),
+            _ => write!(f, "the call was refused"),
+        }?;
+        write!(f, " (refused {number} {at})")
+    }
+}
+
+impl Error for Refusal {}
+
+/// What [`check_volume`] finds in an accepted volume.
+#[derive(Clone, Copy, Debug, PartialEq, Eq)]
+pub struct CheckedVolume {
+    /// The number of lists (01: T).
+    pub lists: u32,
+    /// The number of postings of all lists together (01: S).
+    pub postings: u32,
+}
+
+/// What [`read_list`] has done.
+#[derive(Clone, Copy, Debug, PartialEq, Eq)]
+pub struct ReadList {
+    /// The postings of the list, which are the words written.
+    pub count: u32,
+}
+
+/// What [`write_volume`] has done.
+#[derive(Clone, Copy, Debug, PartialEq, Eq)]
+pub struct WrittenVolume {
+    /// The blocks written, of [`BLOCK_BYTES`] each.
+    pub blocks: u32,
+}
+
+/// The posting of a document and a position in it.
+pub const fn posting(doc: u16, pos: u16) -> u32 {
+    doc as u32 * 65_536 + pos as u32
+}
+
+/// The document of a posting.
+pub const fn doc_of(posting: u32) -> u16 {
+    (posting / 65_536) as u16
+}
+
+/// The position of a posting.
+pub const fn pos_of(posting: u32) -> u16 {
+    (posting % 65_536) as u16
+}
+
+/// The bytes of the volume of so many lists with so many postings in all; `None` where that is more
+/// than the largest volume holds.
+pub fn volume_len(lists: usize, postings: usize) -> Option<usize> {
+    let words = lists.checked_add(postings)?.checked_add(2)?;
+    (words <= MAX_WORDS).then(|| words.div_ceil(BLOCK_WORDS) * BLOCK_BYTES)
+}
+
+/// Checks a volume, every byte of it.
+///
+/// Refused, the first that applies, with 1 (length), then block by block 2 (number) and 3
+/// (checksum), both at the block, then 4 (format version), 5 (number of lists), 6 (number of
+/// blocks), 7 (a list does not rise, at the lowest one), 8 (a word behind the lists is not 0, at
+/// the lowest stream index).
+pub fn check_volume(volume: &[u8]) -> Result<CheckedVolume, Refusal> {
+    let answer = ffi::check_volume(volume);
+    accepted(answer.refusal, answer.at)?;
+    Ok(CheckedVolume { lists: answer.lists, postings: answer.postings })
+}
+
+/// Reads a list of a volume to the front of `out`; the words behind it stay as they were.
+///
+/// Refused with 1 to 8 as by [`check_volume`], then with 17 (no such list), then with 16 (`out` is
+/// shorter than the list).
+pub fn read_list(volume: &[u8], list: u32, out: &mut [u32]) -> Result<ReadList, Refusal> {
+    let answer = ffi::read_list(volume, list, out);
+    accepted(answer.refusal, answer.at)?;
+    Ok(ReadList { count: answer.count })
+}
+
+/// Writes the volume of the given lists to the front of `out`; the bytes behind it stay as they
+/// were. `counts` has the number of postings of each list, `postings` the lists back to back;
+/// [`volume_len`] tells how long `out` must be.
+///
+/// Refused, the first that applies, with 5 (number of lists), 18 (the counts do not sum to the
+/// number of postings), 7 (a list does not rise, at the lowest one), 19 (too many words for a
+/// volume), 20 (`out` is shorter than the volume).
+pub fn write_volume(
+    counts: &[u32],
+    postings: &[u32],
+    out: &mut [u8],
+) -> Result<WrittenVolume, Refusal> {
+    let answer = ffi::write_volume(counts, postings, out);
+    accepted(answer.refusal, answer.at)?;
+    Ok(WrittenVolume { blocks: answer.blocks })
+}
+
+/// Splits the two fields that every answer starts with: number 0 means that the call is answered.
+fn accepted(number: u32, at: u32) -> Result<(), Refusal> {
+    match number {
+        0 => Ok(()),
+        _ => Err(Refusal { number, at }),
+    }
+}
+
+#[cfg(test)]
+mod tests {
+    use super::*;
+
+    #[test]
+    fn refusals_read_as_sentences() {
+        let rows = [
+            (2, 5, "block 5 does not hold its own number (refused 2 5)"),
+            (3, 8_191, "the checksum of block 8191 is wrong (refused 3 8191)"),
+            (7, 0, "list 0 does not rise strictly (refused 7 0)"),
+            (8, 125, "word 125 of the stream, behind the lists, is not 0 (refused 8 125)"),
+            (16, 0, "the buffer is shorter than the list (refused 16 0)"),
+        ];
+        for (number, at, sentence) in rows {
+            assert_eq!(Refusal { number, at }.to_string(), sentence);
+        }
+        let unknown = Refusal { number: 0, at: 0 }.to_string();
+        for number in (1..=8).chain(16..=20) {
+            let told = Refusal { number, at: 0 }.to_string();
+            assert!(told.ends_with(&format!(" (refused {number} 0)")), "{told}");
+            assert_ne!(
+                told.split(" (").next(),
+                unknown.split(" (").next(),
+                "refusal {number} has no sentence of its own"
+            );
+        }
+    }
+
+    #[test]
+    fn postings_hold_document_and_position() {
+        for (doc, pos, number) in [
+            (0, 0, 0),
+            (0, 65_535, 65_535),
+            (1, 0, 65_536),
+            (2, 9, 131_081),
+            (65_535, 65_535, u32::MAX),
+        ] {
+            assert_eq!(posting(doc, pos), number);
+            assert_eq!((doc_of(number), pos_of(number)), (doc, pos));
+        }
+    }
+
+    #[test]
+    fn volume_len_is_whole_blocks() {
+        for (lists, postings, len) in [
+            (1, 0, Some(512)),
+            (3, 121, Some(512)),
+            (3, 122, Some(1_024)),
+            (1_024, 1_031_166, Some(4_194_304)),
+            (1_024, 1_031_167, None),
+            (usize::MAX, usize::MAX, None),
+            (1, usize::MAX - 2, None),
+        ] {
+            assert_eq!(volume_len(lists, postings), len, "{lists} {postings}");
+        }
+    }
+}
