@@ -16,7 +16,7 @@ use volume::Refusal;
 use volume::Written;
 
 // The number of a refusal, and its place.
-struct Place {
+struct Code {
     refusal: u32,
     at: u32,
 }
@@ -46,27 +46,27 @@ pub struct VolumeLength {
     pub blocks: u32,
 }
 
-fn place_of(why: Refusal) -> Place
+fn code_of(why: Refusal) -> Code
     ensures { λ r. ⌜ (r .refusal ≡ codeOf why) × (r .at ≡ atOf why) ⌝ }
 {
     match why {
-        Refusal::Length => Place { refusal: 1, at: 0 },
-        Refusal::Number(block) => Place {
+        Refusal::Length => Code { refusal: 1, at: 0 },
+        Refusal::Number(block) => Code {
             refusal: 2,
             at: block,
         },
-        Refusal::Checksum(block) => Place {
+        Refusal::Checksum(block) => Code {
             refusal: 3,
             at: block,
         },
-        Refusal::Version => Place { refusal: 4, at: 0 },
-        Refusal::ListCount => Place { refusal: 5, at: 0 },
-        Refusal::Extent => Place { refusal: 6, at: 0 },
-        Refusal::Order(list) => Place {
+        Refusal::Version => Code { refusal: 4, at: 0 },
+        Refusal::ListCount => Code { refusal: 5, at: 0 },
+        Refusal::Extent => Code { refusal: 6, at: 0 },
+        Refusal::Order(list) => Code {
             refusal: 7,
             at: list,
         },
-        Refusal::Padding(word) => Place {
+        Refusal::Padding(word) => Code {
             refusal: 8,
             at: word,
         },
@@ -87,10 +87,10 @@ pub extern "C" fn lhz_check_volume(volume: &[u8]) -> VolumeSizes
             postings,
         },
         Checked::Refused(why) => {
-            let place = place_of(why);
+            let code = code_of(why);
             VolumeSizes {
-                refusal: place.refusal,
-                at: place.at,
+                refusal: code.refusal,
+                at: code.at,
                 lists: 0,
                 postings: 0,
             }
@@ -111,10 +111,10 @@ pub extern "C" fn lhz_read_list(volume: &[u8], list: u32, out: &mut [u32]) -> Li
             count,
         },
         ListRead::Refused(why) => {
-            let place = place_of(why);
+            let code = code_of(why);
             ListLength {
-                refusal: place.refusal,
-                at: place.at,
+                refusal: code.refusal,
+                at: code.at,
                 count: 0,
             }
         }

@@ -59,16 +59,16 @@ pub data WriteApplies (counts postings : List ℕ) (room : ℕ) : ℕ → ℕ �
   outputShort : (n : ℕ) → LeastBlocks (2 + length counts + length postings) n → room < 512 * n → WriteApplies counts postings room 20 0
 
 -- how many numbers of a list stand before n
-unfoldable pub placeIn : List ℕ → ℕ → ℕ
-placeIn [] n = 0
-placeIn (x ∷ xs) n = let rest = suc (placeIn xs n) in cond (eqb x n) 0 rest
+unfoldable pub indexIn : List ℕ → ℕ → ℕ
+indexIn [] n = 0
+indexIn (x ∷ xs) n = let rest = suc (indexIn xs n) in cond (eqb x n) 0 rest
 
 -- the stages of the calls, by number; 2 and 3 share one, so that blocks go upward, 2 before 3 in each
 unfoldable pub volumeStage : ℕ → ℕ
-volumeStage n = placeIn (1 ∷ 2 ∷ 4 ∷ 5 ∷ 6 ∷ 7 ∷ 8 ∷ []) (cond (eqb n 3) 2 n)
+volumeStage n = indexIn (1 ∷ 2 ∷ 4 ∷ 5 ∷ 6 ∷ 7 ∷ 8 ∷ []) (cond (eqb n 3) 2 n)
 
 unfoldable pub readStage : ℕ → ℕ
-readStage n = placeIn (1 ∷ 2 ∷ 4 ∷ 5 ∷ 6 ∷ 7 ∷ 8 ∷ 17 ∷ 16 ∷ []) (cond (eqb n 3) 2 n)
+readStage n = indexIn (1 ∷ 2 ∷ 4 ∷ 5 ∷ 6 ∷ 7 ∷ 8 ∷ 17 ∷ 16 ∷ []) (cond (eqb n 3) 2 n)
 
 unfoldable pub writeStage : ℕ → ℕ
-writeStage n = placeIn (5 ∷ 18 ∷ 7 ∷ 19 ∷ 20 ∷ []) n
+writeStage n = indexIn (5 ∷ 18 ∷ 7 ∷ 19 ∷ 20 ∷ []) n

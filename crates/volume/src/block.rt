@@ -8,7 +8,7 @@ ghost use Rattle.volume.specs.Check.{numberWrong, checksumWrong, blockWr
 ghost use Rattle.volume.specs.Falls.{fallsBefore};
 use super::bytes::read16;
 use super::bytes::read32;
-use super::checksum::checksum;
+use super::checksum::block_sums;
 use super::order::fall_at;
 use super::order::falls_in;
 
@@ -32,7 +32,7 @@ fn checksum_wrong(volume: &[u8], k: usize) -> bool
     ensures { λ r. ⌜ r ≡ checksumWrong (now (volume .entry)) k ⌝ }
 {
     let from = 512 * k;
-    let sums = checksum(&volume[from..from + 508]);
+    let sums = block_sums(volume, from);
     if read16(volume, from + 508) != sums.a {
         return true;
     }

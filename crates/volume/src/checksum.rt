@@ -9,7 +9,7 @@
 // 64,260.
 ghost use mathlib.Core.Path.{_≡_};
 ghost use Prim.Native.Nat.{_+_, _*_, _≤_};
-ghost use lib.ListN.{length};
+ghost use lib.ListN.{length, take, drop};
 ghost use Rattle.volume.specs.Checksum.{checkA, checkB};
 ghost use Rattle.volume.specs.Sums.{rowAt, zeros, plus, Within, Room, Rows, Sevens};
 use super::bytes::wide;
@@ -195,8 +195,8 @@ fn head(a: u8, b: u8, c: u8, d: u8) -> Sums
     }
 }
 
-// The checksum of the 508 bytes of a block in front of it.
-pub fn checksum(s: &[u8]) -> Sums
+// The checksum of 508 bytes.
+fn checksum(s: &[u8]) -> Sums
     requires { ⌜ length (now s) ≡ 508 ⌝ }
     ensures { λ r. ⌜ (r .a ≡ checkA (now (s .entry))) × (r .b ≡ checkB (now (s .entry))) ⌝ }
 {
@@ -217,4 +217,14 @@ pub fn checksum(s: &[u8]) -> Sums
         a: a % 65535,
         b: b % 65535,
     }
+}
+
+// The checksum of the block at `from`, over its bytes in front of it. It takes the slice and an
+// offset: compiled code reads the pointer and the count of a slice in one load, which has to wait
+// where a part was made, with two stores, just before the call.
+pub fn block_sums(s: &[u8], from: usize) -> Sums
+    requires { ⌜ from + 508 ≤ length (now s) ⌝ }
+    ensures { λ r. ⌜ (r .a ≡ checkA (take 508 (drop from (now (s .entry))))) × (r .b ≡ checkB (take 508 (drop from (now (s .entry))))) ⌝ }
+{
+    checksum(&s[from..from + 508])
 }

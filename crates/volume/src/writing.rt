@@ -13,7 +13,7 @@ ghost use Rattle.volume.specs.Write.{at, wordBytes, blockBody, sealed, b
 use super::answers::Written;
 use super::bytes::put16;
 use super::bytes::put32;
-use super::checksum::checksum;
+use super::checksum::block_sums;
 use super::order::fall_of;
 
 // The sum of the counts.
@@ -137,7 +137,7 @@ fn seal(out: &mut [u8])
     requires { ⌜ length (now out) ≡ 512 ⌝ }
     ensures { λ _. ⌜ now (out .exit) ≡ sealed (take 508 (now (out .entry))) ⌝ }
 {
-    let sums = checksum(&out[..508]);
+    let sums = block_sums(&out[..], 0);
     put16(out, 508, sums.a);
     put16(out, 510, sums.b);
 }

@@ -17,8 +17,8 @@ enum-known-checked c = search needs
 enum-known-checked-2 : tie.Need-enum-known-checked-2
 enum-known-checked-2 c = search needs
 
-place-of-requires : tie.Need-place-of-requires
-place-of-requires c κs = search needs
+code-of-requires : tie.Need-code-of-requires
+code-of-requires c κs = search needs
 
 returns : tie.Need-returns
 returns c = ap flatSizes (sym (ap saidChecked (c .before .checked .given .1)) ∙ c .before .before .before .check .ensures)
@@ -26,7 +26,7 @@ returns c = ap flatSizes (sym (ap saidChecked (c .before .checked .given .1)) �
 returns-2 : tie.Need-returns-2
 returns-2 c =
     let refused-as : ℕ → ℕ → VolumeSizes = λ n p. record { refusal = n; at = p; lists = 0; postings = 0 } in
-    ap₂ refused-as (c .place-of .ensures .0) (c .place-of .ensures .1)
+    ap₂ refused-as (c .code-of .ensures .0) (c .code-of .ensures .1)
     ∙ ap flatSizes (sym (ap saidChecked (c .before .before .checked2 .given .1)) ∙ c .before .before .before .before .check .ensures)
 
 pub lhz-check-volume-spec : {M : Type 1} → statement M
@@ -36,6 +36,6 @@ lhz-check-volume-spec =
     check-requires
     enum-known-checked
     enum-known-checked-2
-    place-of-requires
+    code-of-requires
     returns
     returns-2)

@@ -17,8 +17,8 @@ enum-known-read c = search needs
 enum-known-read-2 : tie.Need-enum-known-read-2
 enum-known-read-2 c = search needs
 
-place-of-requires : tie.Need-place-of-requires
-place-of-requires c κs = search needs
+code-of-requires : tie.Need-code-of-requires
+code-of-requires c κs = search needs
 
 enum-told : tie.Need-enum-told
 enum-told c = search needs
@@ -41,7 +41,7 @@ returns-2 : tie.Need-returns-2
 returns-2 c =
     let e = c .before .before .before .before .before .before .read-list .ensures in
     let refused-as : ℕ → ℕ → ListLength = λ n p. record { refusal = n; at = p; count = 0 } in
-    (ap₂ refused-as (c .place-of .ensures .0) (c .place-of .ensures .1) ∙ ap flatList (sym (ap saidRead (c .before .before .read2 .given .1)) ∙ e .0), e .1)
+    (ap₂ refused-as (c .code-of .ensures .0) (c .code-of .ensures .1) ∙ ap flatList (sym (ap saidRead (c .before .before .read2 .given .1)) ∙ e .0), e .1)
 
 same-length-3 : tie.Need-same-length-3
 same-length-3 c = search needs
@@ -66,7 +66,7 @@ lhz-read-list-spec =
     read-list-requires
     enum-known-read
     enum-known-read-2
-    place-of-requires
+    code-of-requires
     enum-told
     enum-told-2
     same-length

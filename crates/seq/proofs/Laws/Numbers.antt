@@ -3,7 +3,7 @@
 --     first-none, first-clear              no index passes the test: the search ends, and back
 --     first-le, first-at, first-before     where it ends; the test holds there; and at no index before
 --     run-end, run-step, run-snoc, run-append, run-ext, length-run, getD-run
---     sum-step, sum-more, sum-le, sum-mono, sum-within, sum-ext, sum-append
+--     sum-step, sum-more, sum-le, sum-mono, sum-within, sum-ext
 -- Assumes nothing.
 use Prim.Native.Nat.{ℕ, zero, suc, _+_, _-_, _<_, _≤_}
 use native.Mathlib.Nat.{add-zero, zero-add, suc-add, add-suc, le-refl, eq-or-lt-of-le}
@@ -154,8 +154,3 @@ pub sum-ext : (f g : ℕ → ℕ) (m : ℕ) → ((j : ℕ) → j < m → f j ≡
 unfolding sumTo
 sum-ext f g zero e = refl
 sum-ext f g (suc m) e = ap₂ (λ (a b : ℕ). a + b) (sum-ext f g m (λ j h. e j (omega arith))) (e m (omega arith))
-
-pub sum-append : (f : ℕ → ℕ) (a b : ℕ) → sumTo f (a + b) ≡ sumTo f a + sumTo (λ j. f (a + j)) b
-unfolding sumTo
-sum-append f a zero = rw (add-zero, add-zero)
-sum-append f a (suc b) = rw (add-suc a b) (ap (λ (n : ℕ). n + f (a + b)) (sum-append f a b) ∙ native.Mathlib.Nat.add-assoc (sumTo f a) (sumTo (λ j. f (a + j)) b) (f (a + b)))

@@ -1,16 +1,14 @@
 -- A buffer that is written from the front: what is written so far, then the rest of d as it was. No contract cites this file.
 --     put-next    one more element is stored
---     put-many    several are stored, as straight-line code does (`sets`)
 --     put-over    several are stored in the place of n, as a promise says it
 --     put-part    a part `&mut out[a..e]` comes back as ys
 -- Assumes nothing.
 use Prim.Native.Nat.{ℕ, suc, _+_, _-_, _<_, _≤_}
 use native.Mathlib.Numerals.{add-one}
-use native.Mathlib.Omega.{arith}
 use mathlib.Core.Path.{_≡_, sym, ap, ap₂, _∙_}
 use mathlib.Core.List.{List, [], _∷_, _++_, append-assoc}
-use lib.ListN.{length, getD, set, take, drop, length-append, length-drop}
-use lib.Seq.{drop-cons, set-at, append-snoc, sets, sets-eq, take-at, drop-append-add, drop-drop, drop-at}
+use lib.ListN.{length, getD, set, take, drop}
+use lib.Seq.{drop-cons, set-at, append-snoc, take-at, drop-append-add, drop-drop, drop-at}
 use borrow.Rule.Slice.PartMut.{putMid, post-is}
 
 module _ {A : Type 0} where
@@ -22,13 +20,6 @@ module _ {A : Type 0} where
   put-next xs d i x e h =
       ap (λ (l : List A). set (xs ++ l) i x) (drop-cons d i x h) ∙ set-at xs (getD d i x) (drop (suc i) d) x i e
       ∙ rw (add-one i) (sym (append-snoc xs x (drop (suc i) d)))
-
-  pub put-many : (xs d vs : List A) (i : ℕ) → length xs ≡ i → i + length vs ≤ length d → sets (xs ++ drop i d) i vs ≡ (xs ++ vs) ++ drop (i + length vs) d
-  put-many xs d vs i e h =
-      let room : i + length vs ≤ length (xs ++ drop i d) = simp (length-append, length-drop) (omega arith) in
-      sets-eq vs (xs ++ drop i d) i room
-      ∙ ap (λ (l : List A). l ++ vs ++ drop (i + length vs) (xs ++ drop i d)) (take-at xs (drop i d) i e)
-      ∙ ap (λ (l : List A). xs ++ vs ++ l) (drop-past xs (drop i d) i (length vs) e ∙ drop-drop (length vs) i d)
 
   pub put-over : (xs d vs : List A) (i n : ℕ) → length xs ≡ i → take i (xs ++ drop i d) ++ vs ++ drop (i + n) (xs ++ drop i d) ≡ (xs ++ vs) ++ drop (i + n) d
   put-over xs d vs i n e =

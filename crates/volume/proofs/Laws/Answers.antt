@@ -19,7 +19,7 @@ use Rattle.volume.specs.declared.answers.ListRead.the-variants as list
 use Rattle.volume.specs.declared.answers.Written.{Written}
 use Rattle.volume.specs.declared.answers.Written.the-variants as written
 use Rattle.volume.specs.Answers.{Sizes, saidRefusal, saidChecked, saidRead, saidWritten}
-use Rattle.volume.specs.Refusals.{placeIn, writeStage}
+use Rattle.volume.specs.Refusals.{indexIn, writeStage}
 use Rattle.volume.specs.Demands.{OneToOne}
 
 -- the refusal with a number, by a list from 0, and a place
@@ -78,7 +78,7 @@ heard-read list.NoList = refl
 heard-read list.Short = refl
 
 heard-written : (a : Written) → heardWritten (saidWritten a) ≡ a
-unfolding writeStage placeIn
+unfolding writeStage indexIn
 heard-written (written.Blocks n) = refl
 heard-written written.ListCount = refl
 heard-written written.CountSum = refl

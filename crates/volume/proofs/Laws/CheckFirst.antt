@@ -18,7 +18,7 @@ use Rattle.volume.specs.Answers.{Sizes}
 use Rattle.volume.specs.Checksum.{checkA, checkB}
 use Rattle.volume.specs.Layout.{blocks, blockNumber, covered, storedA, storedB, word, version, listCount, extent, postingsOf}
 use Rattle.volume.specs.Check.{lengthWrong, numberWrong, checksumWrong, blockWrong, badBlock, blocksWrong, versionWrong, listCountWrong, extentWrong, orderWrong, badList, listsWrong, paddingWrong, badWord, tailWrong, sizes, streamVerdict, verdict}
-use Rattle.volume.specs.Refusals.{LeastBlocks, VolumeApplies, wrongLength, wrongNumber, wrongChecksum, wrongVersion, wrongListCount, wrongExtent, wrongOrder, wrongPadding, placeIn, volumeStage}
+use Rattle.volume.specs.Refusals.{LeastBlocks, VolumeApplies, wrongLength, wrongNumber, wrongChecksum, wrongVersion, wrongListCount, wrongExtent, wrongOrder, wrongPadding, indexIn, volumeStage}
 use Rattle.seq.proofs.Laws.Decides.{holds}
 use Rattle.seq.proofs.Laws.Ladder.{Clear, clear-next, first-of, searched, single, choice}
 use Rattle.volume.proofs.Laws.Check.{lengthWrong-decides, numberWrong-decides, checksumWrong-decides, versionWrong-decides, listCountWrong-decides, extentWrong-decides, orderWrong-decides, paddingWrong-decides, blocks-clear, lists-clear, tail-clear, blocks-found, lists-found, tail-found}
@@ -41,7 +41,7 @@ module _ (v : List ℕ) where
 
   -- each refusal says what its stage does
   at-stage : (m q : ℕ) → VolumeApplies v m q → AtStage m q (volumeStage m)
-  unfolding volumeStage placeIn
+  unfolding volumeStage indexIn
   at-stage m q (wrongLength h) = (refl, (refl, h))
   at-stage m q (wrongNumber k l h) = (l, inl (refl, h))
   at-stage m q (wrongChecksum k l h) = (l, inr (refl, h))
@@ -57,7 +57,7 @@ module _ (v : List ℕ) where
 
   -- there are seven stages
   stage-le : (m q : ℕ) → VolumeApplies v m q → volumeStage m ≤ 6
-  unfolding volumeStage placeIn
+  unfolding volumeStage indexIn
   stage-le m q (wrongLength h) = omega arith
   stage-le m q (wrongNumber k l h) = omega arith
   stage-le m q (wrongChecksum k l h) = omega arith
@@ -82,7 +82,7 @@ module _ (v : List ℕ) where
   from-end c = end volumeStage (VolumeApplies v) (sizes v) (λ m q a. let h = c m q a in let l = stage-le m q a in omega arith)
 
   from-tail : IsClear 6 → IsSound (cond (tailWrong v) (refused 8 (badWord v)) (answered (sizes v)))
-  unfolding volumeStage placeIn
+  unfolding volumeStage indexIn
   from-tail c =
       searched volumeStage (VolumeApplies v) (sizes v) (tailWrong v) 8 (badWord v) (answered (sizes v)) _ c (at-this 6)
       (λ e.
@@ -94,7 +94,7 @@ module _ (v : List ℕ) where
       from-end
 
   from-order : IsClear 5 → (rest : Said Sizes) → (IsClear 6 → IsSound rest) → IsSound (cond (listsWrong v) (refused 7 (badList v)) rest)
-  unfolding volumeStage placeIn
+  unfolding volumeStage indexIn
   from-order c rest later =
       searched volumeStage (VolumeApplies v) (sizes v) (listsWrong v) 7 (badList v) rest _ c (at-this 5)
       (λ e.
@@ -122,7 +122,7 @@ module _ (v : List ℕ) where
 
   -- 2 at the lowest wrong block, or 3 there
   first-number : IsClear 1 → blocksWrong v ≡ true → numberWrong v (badBlock v) ≡ true → IsFirst 2 (badBlock v)
-  unfolding volumeStage placeIn
+  unfolding volumeStage indexIn
   first-number c e t =
       first-of volumeStage (VolumeApplies v) 2 (badBlock v) c
       (wrongNumber (badBlock v) (blocks-found v e .0) (numberWrong-decides v (badBlock v) .yes t))
@@ -132,7 +132,7 @@ module _ (v : List ℕ) where
       not-less m q w h = ⊎-elim (λ (x : (m ≡ 2) × (blockNumber v q ≢ q)). let y = x .0 in omega arith) (λ x. let y : m ≡ 3 = x .0 in omega arith) w
 
   first-checksum : IsClear 1 → blocksWrong v ≡ true → numberWrong v (badBlock v) ≡ false → IsFirst 3 (badBlock v)
-  unfolding volumeStage placeIn blockWrong
+  unfolding volumeStage indexIn blockWrong
   first-checksum c e t =
       first-of volumeStage (VolumeApplies v) 3 (badBlock v) c
       (wrongChecksum (badBlock v) (blocks-found v e .0) (checksumWrong-decides v (badBlock v) .yes (⊎-elim (λ x. absurd (contrary x t)) (λ x. x) (either (numberWrong v (badBlock v)) (checksumWrong v (badBlock v)) (blocks-found v e .1)))))
@@ -142,14 +142,14 @@ module _ (v : List ℕ) where
       not-less m q w e h = ⊎-elim (λ (x : (m ≡ 2) × (blockNumber v q ≢ q)). contrary (holds (numberWrong-decides v q) (x .1)) (rw e t)) (λ x. let y : m ≡ 3 = x .0 in omega arith) w
 
   from-blocks : IsClear 1 → (rest : Said Sizes) → (IsClear 2 → IsSound rest) → IsSound (cond (blocksWrong v) (cond (numberWrong v (badBlock v)) (refused 2 (badBlock v)) (refused 3 (badBlock v))) rest)
-  unfolding volumeStage placeIn
+  unfolding volumeStage indexIn
   from-blocks c rest later =
       choice volumeStage (VolumeApplies v) (sizes v) (blocksWrong v) (numberWrong v (badBlock v)) 2 3 (badBlock v) rest (first-number c) (first-checksum c)
       (λ e. later (clear-next volumeStage (VolumeApplies v) 1 c (λ m q a s. let w = at-this 1 m q a s in in-order m q (blocks-clear v e q (w .0)) (w .1))))
 
   -- the whole ladder
   pub check-sound : IsSound (verdict v)
-  unfolding verdict streamVerdict volumeStage placeIn
+  unfolding verdict streamVerdict volumeStage indexIn
   check-sound =
       single volumeStage (VolumeApplies v) (sizes v) (lengthWrong v) 1 _ _ (lengthWrong-decides v) wrongLength (λ m q a. omega arith) (at-this 0)
       (λ c1. from-blocks c1 _

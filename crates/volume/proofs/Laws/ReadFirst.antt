@@ -14,7 +14,7 @@ use Rattle.seq.proofs.Laws.Refusals.{Sound, end, rung, first-refusal}
 use Rattle.volume.specs.Layout.{listCount, count}
 use Rattle.volume.specs.Check.{sizes, verdict}
 use Rattle.volume.specs.Read.{readBy, readAnswer}
-use Rattle.volume.specs.Refusals.{VolumeApplies, wrongLength, wrongNumber, wrongChecksum, wrongVersion, wrongListCount, wrongExtent, wrongOrder, wrongPadding, ReadApplies, ofVolume, noList, shortBuffer, placeIn, volumeStage, readStage}
+use Rattle.volume.specs.Refusals.{VolumeApplies, wrongLength, wrongNumber, wrongChecksum, wrongVersion, wrongListCount, wrongExtent, wrongOrder, wrongPadding, ReadApplies, ofVolume, noList, shortBuffer, indexIn, volumeStage, readStage}
 use Rattle.seq.proofs.Laws.Decides.{Decides, same-decides, leb-decides, ltb-decides}
 use Rattle.seq.proofs.Laws.Ladder.{Clear, single}
 use Rattle.volume.proofs.Laws.CheckFirst.{check-sound}
@@ -22,7 +22,7 @@ use Rattle.volume.proofs.Laws.CheckFirst.{check-sound}
 module _ (v : List ℕ) (i room : ℕ) where
   -- the refusals of the volume have the same stages, in front of the others
   same-stage : (m q : ℕ) → VolumeApplies v m q → (readStage m ≡ volumeStage m) × (readStage m ≤ 6)
-  unfolding readStage volumeStage placeIn
+  unfolding readStage volumeStage indexIn
   same-stage m q (wrongLength h) = (refl, omega arith)
   same-stage m q (wrongNumber k l h) = (refl, omega arith)
   same-stage m q (wrongChecksum k l h) = (refl, omega arith)
@@ -34,7 +34,7 @@ module _ (v : List ℕ) (i room : ℕ) where
 
   -- the first refusal of the volume is the first of the call
   of-volume : (n p : ℕ) → First volumeStage (VolumeApplies v) n p → First readStage (ReadApplies v i room) n p
-  unfolding readStage placeIn
+  unfolding readStage indexIn
   of-volume n p f = record { applies = ofVolume n p (f .applies); nothing-before = before }
     where
       here : (readStage n ≡ volumeStage n) × (readStage n ≤ 6)
@@ -69,7 +69,7 @@ module _ (v : List ℕ) (i room : ℕ) where
 
   -- the rungs behind an accepted volume
   from-list : ((n p : ℕ) → VolumeApplies v n p → ⊥) → IsSound (cond (leb (listCount v) i) (refused 17 0) (cond (ltb room (count v i)) (refused 16 0) (answered (count v i))))
-  unfolding readStage placeIn
+  unfolding readStage indexIn
   from-list none =
       single readStage (ReadApplies v i room) (count v i) (leb (listCount v) i) 17 _ _ (leb-decides (listCount v) i) noList clear seventeen
       (λ c. single readStage (ReadApplies v i room) (count v i) (ltb room (count v i)) 16 _ _ (fits c) (λ w. shortBuffer (w .0) (w .1)) c sixteen

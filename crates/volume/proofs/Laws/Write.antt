@@ -1,6 +1,6 @@
 -- The laws of `specs/Write.antt`: the bytes of words and of blocks, and the stream by its parts. No contract cites this file.
 --     length-wordBytes, wordBytes-append, wordBytes-snoc, wordBytes-ext           the bytes of words
---     length-blockBody, length-sealed, length-block                               a block
+--     length-blockBody, length-sealed                                             a block
 --     length-blocksFrom, blocksFrom-append, blocksFrom-snoc                       blocks
 --     stream-count, stream-posting, stream-zero                                   the stream by its parts
 --     wordBytes-postings                                                          behind the counts the stream is the postings
@@ -47,9 +47,6 @@ unfolding sealed
 length-sealed xs = length-append xs _
 
 module _ (f : ℕ → ℕ) where
-  pub length-block : (k : ℕ) → length (sealed (blockBody f k)) ≡ 512
-  length-block k = let a = length-sealed (blockBody f k) in let b = length-blockBody f k in omega arith
-
   pub length-blocksFrom : (k m : ℕ) → length (blocksFrom f k m) ≡ 512 * m
   unfolding blocksFrom
   length-blocksFrom k zero = refl

@@ -16,7 +16,7 @@ use Rattle.seq.proofs.Laws.Numbers.{first-before}
 use Rattle.seq.proofs.Laws.Refusals.{Sound, end, first-refusal}
 use Rattle.volume.specs.Layout.{blocksFor}
 use Rattle.volume.specs.Write.{givenList, countsWrong, sumWrong, givenWrong, badGiven, givenListsWrong, tooLarge, shortOutput, writeAnswer}
-use Rattle.volume.specs.Refusals.{LeastBlocks, WriteApplies, wrongCounts, wrongSum, wrongGiven, overLarge, outputShort, placeIn, writeStage}
+use Rattle.volume.specs.Refusals.{LeastBlocks, WriteApplies, wrongCounts, wrongSum, wrongGiven, overLarge, outputShort, indexIn, writeStage}
 use Rattle.seq.proofs.Laws.Decides.{Decides, holds, same-decides}
 use Rattle.volume.proofs.Laws.Check.{least-blocksFor, blocksFor-least}
 use Rattle.volume.proofs.Laws.WriteAnswer.{countsWrong-decides, sumWrong-decides, givenWrong-decides, tooLarge-decides, shortOutput-decides, given-clear, given-found}
@@ -46,7 +46,7 @@ module _ (counts postings : List ℕ) (room : ℕ) where
 
   -- each refusal says what its stage does
   at-stage : (m q : ℕ) → WriteApplies counts postings room m q → AtStage m q (writeStage m)
-  unfolding writeStage placeIn
+  unfolding writeStage indexIn
   at-stage m q (wrongCounts h) = (refl, (refl, h))
   at-stage m q (wrongSum h) = (refl, (refl, h))
   at-stage m q (wrongGiven i l h) = (refl, (l, h))
@@ -59,7 +59,7 @@ module _ (counts postings : List ℕ) (room : ℕ) where
 
   -- there are five stages
   stage-le : (m q : ℕ) → WriteApplies counts postings room m q → writeStage m ≤ 4
-  unfolding writeStage placeIn
+  unfolding writeStage indexIn
   stage-le m q (wrongCounts h) = omega arith
   stage-le m q (wrongSum h) = omega arith
   stage-le m q (wrongGiven i l h) = omega arith
@@ -84,7 +84,7 @@ module _ (counts postings : List ℕ) (room : ℕ) where
       (λ w. let e : blocksFor (2 + length counts + length postings) ≡ w .0 = blocksFor-least (2 + length counts + length postings) (w .0) (w .1) in let h = w .2 in omega arith)
 
   from-order : IsClear 2 → (rest : Said ℕ) → (IsClear 3 → IsSound rest) → IsSound (cond (givenListsWrong counts postings) (refused 7 (badGiven counts postings)) rest)
-  unfolding writeStage placeIn
+  unfolding writeStage indexIn
   from-order c rest later =
       searched writeStage (WriteApplies counts postings room) value (givenListsWrong counts postings) 7 (badGiven counts postings) rest _ c (at-this 2)
       (λ e.
@@ -97,7 +97,7 @@ module _ (counts postings : List ℕ) (room : ℕ) where
 
   -- the whole ladder
   pub write-sound : IsSound (writeAnswer counts postings room)
-  unfolding writeAnswer writeStage placeIn
+  unfolding writeAnswer writeStage indexIn
   write-sound =
       single writeStage (WriteApplies counts postings room) value (countsWrong counts) 5 _ _ (countsWrong-decides counts postings) wrongCounts (λ m q a. omega arith) (at-this 0)
       (λ c1. single writeStage (WriteApplies counts postings room) value (sumWrong counts postings) 18 _ _ (sumWrong-decides counts postings) wrongSum c1 (at-this 1)

@@ -1,21 +1,12 @@
--- `volume::writing::seal` meets its contract: the two sums stand behind the 508 bytes that they are of.
--- Assumes nothing.
+-- `writing::seal` meets its contract: the two sums stand behind the 508 bytes that they are of. Assumes nothing.
 use native.Mathlib.Omega.{arith}
-use mathlib.Core.Path.{sym}
-use lib.Seq.{length-take-le}
 use denote.Ref.{now}
 use Rattle.volume.proofs.Laws.Storing.{put-sealed}
 use Rattle.volume.proofs.writing.seal.Statement.{statement}
 use Rattle.volume.proofs.writing.seal.Tie as tie
 
-slice-reshare-prefix-checksum : tie.Need-slice-reshare-prefix-checksum
-slice-reshare-prefix-checksum c = omega arith
-
-slice-aggregate-checksum : tie.Need-slice-aggregate-checksum
-slice-aggregate-checksum c = sym (length-take-le 508 (now (c .before .before .args .out)) (omega arith))
-
-checksum-requires : tie.Need-checksum-requires
-checksum-requires c κs = length-take-le 508 (now (c .before .before .args .out)) (omega arith)
+block-sums-requires : tie.Need-block-sums-requires
+block-sums-requires c κs = omega arith
 
 put16-requires : tie.Need-put16-requires
 put16-requires c κs = omega arith
@@ -30,18 +21,10 @@ returns : tie.Need-returns
 returns c =
     let a = c .before .before .before .before .before .before .before .before .before .before .before .args in
     put-sealed (now (a .out)) _ _ _ _ (omega arith)
-    (c .before .before .before .before .before .before .before .before .checksum .ensures)
+    (c .before .before .before .before .before .before .before .before .block-sums .ensures)
     (c .before .before .before .before .before .before .put16 .ensures)
     (c .before .before .put162 .ensures)
 
 pub seal-spec : {M : Type 1} → statement M
 seal-spec =
-    tie.close
-    (tie.spec
-    slice-reshare-prefix-checksum
-    slice-aggregate-checksum
-    checksum-requires
-    put16-requires
-    put16-requires-2
-    same-length
-    returns)
+    tie.close (tie.spec block-sums-requires put16-requires put16-requires-2 same-length returns)
