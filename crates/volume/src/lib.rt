@@ -1,8 +1,9 @@
 // Volumes: an inverted index as a file. `check` reads a volume's sizes or says why it is refused,
 // `read_list` copies a list out of it, and `write` makes the volume of given lists.
 //
-// No call has a `requires`. What each one answers, and what it leaves in a lent buffer, is an
-// equation with a definition of `specs/`.
+// None of the three has a `requires`. What each one answers, and what it leaves in a lent buffer, is
+// an equation with a definition of `specs/`. `word_at` and `list_span` serve the crates above, on a
+// volume that they have checked.
 mod answers;
 mod block;
 mod bytes;
