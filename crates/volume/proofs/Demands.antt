@@ -15,7 +15,8 @@ use Rattle.volume.proofs.Laws.Volume.{read-back}
 use Rattle.volume.proofs.Laws.Within.{volume-good, volume-lists, good-within}
 use Rattle.volume.proofs.Laws.Read.{read-kept, read-laid}
 use Rattle.volume.proofs.Laws.Reader as reader
-use Rattle.volume.proofs.Laws.Writer.{write-kept, write-laid, writes, writes-every}
+use Rattle.volume.proofs.Laws.WriteAnswer.{write-kept}
+use Rattle.volume.proofs.Laws.Writer.{write-laid, writes, writes-every}
 use Rattle.volume.proofs.Laws.Damage as changed
 use Rattle.volume.proofs.Laws.Answers as answers
 use Rattle.volume.proofs.Laws.Sample as computed

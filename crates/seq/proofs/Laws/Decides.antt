@@ -1,6 +1,7 @@
 -- A test decides a fact. No contract cites this file.
 --     Decides                         a test that is true where a fact holds, and false where it does not
 --     holds, fails                    the test from the fact
+--     decided, stable                 the fact holds or not; a fact that cannot fail holds
 --     eqb-decides, leb-decides, ltb-decides, not-decides, and-decides, or-decides, nand-decides, same-decides
 -- Assumes nothing.
 use Prim.Native.Nat.{ℕ, _<_, _≤_}
@@ -29,6 +30,10 @@ module _ {P : Type 0} {t : Bool} (d : Decides t P) where
   -- the fact holds or does not
   pub decided : P ⊎ (P → ⊥)
   decided = ⊎-elim (λ e. inl (d .yes e)) (λ e. inr (d .no e)) (true-or t)
+
+  -- a fact that cannot fail holds
+  pub stable : ((P → ⊥) → ⊥) → P
+  stable n = ⊎-elim (λ p. p) (λ q. absurd (n q)) decided
 
   pub not-decides : Decides (not t) (P → ⊥)
   not-decides = record { yes = λ e. d .no (not-true t e); no = λ e n. n (d .yes (not-false t e)) }

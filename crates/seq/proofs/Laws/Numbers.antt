@@ -1,7 +1,8 @@
 -- The laws of `specs/Numbers.antt`. No contract cites this file.
 --     first-end, first-hit, first-miss     one step of a search that is at k and ends at n
 --     first-none, first-clear              no index passes the test: the search ends, and back
---     first-le, first-at, first-before     where it ends; the test holds there; and at no index before
+--     first-le, first-ge, first-at, first-before     where it ends; the test holds there; and at no index before
+--     search-found, search-clear           a search that ends in front of n, and one that does not
 --     run-end, run-step, run-snoc, run-append, run-ext, length-run, getD-run
 --     sum-step, sum-more, sum-le, sum-mono, sum-within, sum-ext
 -- Assumes nothing.
@@ -13,6 +14,8 @@ use mathlib.Core.Path.{_≡_, refl, sym, ap, ap₂, _∙_}
 use mathlib.Core.Bool.{Bool, true, false, cond}
 use mathlib.Core.Logic.{⊎-elim}
 use mathlib.Core.List.{List, [], _∷_, _++_}
+use lib.Dec.{ltb}
+use borrow.Author.Tests.{ltb-true, ltb-false}
 use lib.ListN.{length, getD}
 use Rattle.seq.specs.Numbers.{firstFrom, run, sumTo}
 use Rattle.seq.proofs.Laws.Tests.{contrary, below-or}
@@ -90,6 +93,14 @@ module _ (test : ℕ → Bool) where
 
   pub first-clear : (k m : ℕ) → k + m ≤ firstFrom test k m → (j : ℕ) → k ≤ j → j < k + m → test j ≡ false
   first-clear k m h j a b = first-before k m j a (omega arith)
+
+-- a search as a test: whether it ends in front of n
+module _ (test : ℕ → Bool) (k m n : ℕ) where
+  pub search-found : n ≤ k + m → ltb (firstFrom test k m) n ≡ true → (firstFrom test k m < n) × (test (firstFrom test k m) ≡ true)
+  search-found h e = let f : firstFrom test k m < n = ltb-true (firstFrom test k m) n e in (f, first-at test k m (omega arith))
+
+  pub search-clear : ltb (firstFrom test k m) n ≡ false → (j : ℕ) → k ≤ j → j < n → test j ≡ false
+  search-clear e j a b = let f : n ≤ firstFrom test k m = ltb-false (firstFrom test k m) n e in first-before test k m j a (omega arith)
 
 module _ {A : Type 0} where
   pub run-end : (f : ℕ → A) (k n : ℕ) → n ≤ k → run f k (n - k) ≡ []

@@ -3,6 +3,7 @@
 --     rung, end      a ladder by its first test and the rest; its end
 --     first-refusal  a sound ladder answers the first refusal that applies
 --     before-or      of two refusals one comes before the other, or they are one
+--     past           behind a rung that refuses
 --     laid-refused, laid-answered
 -- Assumes nothing.
 use Prim.Native.Nat.{ℕ, _<_, _≤_}
@@ -25,6 +26,11 @@ laid-answered s a xs out e = rw e
 
 pub not-both : {A : Type 0} (s : Said A) (a : A) (n p : ℕ) → s ≡ answered a → s ≡ refused n p → ⊥
 not-both s a n p x y = let z : _≡_ {A = ℕ} 0 1 = cc in omega arith
+
+-- past a rung that refuses
+pub past : {A : Type 0} (t : Bool) (n p : ℕ) (rest : Said A) (a : A) → cond t (refused n p) rest ≡ answered a → (t ≡ false) × (rest ≡ answered a)
+past true n p rest a e = absurd (not-both (refused n p) a n p e refl)
+past false n p rest a e = (refl, e)
 
 lt-or : (a b : ℕ) → (a < b) ⊎ ((b < a) ⊎ (a ≡ b))
 lt-or a b = ⊎-elim (λ (h : a < b). inl h) (λ (h : b ≤ a). inr (⊎-elim (λ (k : b < a). inl k) (λ (k : a ≤ b). inr (omega arith)) (below-or b a))) (below-or a b)

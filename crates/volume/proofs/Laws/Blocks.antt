@@ -8,7 +8,6 @@ use native.Mathlib.Nat.{zero-add}
 use native.Mathlib.Omega.{arith}
 use mathlib.Core.Path.{_≡_, sym, ap, _∙_}
 use mathlib.Core.Bool.{false}
-use mathlib.Core.Logic.{⊎-elim}
 use mathlib.Core.List.{List, _++_, append-assoc}
 use lib.ListN.{take, drop}
 use lib.Seq.{take-at, drop-at, drop-drop}
@@ -17,8 +16,7 @@ use Rattle.volume.specs.Checksum.{checkA, checkB}
 use Rattle.volume.specs.Layout.{blockNumber, covered, storedA, storedB, offset, word}
 use Rattle.volume.specs.Check.{blockWrong}
 use Rattle.volume.specs.Write.{wordBytes, blockBody, sealed, blocksFrom}
-use Rattle.seq.proofs.Laws.Decides.{fails}
-use Rattle.volume.proofs.Laws.Check.{numberWrong-decides, checksumWrong-decides}
+use Rattle.volume.proofs.Laws.Check.{right-passes}
 use Rattle.volume.proofs.Laws.Bytes.{le16-at, le32-at}
 use Rattle.volume.proofs.Laws.Checksum.{checkA-lt, checkB-lt}
 use Rattle.volume.proofs.Laws.Write.{length-wordBytes, wordBytes-append, length-blockBody, length-blocksFrom, blocksFrom-append}
@@ -85,8 +83,7 @@ module _ (f : ℕ → ℕ) (n : ℕ) where
       le32-at (blocksFrom f 0 n) (wordBytes f (suc i) (126 - (i % 126 + 1)) ++ behind (i / 126)) (512 * (i / 126) + 4 + 4 * (i % 126)) (f i) l (rw e at d)
 
   pub block-right : (k : ℕ) → k < n → k < 4294967296 → blockWrong (blocksFrom f 0 n) k ≡ false
-  unfolding blockWrong
   block-right k h l =
-      let a = fails (numberWrong-decides (blocksFrom f 0 n) k) (λ w. w (number-is k h l)) in
-      let b = fails (checksumWrong-decides (blocksFrom f 0 n) k) (⊎-elim (λ w. w (storedA-is k h ∙ ap checkA (sym (covered-is k h)))) (λ w. w (storedB-is k h ∙ ap checkB (sym (covered-is k h))))) in
-      rw (a, b)
+      let c = covered-is k h in
+      right-passes (blocksFrom f 0 n) k
+      (record { number-right = number-is k h l; checkA-right = storedA-is k h ∙ ap checkA (sym c); checkB-right = storedB-is k h ∙ ap checkB (sym c) })

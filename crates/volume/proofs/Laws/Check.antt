@@ -2,6 +2,8 @@
 --     stream-version .. stream-answer     streamVerdict by its first test that fails
 --     verdict-length .. verdict-stream    verdict by its first test that fails
 --     lengthWrong-decides .. paddingWrong-decides    what each test decides
+--     Right, right, right-passes          what a block that is not wrong holds, and back
+--     blocks-clear .. tail-found          the tests of several places
 --     Good, good, accepted                what acceptance gives, and back
 -- Assumes nothing.
 use Prim.Native.Nat.{ℕ, _+_, _-_, _*_, _%_, _<_, _≤_}
@@ -12,18 +14,19 @@ use mathlib.Core.Logic.{_⊎_, inl, inr, ⊎-elim, _≢_}
 use mathlib.Core.List.{List}
 use lib.ListN.{length}
 use lib.Dec.{eqb, leb}
-use borrow.Author.Tests.{lt-ltb, le-ltb, ltb-true, ltb-false, not-false}
+use borrow.Author.Tests.{lt-ltb, le-ltb, not-false}
 use Rattle.seq.specs.Lists.{rises, NotRising}
 use Rattle.seq.specs.Numbers.{firstFrom}
-use Rattle.seq.proofs.Laws.Numbers.{first-none, first-clear, first-at, first-ge, sum-within}
-use Rattle.seq.proofs.Laws.Refusals.{not-both}
+use Rattle.seq.proofs.Laws.Numbers.{first-none, first-ge, search-found, search-clear, sum-within}
+use Rattle.seq.proofs.Laws.Refusals.{not-both, past}
 use Rattle.seq.specs.Refusals.{Said, refused, answered}
 use Rattle.volume.specs.Answers.{Sizes}
 use Rattle.volume.specs.Checksum.{checkA, checkB}
 use Rattle.volume.specs.Layout.{blocks, blockNumber, covered, storedA, storedB, word, version, listCount, count, extent, blocksFor, start, postingsOf}
 use Rattle.volume.specs.Check.{lengthWrong, numberWrong, checksumWrong, blockWrong, badBlock, blocksWrong, versionWrong, listCountWrong, extentWrong, orderWrong, badList, listsWrong, paddingWrong, badWord, tailWrong, sizes, streamVerdict, verdict, Accepted}
 use Rattle.volume.specs.Refusals.{LeastBlocks}
-use Rattle.seq.proofs.Laws.Decides.{Decides, decided, fails, not-decides, eqb-decides, leb-decides, ltb-decides, or-decides, nand-decides, same-decides}
+use Rattle.seq.proofs.Laws.Tests.{neither}
+use Rattle.seq.proofs.Laws.Decides.{Decides, stable, fails, not-decides, eqb-decides, leb-decides, ltb-decides, or-decides, nand-decides, same-decides}
 use Rattle.seq.proofs.Laws.Rising.{falls-decides}
 use Rattle.seq.proofs.Laws.Runs.{first-past}
 
@@ -151,6 +154,31 @@ module _ (v : List ℕ) where
   unfolding paddingWrong
   paddingWrong-decides i = not-decides (eqb-decides (word v i) 0)
 
+-- what a block that is not wrong holds
+pub record Right (v : List ℕ) (k : ℕ) : Type 0 where
+  pub number-right : blockNumber v k ≡ k
+  pub checkA-right : storedA v k ≡ checkA (covered v k)
+  pub checkB-right : storedB v k ≡ checkB (covered v k)
+
+module _ (v : List ℕ) (k : ℕ) where
+  pub right : blockWrong v k ≡ false → Right v k
+  unfolding blockWrong
+  right e = record {
+    number-right = stable (eqb-decides (blockNumber v k) k) (numberWrong-decides v k .no (w .0));
+    checkA-right = stable (eqb-decides (storedA v k) (checkA (covered v k))) (λ n. checksumWrong-decides v k .no (w .1) (inl n));
+    checkB-right = stable (eqb-decides (storedB v k) (checkB (covered v k))) (λ n. checksumWrong-decides v k .no (w .1) (inr n));
+  }
+    where
+      w : (numberWrong v k ≡ false) × (checksumWrong v k ≡ false)
+      w = neither (numberWrong v k) (checksumWrong v k) e
+
+  pub right-passes : Right v k → blockWrong v k ≡ false
+  unfolding blockWrong
+  right-passes r =
+      let a = fails (numberWrong-decides v k) (λ n. n (r .number-right)) in
+      let b = fails (checksumWrong-decides v k) (⊎-elim (λ n. n (r .checkA-right)) (λ n. n (r .checkB-right))) in
+      rw (a, b)
+
 -- no test of the verdict is met
 pub record Passed (v : List ℕ) : Type 0 where
   pub length-passed : lengthWrong v ≡ false
@@ -160,11 +188,6 @@ pub record Passed (v : List ℕ) : Type 0 where
   pub extent-passed : extentWrong v ≡ false
   pub lists-passed : listsWrong v ≡ false
   pub tail-passed : tailWrong v ≡ false
-
--- past a rung that refuses
-pub past : {A : Type 0} (t : Bool) (n p : ℕ) (rest : Said A) (a : A) → cond t (refused n p) rest ≡ answered a → (t ≡ false) × (rest ≡ answered a)
-past true n p rest a e = absurd (not-both (refused n p) a n p e refl)
-past false n p rest a e = (refl, e)
 
 module _ (v : List ℕ) where
   past-blocks : (s : Sizes) → cond (blocksWrong v) (cond (numberWrong v (badBlock v)) (refused 2 (badBlock v)) (refused 3 (badBlock v))) (streamVerdict v) ≡ answered s → (blocksWrong v ≡ false) × (streamVerdict v ≡ answered s)
@@ -225,65 +248,55 @@ module _ (v : List ℕ) where
   pub list-within : (i : ℕ) → i < listCount v → start v i + count v i ≤ extent v
   list-within i h = let w = sum-within (count v) i (listCount v) h in omega arith
 
+  -- where the test of several places fails no place is wrong; where it holds the place that is told is
   pub blocks-clear : blocksWrong v ≡ false → (k : ℕ) → k < blocks v → blockWrong v k ≡ false
   unfolding blocksWrong
-  blocks-clear e k h =
-      let a : 0 + blocks v ≤ badBlock v = let b : blocks v ≤ badBlock v = ltb-false (badBlock v) (blocks v) e in omega arith in
-      first-clear (blockWrong v) 0 (blocks v) a k (omega arith) (omega arith)
+  blocks-clear e k h = search-clear (blockWrong v) 0 (blocks v) (blocks v) e k (omega arith) h
+
+  pub blocks-found : blocksWrong v ≡ true → (badBlock v < blocks v) × (blockWrong v (badBlock v) ≡ true)
+  unfolding blocksWrong
+  blocks-found e = search-found (blockWrong v) 0 (blocks v) (blocks v) (omega arith) e
 
   pub lists-clear : listsWrong v ≡ false → (i : ℕ) → i < listCount v → orderWrong v i ≡ false
   unfolding listsWrong
-  lists-clear e i h =
-      let a : 0 + listCount v ≤ badList v = let b : listCount v ≤ badList v = ltb-false (badList v) (listCount v) e in omega arith in
-      first-clear (orderWrong v) 0 (listCount v) a i (omega arith) (omega arith)
-
-  pub tail-clear : tailWrong v ≡ false → (i : ℕ) → extent v ≤ i → i < 126 * blocks v → paddingWrong v i ≡ false
-  unfolding tailWrong
-  tail-clear e i l h =
-      let a : extent v + (126 * blocks v - extent v) ≤ badWord v = let b : 126 * blocks v ≤ badWord v = ltb-false (badWord v) (126 * blocks v) e in omega arith in
-      first-clear (paddingWrong v) (extent v) (126 * blocks v - extent v) a i l (omega arith)
-
-  -- the test holds at the place that is told
-  pub blocks-found : blocksWrong v ≡ true → (badBlock v < blocks v) × (blockWrong v (badBlock v) ≡ true)
-  unfolding blocksWrong
-  blocks-found e = let h : badBlock v < blocks v = ltb-true (badBlock v) (blocks v) e in (h, first-at (blockWrong v) 0 (blocks v) (omega arith))
+  lists-clear e i h = search-clear (orderWrong v) 0 (listCount v) (listCount v) e i (omega arith) h
 
   pub lists-found : listsWrong v ≡ true → (badList v < listCount v) × (orderWrong v (badList v) ≡ true)
   unfolding listsWrong
-  lists-found e = let h : badList v < listCount v = ltb-true (badList v) (listCount v) e in (h, first-at (orderWrong v) 0 (listCount v) (omega arith))
+  lists-found e = search-found (orderWrong v) 0 (listCount v) (listCount v) (omega arith) e
+
+  pub tail-clear : tailWrong v ≡ false → (i : ℕ) → extent v ≤ i → i < 126 * blocks v → paddingWrong v i ≡ false
+  unfolding tailWrong
+  tail-clear e i l h = search-clear (paddingWrong v) (extent v) (126 * blocks v - extent v) (126 * blocks v) e i l h
 
   pub tail-found : tailWrong v ≡ true → (extent v ≤ badWord v) × (badWord v < 126 * blocks v) × (paddingWrong v (badWord v) ≡ true)
   unfolding tailWrong
   tail-found e =
-      let h : badWord v < 126 * blocks v = ltb-true (badWord v) (126 * blocks v) e in
-      let l : extent v ≤ badWord v = first-ge (paddingWrong v) (extent v) (126 * blocks v - extent v) in
-      (l, h, first-at (paddingWrong v) (extent v) (126 * blocks v - extent v) (omega arith))
+      let f = search-found (paddingWrong v) (extent v) (126 * blocks v - extent v) (126 * blocks v) (omega arith) e in
+      (first-ge (paddingWrong v) (extent v) (126 * blocks v - extent v), f .0, f .1)
 
   pub good : Accepted v → Good v
   unfolding orderWrong
   good e = record {
-    whole = let m : length v % 512 ≡ 0 = fact (eqb-decides (length v % 512) 0) (λ n. len (inr (inl n))) in omega arith;
+    whole = let m : length v % 512 ≡ 0 = stable (eqb-decides (length v % 512) 0) (λ n. len (inr (inl n))) in omega arith;
     blocks-some =
-        let m : length v % 512 ≡ 0 = fact (eqb-decides (length v % 512) 0) (λ n. len (inr (inl n))) in
+        let m : length v % 512 ≡ 0 = stable (eqb-decides (length v % 512) 0) (λ n. len (inr (inl n))) in
         let z : length v ≢ 0 = λ (q : length v ≡ 0). len (inl q) in
         omega arith;
     blocks-most = not-lt (λ h. len (inr (inr h)));
     blocks-right = blocks-clear (p .blocks-passed);
-    version-is = fact (eqb-decides (version v) 1) (versionWrong-decides v .no (p .version-passed));
+    version-is = stable (eqb-decides (version v) 1) (versionWrong-decides v .no (p .version-passed));
     lists-some = at-least (λ h. range (inl h));
     lists-most = not-lt (λ h. range (inr h));
     blocks-are = blocksFor-least (extent v) (blocks v) least;
     fits = least .enough;
     lists-rise = λ i h. not-false (rises (postingsOf v i)) (lists-clear (p .lists-passed) i h);
     lists-within = list-within;
-    zeros = λ i l h. fact (eqb-decides (word v i) 0) (paddingWrong-decides v i .no (tail-clear (p .tail-passed) i l h));
+    zeros = λ i l h. stable (eqb-decides (word v i) 0) (paddingWrong-decides v i .no (tail-clear (p .tail-passed) i l h));
   }
     where
       p : Passed v
       p = passed v e
-
-      fact : {P : Type 0} {t : Bool} → Decides t P → ((P → ⊥) → ⊥) → P
-      fact d nn = ⊎-elim (λ y. y) (λ n. absurd (nn n)) (decided d)
 
       not-lt : {a b : ℕ} → (a < b → ⊥) → b ≤ a
       not-lt h = omega arith
@@ -298,7 +311,7 @@ module _ (v : List ℕ) where
       range = listCountWrong-decides v .no (p .listCount-passed)
 
       least : LeastBlocks (extent v) (blocks v)
-      least = fact (least-decides (extent v) (blocks v)) (extentWrong-decides v .no (p .extent-passed))
+      least = stable (least-decides (extent v) (blocks v)) (extentWrong-decides v .no (p .extent-passed))
 
   pub good-passed : Good v → Passed v
   unfolding orderWrong

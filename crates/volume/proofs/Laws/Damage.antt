@@ -16,19 +16,9 @@ use Rattle.volume.specs.Bytes.{IsBytes, le16, le32}
 use Rattle.volume.specs.Checksum.{checkA, checkB}
 use Rattle.volume.specs.Layout.{blocks, covered}
 use Rattle.volume.specs.Check.{lengthWrong, numberWrong, blockWrong, badBlock, blocksWrong, verdict, Accepted}
-use Rattle.seq.proofs.Laws.Decides.{fails}
 use Rattle.volume.proofs.Laws.Checksum.{checkA-late}
-use Rattle.volume.proofs.Laws.Check.{numberWrong-decides, checksumWrong-decides, verdict-number, verdict-checksum, blocksWrong-true, passed, good, Good}
+use Rattle.volume.proofs.Laws.Check.{Right, right, right-passes, verdict-number, verdict-checksum, blocksWrong-true, passed, good, Good}
 use Rattle.seq.proofs.Laws.Runs.{first-is, total-differs}
-use Rattle.volume.proofs.Laws.Rebuild.{Right, right}
-
--- a block that holds its number and its checksum is not wrong
-right-passes : (v : List ℕ) (k : ℕ) → Right v k → blockWrong v k ≡ false
-unfolding blockWrong
-right-passes v k r =
-    let a = fails (numberWrong-decides v k) (λ n. n (r .number-right)) in
-    let b = fails (checksumWrong-decides v k) (⊎-elim (λ n. n (r .checkA-right)) (λ n. n (r .checkB-right))) in
-    rw (a, b)
 
 -- the test of the length reads nothing else
 lengthWrong-same : (w v : List ℕ) → length w ≡ length v → lengthWrong w ≡ lengthWrong v

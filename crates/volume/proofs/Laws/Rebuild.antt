@@ -8,40 +8,18 @@ use native.Mathlib.Nat.{add-zero, add-suc}
 use native.Mathlib.Omega.{arith}
 use mathlib.Core.Path.{_≡_, refl, sym, ap, ap₂, _∙_}
 use mathlib.Core.Bool.{false}
-use mathlib.Core.Logic.{_≢_, inl, inr, ⊎-elim}
 use mathlib.Core.List.{List, _++_}
 use lib.ListN.{length, take, drop, take-append-drop, drop-of-length-le}
 use lib.Seq.{drop-drop, take-add}
-use Rattle.seq.proofs.Laws.Tests.{neither}
 use Rattle.volume.specs.Bytes.{IsBytes, le32, bytes16, bytes32}
 use Rattle.volume.specs.Checksum.{checkA, checkB}
-use Rattle.volume.specs.Layout.{blockNumber, covered, storedA, storedB, word}
-use Rattle.volume.specs.Check.{numberWrong, checksumWrong, blockWrong}
+use Rattle.volume.specs.Layout.{blockNumber, covered, word}
+use Rattle.volume.specs.Check.{blockWrong}
 use Rattle.volume.specs.Write.{wordBytes, blockBody, sealed, blocksFrom}
-use Rattle.seq.proofs.Laws.Decides.{decided, eqb-decides}
-use Rattle.volume.proofs.Laws.Check.{numberWrong-decides, checksumWrong-decides}
+use Rattle.volume.proofs.Laws.Check.{Right, right}
+use Rattle.volume.proofs.Laws.Write.{wordBytes-ext}
 use Rattle.volume.proofs.Laws.Stream.{offset-in-block}
 use Rattle.volume.proofs.Laws.Bytes.{bytes16-of, bytes32-of}
-
--- what a block that is not wrong holds
-pub record Right (v : List ℕ) (k : ℕ) : Type 0 where
-  pub number-right : blockNumber v k ≡ k
-  pub checkA-right : storedA v k ≡ checkA (covered v k)
-  pub checkB-right : storedB v k ≡ checkB (covered v k)
-
-pub right : (v : List ℕ) (k : ℕ) → blockWrong v k ≡ false → Right v k
-unfolding blockWrong
-right v k e = record {
-  number-right = fact (blockNumber v k) k (λ n. numberWrong-decides v k .no (w .0) n);
-  checkA-right = fact (storedA v k) (checkA (covered v k)) (λ n. checksumWrong-decides v k .no (w .1) (inl n));
-  checkB-right = fact (storedB v k) (checkB (covered v k)) (λ n. checksumWrong-decides v k .no (w .1) (inr n));
-}
-  where
-    w : (numberWrong v k ≡ false) × (checksumWrong v k ≡ false)
-    w = neither (numberWrong v k) (checksumWrong v k) e
-
-    fact : (a b : ℕ) → ((a ≢ b) → ⊥) → a ≡ b
-    fact a b nn = ⊎-elim (λ q. q) (λ n. absurd (nn n)) (decided (eqb-decides a b))
 
 module _ (v : List ℕ) (bytes : IsBytes v) where
   -- m words of block k from word r on
@@ -103,15 +81,10 @@ module _ (v : List ℕ) (bytes : IsBytes v) where
 
 -- blocks of two streams that agree
 module _ (f g : ℕ → ℕ) where
-  wordBytes-ext : (k m : ℕ) → ((j : ℕ) → k ≤ j → j < k + m → f j ≡ g j) → wordBytes f k m ≡ wordBytes g k m
-  unfolding wordBytes
-  wordBytes-ext k zero e = refl
-  wordBytes-ext k (suc m) e = ap₂ (λ (x : ℕ) (l : List ℕ). bytes32 x ++ l) (e k (omega arith) (omega arith)) (wordBytes-ext (suc k) m (λ j a b. e j (omega arith) (omega arith)))
-
   pub blocksFrom-ext : (k m : ℕ) → ((j : ℕ) → 126 * k ≤ j → j < 126 * (k + m) → f j ≡ g j) → blocksFrom f k m ≡ blocksFrom g k m
   unfolding blocksFrom blockBody
   blocksFrom-ext k zero e = refl
   blocksFrom-ext k (suc m) e =
       ap₂ (λ (x l : List ℕ). sealed (bytes32 k ++ x) ++ l)
-      (wordBytes-ext (126 * k) 126 (λ j a b. e j a (omega arith)))
+      (wordBytes-ext f g (126 * k) (126 * k) 126 (λ j h. e (126 * k + j) (omega arith) (omega arith)))
       (blocksFrom-ext (suc k) m (λ j a b. e j (omega arith) (omega arith)))

@@ -11,17 +11,18 @@ use Prim.Native.Nat.{ℕ, suc, _+_, _*_, _-_, _%_, _<_, _≤_}
 use native.Mathlib.Nat.{add-suc, suc-mul}
 use native.Mathlib.Numerals.{add-one}
 use native.Mathlib.Omega.{arith}
-use mathlib.Core.Path.{_≡_, refl, ap, _∙_}
+use mathlib.Core.Path.{_≡_, refl, ap}
 use mathlib.Core.List.{List, [], _∷_}
 use lib.ListN.{length, getD, drop, length-drop, drop-of-length-le}
 use lib.Seq.{drop-cons}
 use Rattle.seq.specs.Numbers.{sumTo}
-use Rattle.seq.proofs.Laws.Numbers.{sum-step, sum-le}
+use Rattle.seq.proofs.Laws.Numbers.{sum-step, sum-mono}
 use Rattle.volume.specs.declared.checksum.Row.{Row}
 use Rattle.volume.specs.declared.checksum.Part.{Part}
 use Rattle.volume.specs.Checksum.{checkA, checkB}
 use Rattle.seq.specs.Lists.{total}
 use Rattle.volume.specs.Sums.{tot, weigh, rowAt, zeros, plus, columns, slope, Within, Room, tri, Rows, Sevens}
+use Rattle.volume.proofs.Laws.Bytes.{drop-four}
 use Rattle.volume.proofs.Laws.Checksum.{checkA-late, checkB-late}
 
 columns-zeros : columns zeros ≡ 0
@@ -80,7 +81,7 @@ tri-step : (i : ℕ) → tri (i + 1) ≡ tri i + i
 tri-step i = sum-step (λ j. j) i
 
 tri-le : (i k : ℕ) → i ≤ k → tri i ≤ tri k
-tri-le i k h = let e : i + (k - i) ≡ k = omega arith in rw e at (sum-le (λ j. j) i (k - i))
+tri-le i k h = sum-mono (λ j. j) i k h
 
 module _ {s : List ℕ} {o : ℕ} {near₀ : Row} where
   pub rows-first : Rows s o near₀ 0 zeros near₀
@@ -149,9 +150,6 @@ module _ {s : List ℕ} where
     pub sevens-room-all : {more : Row} → i ≤ 8 → Within 1785 more → Room all more
     sevens-room-all h w = room-of (t .all-within) w (omega arith)
 
-  drop-four : 4 ≤ length s → s ≡ getD s 0 0 ∷ getD s 1 0 ∷ getD s 2 0 ∷ getD s 3 0 ∷ drop 4 s
-  drop-four h = drop-cons s 0 0 (omega arith) ∙ rw (drop-cons s 1 0 (omega arith), drop-cons s 2 0 (omega arith), drop-cons s 3 0 (omega arith))
-
   module _ {t : Part} (d : Sevens s 9 t) (e : length s ≡ 508) where
     drop-done : drop 508 s ≡ []
     drop-done = drop-of-length-le s {i = 508} (omega arith)
@@ -165,8 +163,8 @@ module _ {s : List ℕ} where
 
     pub checkA-done : {n : ℕ} → n ≡ 1 + getD s 0 0 + getD s 1 0 + getD s 2 0 + getD s 3 0 → (n + columns (t .all)) % 65535 ≡ checkA s
     unfolding total
-    checkA-done h = rw checkA-late (ap (λ (a : ℕ). a % 65535) (omega (arith, ap tot (drop-four (omega arith)), rw drop-done at (d .tot-is))))
+    checkA-done h = rw checkA-late (ap (λ (a : ℕ). a % 65535) (omega (arith, ap tot (drop-four s 0 (omega arith)), rw drop-done at (d .tot-is))))
 
     pub checkB-done : {n : ℕ} → n ≡ 508 + 508 * getD s 0 0 + 507 * getD s 1 0 + 506 * getD s 2 0 + 505 * getD s 3 0 → (n + (8 * columns (t .near) + 56 * columns (t .far) - slope (t .all))) % 65535 ≡ checkB s
     unfolding weigh
-    checkB-done h = rw (checkB-late, e) (ap (λ (b : ℕ). b % 65535) (omega (arith, weigh-done, rw (length-drop 4 s, e) at (ap weigh (drop-four (omega arith))))))
+    checkB-done h = rw (checkB-late, e) (ap (λ (b : ℕ). b % 65535) (omega (arith, weigh-done, rw (length-drop 4 s, e) at (ap weigh (drop-four s 0 (omega arith))))))

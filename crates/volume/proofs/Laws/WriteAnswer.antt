@@ -3,6 +3,7 @@
 --     countsWrong-decides .. shortOutput-decides      what each test decides
 --     given-clear, given-found                        no given list is wrong; one is
 --     givenWrong-is                                   the test of a given list by whether it rises
+--     write-kept                                      a refusal leaves the output
 --     refuses-counts .. refuses-short, answers        the answer with the output afterwards
 -- Assumes nothing.
 use Prim.Native.Nat.{ℕ, _+_, _*_, _-_, _<_, _≤_}
@@ -13,11 +14,11 @@ use mathlib.Core.Bool.{Bool, true, false, not}
 use mathlib.Core.Logic.{_⊎_, _≢_, ⊎-elim}
 use mathlib.Core.List.{List, _++_}
 use lib.ListN.{length, drop}
-use borrow.Author.Tests.{lt-ltb, le-ltb, ltb-true, ltb-false}
+use borrow.Author.Tests.{lt-ltb, le-ltb}
 use Rattle.seq.specs.Lists.{total, rises, NotRising}
 use Rattle.seq.specs.Numbers.{run, sumTo}
 use Rattle.seq.specs.Refusals.{refused, answered}
-use Rattle.seq.proofs.Laws.Numbers.{first-at, first-clear}
+use Rattle.seq.proofs.Laws.Numbers.{search-found, search-clear}
 use Rattle.volume.specs.Layout.{blocksFor}
 use Rattle.volume.specs.Write.{at, blocksFrom, streamOf, written, givenList, countsWrong, sumWrong, givenWrong, badGiven, givenListsWrong, tooLarge, shortOutput, writeAnswer, writeOut}
 use Rattle.seq.proofs.Laws.Decides.{Decides, holds, fails, not-decides, eqb-decides, ltb-decides}
@@ -85,15 +86,11 @@ module _ (counts postings : List ℕ) where
 
   pub given-clear : givenListsWrong counts postings ≡ false → (i : ℕ) → i < length counts → givenWrong counts postings i ≡ false
   unfolding givenListsWrong
-  given-clear e i h =
-      let a : 0 + length counts ≤ badGiven counts postings = let b : length counts ≤ badGiven counts postings = ltb-false (badGiven counts postings) (length counts) e in omega arith in
-      first-clear (givenWrong counts postings) 0 (length counts) a i (omega arith) (omega arith)
+  given-clear e i h = search-clear (givenWrong counts postings) 0 (length counts) (length counts) e i (omega arith) h
 
   pub given-found : givenListsWrong counts postings ≡ true → (badGiven counts postings < length counts) × (givenWrong counts postings (badGiven counts postings) ≡ true)
   unfolding givenListsWrong
-  given-found e =
-      let h : badGiven counts postings < length counts = ltb-true (badGiven counts postings) (length counts) e in
-      (h, first-at (givenWrong counts postings) 0 (length counts) (omega arith))
+  given-found e = search-found (givenWrong counts postings) 0 (length counts) (length counts) (omega arith) e
 
 -- the test of given list i by r, whether it rises
 pub givenWrong-is : (counts postings : List ℕ) (i from : ℕ) (r : Bool) → from ≡ sumTo (at counts) i → r ≡ rises (run (at postings) from (from + at counts i - from)) → givenWrong counts postings i ≡ not r
@@ -113,9 +110,13 @@ module _ (counts postings out : List ℕ) where
   abbrev pub Refuses : ℕ → ℕ → Type 0
   Refuses n p = (refused n p ≡ writeAnswer counts postings (length out)) × (out ≡ writeOut counts postings out)
 
-  refuses : (n p : ℕ) → writeAnswer counts postings (length out) ≡ refused n p → Refuses n p
+  -- a refusal leaves the output
+  pub write-kept : (n p : ℕ) → writeAnswer counts postings (length out) ≡ refused n p → writeOut counts postings out ≡ out
   unfolding writeOut
-  refuses n p e = (sym e, sym (laid-refused _ n p (written counts postings) out e))
+  write-kept n p e = laid-refused (writeAnswer counts postings (length out)) n p (written counts postings) out e
+
+  refuses : (n p : ℕ) → writeAnswer counts postings (length out) ≡ refused n p → Refuses n p
+  refuses n p e = (sym e, sym (write-kept n p e))
 
   pub refuses-counts : (length counts < 1) ⊎ (1024 < length counts) → Refuses 5 0
   refuses-counts w = refuses 5 0 (write-listCount counts postings (length out) (holds (countsWrong-decides counts postings) w))

@@ -15,14 +15,14 @@ use Rattle.seq.specs.Lists.{total, joined, rises}
 use Rattle.seq.specs.Refusals.{Said, refused, answered}
 use Rattle.seq.proofs.Laws.Tests.{true-or}
 use Rattle.seq.proofs.Laws.Lists.{length-joined}
-use Rattle.seq.proofs.Laws.Refusals.{laid-refused, laid-answered, not-both}
+use Rattle.seq.proofs.Laws.Refusals.{laid-answered, not-both, past}
 use Rattle.volume.specs.Bytes.{IsWords}
 use Rattle.volume.specs.Layout.{blocksFor}
 use Rattle.volume.specs.Write.{at, written, volumeOf, givenList, givenLists, countsWrong, sumWrong, givenWrong, badGiven, givenListsWrong, tooLarge, shortOutput, writeAnswer, writeOut}
 use Rattle.volume.specs.Demands.{Within, Lays, Writes}
-use Rattle.seq.proofs.Laws.Decides.{decided, fails, eqb-decides}
+use Rattle.seq.proofs.Laws.Decides.{stable, fails, eqb-decides}
 use Rattle.seq.proofs.Laws.Runs.{first-past, sum-total}
-use Rattle.volume.proofs.Laws.Check.{past, least-blocksFor}
+use Rattle.volume.proofs.Laws.Check.{least-blocksFor}
 use Rattle.volume.proofs.Laws.WriteAnswer.{write-listCount, write-countSum, write-order, write-tooLarge, write-short, write-answer, countsWrong-decides, sumWrong-decides, tooLarge-decides, shortOutput-decides, givenListsWrong-false, given-clear}
 use Rattle.volume.proofs.Laws.Lists.{written-volumeOf}
 use Rattle.volume.proofs.Laws.Volume.{Given, length-written}
@@ -41,7 +41,7 @@ module _ (cs ps : List ℕ) where
   limits-given words l = record {
     lists-some = range-some;
     lists-most = range-most;
-    sum-is = sum-total cs ∙ ⊎-elim (λ e. e) (λ n. absurd (sumWrong-decides cs ps .no (l .sum-passes) n)) (decided (eqb-decides (total (λ x. x) cs) (length ps)));
+    sum-is = sum-total cs ∙ stable (eqb-decides (total (λ x. x) cs) (length ps)) (sumWrong-decides cs ps .no (l .sum-passes));
     fits = let h : (1032192 < 2 + length cs + length ps) → ⊥ = tooLarge-decides cs ps .no (l .size-passes) in omega arith;
     lists-rise = λ i h. not-false (rises (givenList cs ps i)) (given-clear cs ps (l .lists-pass) i h);
     words = words;
@@ -99,10 +99,6 @@ module _ (cs ps : List ℕ) where
       (true-or (givenListsWrong cs ps)))
       (true-or (sumWrong cs ps)))
       (true-or (countsWrong cs))
-
-  pub write-kept : (out : List ℕ) (n p : ℕ) → writeAnswer cs ps (length out) ≡ refused n p → writeOut cs ps out ≡ out
-  unfolding writeOut
-  write-kept out n p e = laid-refused (writeAnswer cs ps (length out)) n p (written cs ps) out e
 
   pub write-laid : (out : List ℕ) (n : ℕ) → writeAnswer cs ps (length out) ≡ answered n → writeOut cs ps out ≡ written cs ps ++ drop (512 * n) out
   unfolding writeOut
