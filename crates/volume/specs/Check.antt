@@ -1,5 +1,5 @@
 -- The verdict on a volume: a test for each of document 01's refusals 1 to 8, and the first that fails. Assumes nothing.
-use Prim.Native.Nat.{ℕ, _*_, _-_, _%_}
+use Prim.Native.Nat.{ℕ, _-_, _%_}
 use mathlib.Core.Bool.{Bool, not, cond, _&&_, _||_}
 use mathlib.Core.Path.{_≡_}
 use mathlib.Core.List.{List}
@@ -10,7 +10,7 @@ use Rattle.seq.specs.Numbers.{firstFrom}
 use Rattle.seq.specs.Refusals.{Said, refused, answered}
 use Rattle.volume.specs.Answers.{Sizes}
 use Rattle.volume.specs.Checksum.{checkA, checkB}
-use Rattle.volume.specs.Layout.{blocks, blockNumber, covered, storedA, storedB, word, version, listCount, postingCount, extent, blocksFor, postingsOf}
+use Rattle.volume.specs.Layout.{blocks, streamLength, blockNumber, covered, storedA, storedB, word, version, listCount, postingCount, extent, blocksFor, postingsOf}
 
 -- 1: length 0, not a multiple of 512, or over 8,192 blocks
 unfoldable pub lengthWrong : List ℕ → Bool
@@ -62,10 +62,10 @@ paddingWrong v i = not (eqb (word v i) 0)
 
 -- the lowest such word; the number of stream words where there is none
 abbrev pub badWord : List ℕ → ℕ
-badWord v = firstFrom (paddingWrong v) (extent v) (126 * blocks v - extent v)
+badWord v = firstFrom (paddingWrong v) (extent v) (streamLength v - extent v)
 
 unfoldable pub tailWrong : List ℕ → Bool
-tailWrong v = ltb (badWord v) (126 * blocks v)
+tailWrong v = ltb (badWord v) (streamLength v)
 
 -- what an accepted volume gives
 abbrev pub sizes : List ℕ → Sizes

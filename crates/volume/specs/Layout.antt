@@ -1,6 +1,7 @@
 -- A volume's bytes: blocks of 512, the stream of their words, and the lists that the stream holds. Each definition is total:
 -- behind the end of the bytes stand zeros. Assumes nothing.
 use Prim.Native.Nat.{ℕ, _+_, _*_, _/_, _%_}
+use mathlib.Core.Path.{_≡_}
 use mathlib.Core.List.{List}
 use lib.ListN.{length, take, drop}
 use Rattle.seq.specs.Numbers.{run, sumTo}
@@ -10,6 +11,14 @@ use Rattle.volume.specs.Bytes.{le16, le32}
 -- the number of blocks of v
 abbrev pub blocks : List ℕ → ℕ
 blocks v = length v / 512
+
+-- v is whole blocks
+abbrev pub Whole : List ℕ → Type 0
+Whole v = length v ≡ 512 * blocks v
+
+-- the number of stream words of v
+abbrev pub streamLength : List ℕ → ℕ
+streamLength v = 126 * blocks v
 
 -- the number that block k holds
 abbrev pub blockNumber : List ℕ → ℕ → ℕ

@@ -9,7 +9,7 @@ use lib.ListN.{length}
 use lib.Dec.{eqb}
 use Rattle.seq.specs.Lists.{total, NotRising}
 use Rattle.volume.specs.Checksum.{checkA, checkB}
-use Rattle.volume.specs.Layout.{blocks, blockNumber, covered, storedA, storedB, word, version, listCount, count, extent, postingsOf}
+use Rattle.volume.specs.Layout.{blocks, streamLength, blockNumber, covered, storedA, storedB, word, version, listCount, count, extent, postingsOf}
 use Rattle.volume.specs.Write.{givenList}
 
 -- n is the least number of blocks that holds w stream words, 126 to a block
@@ -34,7 +34,7 @@ pub data VolumeApplies (v : List ℕ) : ℕ → ℕ → Type 0 where
   -- 7: a list does not rise; place: list
   wrongOrder : (i : ℕ) → i < listCount v → NotRising (postingsOf v i) → VolumeApplies v 7 i
   -- 8: a word behind the lists is not 0; place: stream index
-  wrongPadding : (i : ℕ) → extent v ≤ i → i < 126 * blocks v → word v i ≢ 0 → VolumeApplies v 8 i
+  wrongPadding : (i : ℕ) → extent v ≤ i → i < streamLength v → word v i ≢ 0 → VolumeApplies v 8 i
 
 -- the refusals of reading list i of a volume into a buffer of so many words: those of the volume, then 17 and 16
 pub data ReadApplies (v : List ℕ) (i room : ℕ) : ℕ → ℕ → Type 0 where

@@ -2,7 +2,7 @@
 --     tot, weigh           the bytes of a list added up; each byte as often as there are bytes from it on
 --     rowAt, zeros, plus   eight bytes as a row of columns; two rows added
 --     columns, slope       the columns added up; each column as often as its number
---     Within, Room         each column is at most m; two rows can be added
+--     AtMost, Room         each column is at most m; two rows can be added
 --     tri                  the numbers below i added up
 --     Rows, Sevens         the sums after so many rows, and after so many times seven
 -- Assumes nothing.
@@ -62,7 +62,7 @@ unfoldable pub slope : Row → ℕ
 slope x = x .b + 2 * x .c + 3 * x .d + 4 * x .e + 5 * x .f + 6 * x .g + 7 * x .h
 
 -- each column is at most m
-pub record Within (m : ℕ) (x : Row) : Type 0 where
+pub record AtMost (m : ℕ) (x : Row) : Type 0 where
   pub a : x .a ≤ m
   pub b : x .b ≤ m
   pub c : x .c ≤ m
@@ -89,15 +89,15 @@ tri i = sumTo (λ j. j) i
 
 -- j rows from o on: `more` is their sum, and `near`, from near₀ on, has grown by that sum after each row
 pub record Rows (s : List ℕ) (o : ℕ) (near₀ : Row) (j : ℕ) (more near : Row) : Type 0 where
-  pub more-within : Within (255 * j) more
-  pub near-within : (q : ℕ) → Within q near₀ → Within (q + 255 * tri (j + 1)) near
+  pub more-within : AtMost (255 * j) more
+  pub near-within : (q : ℕ) → AtMost q near₀ → AtMost (q + 255 * tri (j + 1)) near
   pub tot-is : tot (drop o s) ≡ columns more + tot (drop (o + 8 * j) s)
   pub weigh-is : weigh (drop o s) + slope more + 8 * columns near₀ ≡ 8 * columns near + (length s - (o + 8 * j)) * columns more + weigh (drop (o + 8 * j) s)
 
 -- i times seven rows behind the block's number: `all` is their sum, `near` has grown in each seven as above, and `far` by `all` in front of each seven
 pub record Sevens (s : List ℕ) (i : ℕ) (t : Part) : Type 0 where
-  pub all-within : Within (1785 * i) (t .all)
-  pub near-within : Within (7140 * i) (t .near)
-  pub far-within : Within (1785 * tri i) (t .far)
+  pub all-within : AtMost (1785 * i) (t .all)
+  pub near-within : AtMost (7140 * i) (t .near)
+  pub far-within : AtMost (1785 * tri i) (t .far)
   pub tot-is : tot (drop 4 s) ≡ columns (t .all) + tot (drop (4 + 56 * i) s)
   pub weigh-is : weigh (drop 4 s) + slope (t .all) ≡ 8 * columns (t .near) + 56 * columns (t .far) + (length s - (4 + 56 * i)) * columns (t .all) + weigh (drop (4 + 56 * i) s)

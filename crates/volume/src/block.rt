@@ -1,10 +1,8 @@
 // The blocks of a volume: their numbers and checksums, and the falls of the stream on the way.
 ghost use mathlib.Core.Path.{_≡_};
-ghost use mathlib.Core.Bool.{Bool};
-ghost use Prim.Native.Nat.{_+_, _*_, _-_, _/_, _<_, _≤_};
-ghost use lib.ListN.{length};
-ghost use Rattle.seq.specs.Numbers.{firstFrom};
-ghost use Rattle.volume.specs.Check.{numberWrong, checksumWrong, blockWrong, badBlock};
+ghost use Prim.Native.Nat.{_*_, _<_, _≤_};
+ghost use Rattle.volume.specs.Layout.{blocks, Whole};
+ghost use Rattle.volume.specs.Check.{numberWrong, checksumWrong, badBlock};
 ghost use Rattle.volume.specs.Falls.{fallsBefore};
 use super::bytes::read16;
 use super::bytes::read32;
@@ -20,7 +18,7 @@ pub struct Pass {
 
 // Whether the number of block k is wrong.
 pub fn number_wrong(volume: &[u8], k: usize) -> bool
-    requires { ⌜ k < length (now volume) / 512 ⌝ }
+    requires { ⌜ k < blocks (now volume) ⌝ }
     ensures { λ r. ⌜ r ≡ numberWrong (now (volume .entry)) k ⌝ }
 {
     read32(volume, 512 * k) as usize != k
@@ -28,7 +26,7 @@ pub fn number_wrong(volume: &[u8], k: usize) -> bool
 
 // Whether the checksum of block k is wrong.
 fn checksum_wrong(volume: &[u8], k: usize) -> bool
-    requires { ⌜ k < length (now volume) / 512 ⌝ }
+    requires { ⌜ k < blocks (now volume) ⌝ }
     ensures { λ r. ⌜ r ≡ checksumWrong (now (volume .entry)) k ⌝ }
 {
     let from = 512 * k;
@@ -41,8 +39,8 @@ fn checksum_wrong(volume: &[u8], k: usize) -> bool
 
 // One pass over the blocks.
 pub fn check_blocks(volume: &[u8]) -> Pass
-    requires { ⌜ (length (now volume) ≡ 512 * (length (now volume) / 512)) × (length (now volume) / 512 ≤ 8192) ⌝ }
-    ensures { λ r. ⌜ (r .bad ≡ badBlock (now (volume .entry))) × (r .falls ≡ fallsBefore (now (volume .entry)) (126 * r .bad)) × (r .bad ≤ length (now (volume .entry)) / 512) ⌝ }
+    requires { ⌜ Whole (now volume) × (blocks (now volume) ≤ 8192) ⌝ }
+    ensures { λ r. ⌜ (r .bad ≡ badBlock (now (volume .entry))) × (r .falls ≡ fallsBefore (now (volume .entry)) (126 * r .bad)) × (r .bad ≤ blocks (now (volume .entry))) ⌝ }
 {
     let n = volume.len() / 512;
     let mut falls: usize = 0;

@@ -1,7 +1,7 @@
 // Checking a volume.
 ghost use mathlib.Core.Path.{_≡_};
-ghost use Prim.Native.Nat.{_+_, _*_, _/_, _<_, _≤_};
-ghost use lib.ListN.{length};
+ghost use Prim.Native.Nat.{_≤_};
+ghost use Rattle.volume.specs.Layout.{blocks, Whole, streamLength};
 ghost use Rattle.volume.specs.Answers.{saidChecked};
 ghost use Rattle.volume.specs.Check.{streamVerdict, verdict};
 ghost use Rattle.volume.specs.Falls.{fallsBefore};
@@ -16,7 +16,7 @@ use super::stream::word_at;
 
 // The stream of a volume whose blocks are in order, given its falls.
 fn check_stream(volume: &[u8], all: usize) -> Checked
-    requires { ⌜ (length (now volume) ≡ 512 * (length (now volume) / 512)) × (1 ≤ length (now volume) / 512) × (length (now volume) / 512 ≤ 8192) × (all ≡ fallsBefore (now volume) (126 * (length (now volume) / 512))) ⌝ }
+    requires { ⌜ Whole (now volume) × (1 ≤ blocks (now volume)) × (blocks (now volume) ≤ 8192) × (all ≡ fallsBefore (now volume) (streamLength (now volume))) ⌝ }
     ensures { λ r. ⌜ saidChecked r ≡ streamVerdict (now (volume .entry)) ⌝ }
 {
     let end = 126 * (volume.len() / 512);

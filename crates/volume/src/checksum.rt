@@ -11,7 +11,7 @@ ghost use mathlib.Core.Path.{_≡_};
 ghost use Prim.Native.Nat.{_+_, _*_, _≤_};
 ghost use lib.ListN.{length, take, drop};
 ghost use Rattle.volume.specs.Checksum.{checkA, checkB};
-ghost use Rattle.volume.specs.Sums.{rowAt, zeros, plus, Within, Room, Rows, Sevens};
+ghost use Rattle.volume.specs.Sums.{rowAt, zeros, plus, AtMost, Room, Rows, Sevens};
 use super::bytes::wide;
 
 // The two sums of a block.
@@ -63,7 +63,7 @@ fn none() -> Row
 
 // Eight bytes as a row.
 fn lanes(a: u8, b: u8, c: u8, d: u8, e: u8, f: u8, g: u8, h: u8) -> Row
-    ensures { λ r. ⌜ (r ≡ record { a = a; b = b; c = c; d = d; e = e; f = f; g = g; h = h }) × Within 255 r ⌝ }
+    ensures { λ r. ⌜ (r ≡ record { a = a; b = b; c = c; d = d; e = e; f = f; g = g; h = h }) × AtMost 255 r ⌝ }
 {
     Row {
         a: a as u16,
@@ -80,7 +80,7 @@ fn lanes(a: u8, b: u8, c: u8, d: u8, e: u8, f: u8, g: u8, h: u8) -> Row
 // The eight bytes at `at`.
 fn row_at(s: &[u8], at: usize) -> Row
     requires { ⌜ at + 8 ≤ length (now s) ⌝ }
-    ensures { λ r. ⌜ (r ≡ rowAt (now (s .entry)) at) × Within 255 r ⌝ }
+    ensures { λ r. ⌜ (r ≡ rowAt (now (s .entry)) at) × AtMost 255 r ⌝ }
 {
     lanes(
         s[at],
@@ -148,7 +148,7 @@ fn tilt(x: Row) -> u32
 
 // Seven rows from `at` on, with `near` from `first` on.
 fn seven_rows(s: &[u8], at: usize, first: Row) -> Seven
-    requires { ⌜ (at + 56 ≤ length (now s)) × Within 57120 first ⌝ }
+    requires { ⌜ (at + 56 ≤ length (now s)) × AtMost 57120 first ⌝ }
     ensures { λ r. ⌜ Rows (now (s .entry)) at first 7 (r .more) (r .near) ⌝ }
 {
     let mut more = none();

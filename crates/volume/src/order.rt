@@ -5,12 +5,10 @@
 // than those of the counts, one behind each list that is not empty, and those of the zero words.
 // Only where there are more are the lists walked, to find the one that does not rise.
 ghost use mathlib.Core.Path.{_≡_};
-ghost use mathlib.Core.Bool.{Bool};
-ghost use Prim.Native.Nat.{_+_, _*_, _-_, _/_, _<_, _≤_};
-ghost use lib.ListN.{length};
+ghost use Prim.Native.Nat.{_+_, _*_, _-_, _<_, _≤_};
 ghost use Rattle.seq.specs.Lists.{rises};
-ghost use Rattle.seq.specs.Numbers.{firstFrom, run, sumTo};
-ghost use Rattle.volume.specs.Layout.{blocks, word, count, listCount, postingCount, extent};
+ghost use Rattle.seq.specs.Numbers.{run};
+ghost use Rattle.volume.specs.Layout.{blocks, word, listCount, extent, Whole, streamLength};
 ghost use Rattle.volume.specs.Check.{badList};
 ghost use Rattle.volume.specs.Falls.{fallOf, fall, fallsBefore};
 ghost use Rattle.volume.specs.Falls.{ListFalls};
@@ -26,7 +24,7 @@ pub fn fall_of(x: u32, y: u32) -> u32
 
 // The falls inside block k.
 pub fn falls_in(volume: &[u8], k: usize) -> u32
-    requires { ⌜ k < length (now volume) / 512 ⌝ }
+    requires { ⌜ k < blocks (now volume) ⌝ }
     ensures { λ r. ⌜ (fallsBefore (now (volume .entry)) (126 * k) + r ≡ fallsBefore (now (volume .entry)) (126 * k + 125)) × (r ≤ 125) ⌝ }
 {
     let from = 512 * k + 4;
@@ -42,7 +40,7 @@ pub fn falls_in(volume: &[u8], k: usize) -> u32
 
 // Whether there is a fall at stream index i.
 pub fn fall_at(volume: &[u8], i: usize) -> u32
-    requires { ⌜ (length (now volume) ≡ 512 * (length (now volume) / 512)) × (i < 126 * (length (now volume) / 512)) ⌝ }
+    requires { ⌜ Whole (now volume) × (i < streamLength (now volume)) ⌝ }
     ensures { λ r. ⌜ (r ≡ fall (word (now (volume .entry))) i) × (r ≤ 1) ⌝ }
 {
     let next = i + 1;
@@ -54,7 +52,7 @@ pub fn fall_at(volume: &[u8], i: usize) -> u32
 
 // The falls from stream index `from` up to `end`.
 fn falls_from(volume: &[u8], from: usize, end: usize) -> usize
-    requires { ⌜ (length (now volume) ≡ 512 * (length (now volume) / 512)) × (from ≤ end) × (end ≤ 126 * (length (now volume) / 512)) ⌝ }
+    requires { ⌜ Whole (now volume) × (from ≤ end) × (end ≤ streamLength (now volume)) ⌝ }
     ensures { λ r. ⌜ (fallsBefore (now (volume .entry)) from + r ≡ fallsBefore (now (volume .entry)) end) × (r ≤ end - from) ⌝ }
 {
     let mut n: usize = 0;
@@ -68,7 +66,7 @@ fn falls_from(volume: &[u8], from: usize, end: usize) -> usize
 
 // The falls at the last postings of the lists.
 fn list_falls(volume: &[u8], lists: usize) -> usize
-    requires { ⌜ (length (now volume) ≡ 512 * (length (now volume) / 512)) × (lists ≡ listCount (now volume)) × (lists ≤ 1024) × (extent (now volume) ≤ 126 * (length (now volume) / 512)) ⌝ }
+    requires { ⌜ Whole (now volume) × (lists ≡ listCount (now volume)) × (lists ≤ 1024) × (extent (now volume) ≤ streamLength (now volume)) ⌝ }
     ensures { λ r. ⌜ ListFalls (now (volume .entry)) r ⌝ }
 {
     let mut n: usize = 0;
@@ -87,7 +85,7 @@ fn list_falls(volume: &[u8], lists: usize) -> usize
 
 // Whether the words from `from` on, n of them, rise.
 fn rising(volume: &[u8], from: usize, n: usize) -> bool
-    requires { ⌜ from + n ≤ 126 * (length (now volume) / 512) ⌝ }
+    requires { ⌜ from + n ≤ streamLength (now volume) ⌝ }
     ensures { λ r. ⌜ r ≡ rises (run (word (now (volume .entry))) from n) ⌝ }
 {
     if n == 0 {
@@ -109,7 +107,7 @@ fn rising(volume: &[u8], from: usize, n: usize) -> bool
 
 // The lowest list that does not rise; the number of lists where there is none.
 fn walk_lists(volume: &[u8], lists: usize) -> usize
-    requires { ⌜ (lists ≡ listCount (now volume)) × (lists ≤ 1024) × (extent (now volume) ≤ 126 * (length (now volume) / 512)) ⌝ }
+    requires { ⌜ (lists ≡ listCount (now volume)) × (lists ≤ 1024) × (extent (now volume) ≤ streamLength (now volume)) ⌝ }
     ensures { λ r. ⌜ r ≡ badList (now (volume .entry)) ⌝ }
 {
     let mut start: usize = 2 + lists;
@@ -127,7 +125,7 @@ fn walk_lists(volume: &[u8], lists: usize) -> usize
 
 // The same, given the falls of the whole stream and the number of words in front of the zeros.
 pub fn bad_list(volume: &[u8], lists: usize, used: usize, all: usize) -> usize
-    requires { ⌜ (length (now volume) ≡ 512 * (length (now volume) / 512)) × (lists ≡ listCount (now volume)) × (lists ≤ 1024) × (used ≡ extent (now volume)) × (used ≤ 126 * (length (now volume) / 512)) × (all ≡ fallsBefore (now volume) (126 * (length (now volume) / 512))) ⌝ }
+    requires { ⌜ Whole (now volume) × (lists ≡ listCount (now volume)) × (lists ≤ 1024) × (used ≡ extent (now volume)) × (used ≤ streamLength (now volume)) × (all ≡ fallsBefore (now volume) (streamLength (now volume))) ⌝ }
     ensures { λ r. ⌜ r ≡ badList (now (volume .entry)) ⌝ }
 {
     let end = 126 * (volume.len() / 512);

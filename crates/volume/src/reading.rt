@@ -1,11 +1,11 @@
 // Reading a list of a volume.
 ghost use mathlib.Core.Path.{_≡_};
 ghost use mathlib.Core.List.{_++_};
-ghost use Prim.Native.Nat.{_+_, _*_, _/_, _<_, _≤_};
+ghost use Prim.Native.Nat.{_+_, _<_, _≤_};
 ghost use lib.ListN.{length, drop};
-ghost use Rattle.seq.specs.Numbers.{run, sumTo};
+ghost use Rattle.seq.specs.Numbers.{run};
 ghost use Rattle.volume.specs.Answers.{saidRead};
-ghost use Rattle.volume.specs.Layout.{word, listCount, extent, start, count, spanOf};
+ghost use Rattle.volume.specs.Layout.{word, listCount, spanOf, streamLength};
 ghost use Rattle.volume.specs.Check.{Accepted};
 ghost use Rattle.volume.specs.Read.{readAnswer, readOut};
 use super::answers::Checked;
@@ -34,7 +34,7 @@ pub fn list_span(volume: &[u8], list: usize) -> Span
 
 // Copies the words from stream index `from` on, n of them, to the front of out.
 fn copy_words(volume: &[u8], from: usize, n: usize, out: &mut [u32])
-    requires { ⌜ (from + n ≤ 126 * (length (now volume) / 512)) × (n ≤ length (now out)) ⌝ }
+    requires { ⌜ (from + n ≤ streamLength (now volume)) × (n ≤ length (now out)) ⌝ }
     ensures { λ _. ⌜ now (out .exit) ≡ run (word (now (volume .entry))) from n ++ drop n (now (out .entry)) ⌝ }
 {
     let mut i: usize = 0;

@@ -1,15 +1,14 @@
 // The stream of a volume's words.
 ghost use mathlib.Core.Path.{_≡_};
-ghost use Prim.Native.Nat.{_+_, _*_, _-_, _/_, _<_, _≤_};
-ghost use lib.ListN.{length};
+ghost use Prim.Native.Nat.{_+_, _*_, _-_, _<_, _≤_};
 ghost use Rattle.seq.specs.Numbers.{firstFrom, sumTo};
-ghost use Rattle.volume.specs.Layout.{word, count};
+ghost use Rattle.volume.specs.Layout.{word, count, streamLength};
 ghost use Rattle.volume.specs.Check.{paddingWrong};
 use super::bytes::read32;
 
 // Stream word i.
 pub fn word_at(volume: &[u8], i: usize) -> u32
-    requires { ⌜ i < 126 * (length (now volume) / 512) ⌝ }
+    requires { ⌜ i < streamLength (now volume) ⌝ }
     ensures { λ r. ⌜ r ≡ word (now (volume .entry)) i ⌝ }
 {
     read32(volume, 512 * (i / 126) + 4 + 4 * (i % 126))
@@ -17,7 +16,7 @@ pub fn word_at(volume: &[u8], i: usize) -> u32
 
 // The sum of the first n counts.
 pub fn count_sum(volume: &[u8], n: usize) -> u64
-    requires { ⌜ (n ≤ 1024) × (2 + n ≤ 126 * (length (now volume) / 512)) ⌝ }
+    requires { ⌜ (n ≤ 1024) × (2 + n ≤ streamLength (now volume)) ⌝ }
     ensures { λ r. ⌜ (r ≡ sumTo (count (now (volume .entry))) n) × (r ≤ 4294967296 * n) ⌝ }
 {
     let mut sum: u64 = 0;
@@ -31,7 +30,7 @@ pub fn count_sum(volume: &[u8], n: usize) -> u64
 
 // The first word that is not 0 from stream index `from` up to `end`; `end` where there is none.
 pub fn bad_word(volume: &[u8], from: usize, end: usize) -> usize
-    requires { ⌜ (from ≤ end) × (end ≤ 126 * (length (now volume) / 512)) ⌝ }
+    requires { ⌜ (from ≤ end) × (end ≤ streamLength (now volume)) ⌝ }
     ensures { λ r. ⌜ r ≡ firstFrom (paddingWrong (now (volume .entry))) from (end - from) ⌝ }
 {
     let mut i = from;

@@ -1,6 +1,6 @@
 -- The laws of `specs/Numbers.antt`. No contract cites this file.
 --     first-end, first-hit, first-miss     one step of a search that is at k and ends at n
---     first-none, first-clear              no index passes the test: the search ends, and back
+--     first-none                           no index passes the test: the search ends at its end
 --     first-le, first-ge, first-at, first-before     where it ends; the test holds there; and at no index before
 --     search-found, search-clear           a search that ends in front of n, and one that does not
 --     run-end, run-step, run-snoc, run-append, run-ext, length-run, getD-run
@@ -90,9 +90,6 @@ module _ (test : ℕ → Bool) where
     where
       le-eq : firstFrom test k m ≤ k + m → k + m ≤ firstFrom test k m → firstFrom test k m ≡ k + m
       le-eq a b = omega arith
-
-  pub first-clear : (k m : ℕ) → k + m ≤ firstFrom test k m → (j : ℕ) → k ≤ j → j < k + m → test j ≡ false
-  first-clear k m h j a b = first-before k m j a (omega arith)
 
 -- a search as a test: whether it ends in front of n
 module _ (test : ℕ → Bool) (k m n : ℕ) where

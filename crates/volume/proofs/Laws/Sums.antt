@@ -1,5 +1,5 @@
 -- The laws of `specs/Sums.antt`. No contract cites this file.
---     columns-plus, slope-plus, within-plus, within-up, room-of     two rows added: their sums, bounds and room
+--     columns-plus, slope-plus, atMost-plus, atMost-up, room-of     two rows added: their sums, bounds and room
 --     tot-row, weigh-row                                            eight bytes of a list, as a row, in front of the rest
 --     rows-first, rows-again                                        `Rows` with no row, and with one more
 --     rows-room-more, rows-room-near                                the two additions of that row have room
@@ -21,7 +21,7 @@ use Rattle.volume.specs.declared.checksum.Row.{Row}
 use Rattle.volume.specs.declared.checksum.Part.{Part}
 use Rattle.volume.specs.Checksum.{checkA, checkB}
 use Rattle.seq.specs.Lists.{total}
-use Rattle.volume.specs.Sums.{tot, weigh, rowAt, zeros, plus, columns, slope, Within, Room, tri, Rows, Sevens}
+use Rattle.volume.specs.Sums.{tot, weigh, rowAt, zeros, plus, columns, slope, AtMost, Room, tri, Rows, Sevens}
 use Rattle.volume.proofs.Laws.Bytes.{drop-four}
 use Rattle.volume.proofs.Laws.Checksum.{checkA-late, checkB-late}
 
@@ -43,18 +43,18 @@ module _ (x y : Row) where
   slope-plus = omega arith
 
 module _ {x : Row} {m n : ℕ} where
-  within-up : m ≤ n → Within m x → Within n x
-  within-up h v = omega arith
+  atMost-up : m ≤ n → AtMost m x → AtMost n x
+  atMost-up h v = omega arith
 
-  within-plus : {y : Row} → Within m x → Within n y → Within (m + n) (plus x y)
+  atMost-plus : {y : Row} → AtMost m x → AtMost n y → AtMost (m + n) (plus x y)
   unfolding plus
-  within-plus v w = omega arith
+  atMost-plus v w = omega arith
 
-  room-of : {y : Row} → Within m x → Within n y → m + n < 65536 → Room x y
+  room-of : {y : Row} → AtMost m x → AtMost n y → m + n < 65536 → Room x y
   room-of v w h = omega arith
 
-within-zeros : {n : ℕ} → Within n zeros
-within-zeros = omega arith
+atMost-zeros : {n : ℕ} → AtMost n zeros
+atMost-zeros = omega arith
 
 module _ (s : List ℕ) (o : ℕ) where
   drop-step : (k : ℕ) → o + k < length s → drop (o + k) s ≡ getD s (o + k) 0 ∷ drop (o + suc k) s
@@ -88,39 +88,39 @@ module _ {s : List ℕ} {o : ℕ} {near₀ : Row} where
   rows-first =
       let e : o + 8 * 0 ≡ o = omega arith in
       record {
-        more-within = within-zeros;
-        near-within = λ q w. within-up (omega arith) w;
+        more-within = atMost-zeros;
+        near-within = λ q w. atMost-up (omega arith) w;
         tot-is = rw (e, columns-zeros) (omega arith);
         weigh-is = rw (e, columns-zeros, slope-zeros) (omega arith);
       }
 
   module _ {j : ℕ} {more near : Row} (r : Rows s o near₀ j more near) where
-    pub rows-again : {row more′ near′ : Row} → row ≡ rowAt s (o + 8 * j) → Within 255 row → more′ ≡ plus more row → near′ ≡ plus near more′ → o + 8 * j + 8 ≤ length s → Rows s o near₀ (j + 1) more′ near′
+    pub rows-again : {row more′ near′ : Row} → row ≡ rowAt s (o + 8 * j) → AtMost 255 row → more′ ≡ plus more row → near′ ≡ plus near more′ → o + 8 * j + 8 ≤ length s → Rows s o near₀ (j + 1) more′ near′
     rows-again row-is w more-is near-is h =
         let e : o + 8 * (j + 1) ≡ o + 8 * j + 8 = omega arith in
         let l : length s - (o + 8 * j) ≡ length s - (o + 8 * j + 8) + 8 = omega arith in
         rw (near-is, more-is)
         (record {
-          more-within = within-up (omega arith) (within-plus (r .more-within) w);
-          near-within = λ q v. within-up (omega (arith, tri-step (j + 1))) (within-plus (r .near-within q v) (within-plus (r .more-within) w));
+          more-within = atMost-up (omega arith) (atMost-plus (r .more-within) w);
+          near-within = λ q v. atMost-up (omega (arith, tri-step (j + 1))) (atMost-plus (r .near-within q v) (atMost-plus (r .more-within) w));
           tot-is = rw (e, columns-plus) (omega (arith, tot-row s (o + 8 * j) h row-is));
           weigh-is = simp (e, columns-plus, slope-plus) (omega (arith, rw l at (r .weigh-is), rw l at (weigh-row s (o + 8 * j) h row-is)));
         })
 
-    pub rows-room-more : {row : Row} → j < 7 → Within 255 row → Room more row
+    pub rows-room-more : {row : Row} → j < 7 → AtMost 255 row → Room more row
     rows-room-more h w = room-of (r .more-within) w (omega arith)
 
-    pub rows-room-near : {row : Row} → j < 7 → Within 57120 near₀ → Within 255 row → Room near (plus more row)
+    pub rows-room-near : {row : Row} → j < 7 → AtMost 57120 near₀ → AtMost 255 row → Room near (plus more row)
     unfolding sumTo
-    rows-room-near h v w = room-of (r .near-within _ v) (within-plus (r .more-within) w) (omega (arith, tri-step (j + 1), tri-le (j + 1 + 1) 8 (omega arith)))
+    rows-room-near h v w = room-of (r .near-within _ v) (atMost-plus (r .more-within) w) (omega (arith, tri-step (j + 1), tri-le (j + 1 + 1) 8 (omega arith)))
 
 module _ {s : List ℕ} where
   pub sevens-first : Sevens s 0 (record { all = zeros; near = zeros; far = zeros })
   sevens-first =
       record {
-        all-within = within-zeros;
-        near-within = within-zeros;
-        far-within = within-zeros;
+        all-within = atMost-zeros;
+        near-within = atMost-zeros;
+        far-within = atMost-zeros;
         tot-is = rw columns-zeros (omega arith);
         weigh-is = rw (columns-zeros, slope-zeros) (omega arith);
       }
@@ -133,21 +133,21 @@ module _ {s : List ℕ} where
         let l : length s - (4 + 56 * i) ≡ length s - (4 + 56 * i + 56) + 56 = omega arith in
         rw (all-is, far-is)
         (record {
-          all-within = within-up (omega arith) (within-plus (t .all-within) (r .more-within));
-          near-within = within-up (omega arith) (r .near-within (7140 * i) (t .near-within));
-          far-within = within-up (omega (arith, tri-step i)) (within-plus (t .far-within) (t .all-within));
+          all-within = atMost-up (omega arith) (atMost-plus (t .all-within) (r .more-within));
+          near-within = atMost-up (omega arith) (r .near-within (7140 * i) (t .near-within));
+          far-within = atMost-up (omega (arith, tri-step i)) (atMost-plus (t .far-within) (t .all-within));
           tot-is = rw (e, columns-plus) (omega arith);
           weigh-is = simp (e, columns-plus, slope-plus) (omega (arith, rw l at (t .weigh-is)));
         })
 
-    pub sevens-near : i ≤ 8 → Within 57120 near
-    sevens-near h = within-up (omega arith) (t .near-within)
+    pub sevens-near : i ≤ 8 → AtMost 57120 near
+    sevens-near h = atMost-up (omega arith) (t .near-within)
 
     pub sevens-room-far : i ≤ 8 → Room far all
     unfolding sumTo
     sevens-room-far h = room-of (t .far-within) (t .all-within) (omega (arith, tri-step i, tri-le (i + 1) 9 (omega arith)))
 
-    pub sevens-room-all : {more : Row} → i ≤ 8 → Within 1785 more → Room all more
+    pub sevens-room-all : {more : Row} → i ≤ 8 → AtMost 1785 more → Room all more
     sevens-room-all h w = room-of (t .all-within) w (omega arith)
 
   module _ {t : Part} (d : Sevens s 9 t) (e : length s ≡ 508) where
