@@ -8,6 +8,7 @@
 --     Stores     a buffer that is written from the front
 --     Refusals   a ladder of tests answers the first refusal that applies
 --     Ladder     the rungs of such a ladder, stage by stage
+--     Stages     a call over another: its refusals come behind
 pub mod Tests
 pub mod Decides
 pub mod Lists
@@ -17,3 +18,4 @@ pub mod Rising
 pub mod Stores
 pub mod Refusals
 pub mod Ladder
+pub mod Stages

@@ -1,9 +1,9 @@
 -- Words for lists: the elements that pass a test, whether all do, sums and joins over a list, and lists that rise.
 -- Assumes nothing.
 use Prim.Native.Nat.{ℕ, _+_, _<_, _≤_}
-use mathlib.Core.Bool.{Bool, true, false, _&&_}
+use mathlib.Core.Bool.{Bool, true, false, _&&_, _||_}
 use mathlib.Core.List.{List, [], _∷_, _++_}
-use lib.Dec.{ltb}
+use lib.Dec.{eqb, ltb}
 use lib.ListN.{length, getD}
 
 module _ {A : Type 0} where
@@ -31,6 +31,11 @@ module _ {A : Type 0} where
   unfoldable pub joined : List (List A) → List A
   joined [] = []
   joined (xs ∷ xss) = xs ++ joined xss
+
+-- n is an element
+unfoldable pub elem : ℕ → List ℕ → Bool
+elem n [] = false
+elem n (x ∷ xs) = eqb n x || elem n xs
 
 -- a list rises strictly, and from above a
 unfoldable pub above : ℕ → List ℕ → Bool

@@ -1,10 +1,12 @@
 -- What a call answers in the terms of document 01, what it leaves in a lent buffer, and which of several refusals it answers.
 -- Assumes nothing.
-use Prim.Native.Nat.{ℕ, _<_}
+use Prim.Native.Nat.{ℕ, suc, _<_}
 use mathlib.Core.Path.{_≡_}
+use mathlib.Core.Bool.{cond}
 use mathlib.Core.Logic.{_⊎_, _↔_}
-use mathlib.Core.List.{List, _++_}
+use mathlib.Core.List.{List, [], _∷_, _++_}
 use lib.ListN.{length, drop}
+use Rattle.seq.specs.Lists.{elem}
 
 -- an answer: the number of a refusal and its place (0 where none is named), or the values
 pub data Said (A : Type 0) : Type 0 where
@@ -15,6 +17,12 @@ pub data Said (A : Type 0) : Type 0 where
 unfoldable pub laid : {A : Type 0} → Said A → List ℕ → List ℕ → List ℕ
 laid (refused n p) xs out = out
 laid (answered a) xs out = xs ++ drop (length xs) out
+
+-- the stage of refusal n, where each stage of a call has its numbers in a group: how many groups stand in front of the one with n
+unfoldable pub stageIn : List (List ℕ) → ℕ → ℕ
+unfolding elem
+stageIn [] n = 0
+stageIn (g ∷ gs) n = let rest = suc (stageIn gs n) in cond (elem n g) 0 rest
 
 -- refusal m at q comes before refusal n at p: by the stage of the call, in a stage by place, at a place by number
 abbrev pub Before : (ℕ → ℕ) → ℕ → ℕ → ℕ → ℕ → Type 0

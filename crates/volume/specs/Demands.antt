@@ -12,7 +12,7 @@ use mathlib.Core.Logic.{_⊎_, _≢_, _↔_}
 use mathlib.Core.List.{List, [], _∷_, _++_, map}
 use lib.ListN.{length, getD, drop, replicate}
 use Rattle.seq.specs.Lists.{total, joined, Rising}
-use Rattle.seq.specs.Refusals.{refused, answered, FirstRefusal}
+use Rattle.seq.specs.Refusals.{refused, answered, stageIn, FirstRefusal}
 use Rattle.volume.specs.declared.answers.Refusal.{Refusal}
 use Rattle.volume.specs.declared.answers.Checked.{Checked}
 use Rattle.volume.specs.declared.answers.ListRead.{ListRead}
@@ -25,16 +25,16 @@ use Rattle.volume.specs.Answers.{Sizes, saidRefusal, saidChecked, saidRe
 use Rattle.volume.specs.Check.{sizes, verdict, Accepted}
 use Rattle.volume.specs.Read.{readAnswer, readOut}
 use Rattle.volume.specs.Write.{written, volumeOf, givenLists, writeAnswer, writeOut}
-use Rattle.volume.specs.Refusals.{LeastBlocks, VolumeApplies, ReadApplies, WriteApplies, volumeStage, readStage, writeStage}
+use Rattle.volume.specs.Refusals.{LeastBlocks, VolumeApplies, ReadApplies, WriteApplies, volumeStages, readStages, writeStages}
 
 -- Demand 1, checking: the verdict is the first of 1 to 8 that applies, and T and S exactly if none applies
 unfoldable pub CheckRefuses : Type 0
-CheckRefuses = (v : List ℕ) → FirstRefusal volumeStage (VolumeApplies v) (sizes v) (verdict v)
+CheckRefuses = (v : List ℕ) → FirstRefusal (stageIn volumeStages) (VolumeApplies v) (sizes v) (verdict v)
 
 -- reading list i of v: the first of 1 to 8, 17, 16 that applies, or the count exactly if none applies
 -- a refusal leaves the buffer as it was; an answer leaves the postings at its front and the rest as it was
 pub record ReadCall (v : List ℕ) (i : ℕ) (out : List ℕ) : Type 0 where
-  pub first : FirstRefusal readStage (ReadApplies v i (length out)) (count v i) (readAnswer v i (length out))
+  pub first : FirstRefusal (stageIn readStages) (ReadApplies v i (length out)) (count v i) (readAnswer v i (length out))
   pub kept : (n p : ℕ) → readAnswer v i (length out) ≡ refused n p → readOut v i out ≡ out
   pub laid : (n : ℕ) → readAnswer v i (length out) ≡ answered n → readOut v i out ≡ postingsOf v i ++ drop (count v i) out
 
@@ -45,7 +45,7 @@ ReadRefuses = (v : List ℕ) (i : ℕ) (out : List ℕ) → ReadCall v i out
 -- writing: the first of 5, 18, 7, 19, 20 that applies, or the number of blocks exactly if none applies
 -- a refusal leaves the output as it was; an answer leaves the blocks at its front and the rest as it was
 pub record WriteCall (counts postings out : List ℕ) : Type 0 where
-  pub first : FirstRefusal writeStage (WriteApplies counts postings (length out)) (blocksFor (2 + length counts + length postings)) (writeAnswer counts postings (length out))
+  pub first : FirstRefusal (stageIn writeStages) (WriteApplies counts postings (length out)) (blocksFor (2 + length counts + length postings)) (writeAnswer counts postings (length out))
   pub kept : (n p : ℕ) → writeAnswer counts postings (length out) ≡ refused n p → writeOut counts postings out ≡ out
   pub laid : (n : ℕ) → writeAnswer counts postings (length out) ≡ answered n → writeOut counts postings out ≡ written counts postings ++ drop (512 * n) out
 

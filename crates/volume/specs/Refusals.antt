@@ -1,12 +1,10 @@
 -- Document 01's refusals as relations, one line for each number: refusal n applies at place p. The order in which a call tells
 -- them is the order of its stages, in a stage by place, at a place by number. Assumes nothing.
-use Prim.Native.Nat.{ℕ, suc, _+_, _*_, _%_, _<_, _≤_}
+use Prim.Native.Nat.{ℕ, _+_, _*_, _%_, _<_, _≤_}
 use mathlib.Core.Path.{_≡_}
-use mathlib.Core.Bool.{cond}
 use mathlib.Core.Logic.{_⊎_, _≢_}
-use mathlib.Core.List.{List, [], _∷_}
+use mathlib.Core.List.{List, [], _∷_, _++_}
 use lib.ListN.{length}
-use lib.Dec.{eqb}
 use Rattle.seq.specs.Lists.{total, NotRising}
 use Rattle.volume.specs.Checksum.{checkA, checkB}
 use Rattle.volume.specs.Layout.{blocks, streamLength, blockNumber, covered, storedA, storedB, word, version, listCount, count, extent, postingsOf}
@@ -58,17 +56,12 @@ pub data WriteApplies (counts postings : List ℕ) (room : ℕ) : ℕ → ℕ �
   -- 20: output shorter than the volume
   outputShort : (n : ℕ) → LeastBlocks (2 + length counts + length postings) n → room < 512 * n → WriteApplies counts postings room 20 0
 
--- how many numbers of a list stand before n
-unfoldable pub indexIn : List ℕ → ℕ → ℕ
-indexIn [] n = 0
-indexIn (x ∷ xs) n = let rest = suc (indexIn xs n) in cond (eqb x n) 0 rest
+-- the stages of the calls; 2 and 3 share one, so that blocks go upward, 2 before 3 in each
+abbrev pub volumeStages : List (List ℕ)
+volumeStages = (1 ∷ []) ∷ (2 ∷ 3 ∷ []) ∷ (4 ∷ []) ∷ (5 ∷ []) ∷ (6 ∷ []) ∷ (7 ∷ []) ∷ (8 ∷ []) ∷ []
 
--- the stages of the calls, by number; 2 and 3 share one, so that blocks go upward, 2 before 3 in each
-unfoldable pub volumeStage : ℕ → ℕ
-volumeStage n = indexIn (1 ∷ 2 ∷ 4 ∷ 5 ∷ 6 ∷ 7 ∷ 8 ∷ []) (cond (eqb n 3) 2 n)
+abbrev pub readStages : List (List ℕ)
+readStages = volumeStages ++ ((17 ∷ []) ∷ (16 ∷ []) ∷ [])
 
-unfoldable pub readStage : ℕ → ℕ
-readStage n = indexIn (1 ∷ 2 ∷ 4 ∷ 5 ∷ 6 ∷ 7 ∷ 8 ∷ 17 ∷ 16 ∷ []) (cond (eqb n 3) 2 n)
-
-unfoldable pub writeStage : ℕ → ℕ
-writeStage n = indexIn (5 ∷ 18 ∷ 7 ∷ 19 ∷ 20 ∷ []) n
+abbrev pub writeStages : List (List ℕ)
+writeStages = (5 ∷ []) ∷ (18 ∷ []) ∷ (7 ∷ []) ∷ (19 ∷ []) ∷ (20 ∷ []) ∷ []

@@ -9,7 +9,8 @@ use mathlib.Core.Bool.{cond}
 use mathlib.Core.List.{[], _∷_}
 use lib.ListN.{getD}
 use lib.Dec.{eqb}
-use Rattle.seq.specs.Refusals.{Said, refused, answered}
+use Rattle.seq.specs.Lists.{elem}
+use Rattle.seq.specs.Refusals.{Said, refused, answered, stageIn}
 use Rattle.volume.specs.declared.answers.Refusal.{Refusal}
 use Rattle.volume.specs.declared.answers.Refusal.the-variants.{Length, Number, Checksum, Version, ListCount, Extent, Order, Padding}
 use Rattle.volume.specs.declared.answers.Checked.{Checked}
@@ -19,7 +20,7 @@ use Rattle.volume.specs.declared.answers.ListRead.the-variants as list
 use Rattle.volume.specs.declared.answers.Written.{Written}
 use Rattle.volume.specs.declared.answers.Written.the-variants as written
 use Rattle.volume.specs.Answers.{Sizes, saidRefusal, saidChecked, saidRead, saidWritten}
-use Rattle.volume.specs.Refusals.{indexIn, writeStage}
+use Rattle.volume.specs.Refusals.{writeStages}
 use Rattle.volume.specs.Demands.{OneToOne}
 
 -- the refusal with a number, by a list from 0, and a place
@@ -40,7 +41,7 @@ heardRead (answered n) = list.Read n
 
 -- by a list in the order of the writer's refusals
 abbrev heardWritten : Said ℕ → Written
-heardWritten (refused n p) = getD (written.ListCount ∷ written.CountSum ∷ written.Order p ∷ written.TooLarge ∷ written.Short ∷ []) (writeStage n) written.Short
+heardWritten (refused n p) = getD (written.ListCount ∷ written.CountSum ∷ written.Order p ∷ written.TooLarge ∷ written.Short ∷ []) (stageIn writeStages n) written.Short
 heardWritten (answered n) = written.Blocks n
 
 heard-refusal : (r : Refusal) → heardSizes (saidRefusal r) ≡ r
@@ -78,7 +79,7 @@ heard-read list.NoList = refl
 heard-read list.Short = refl
 
 heard-written : (a : Written) → heardWritten (saidWritten a) ≡ a
-unfolding writeStage indexIn
+unfolding stageIn elem
 heard-written (written.Blocks n) = refl
 heard-written written.ListCount = refl
 heard-written written.CountSum = refl

@@ -1,5 +1,6 @@
 -- Checking a volume answers the first refusal that applies. No contract cites this file.
 --     AtStage, at-stage            what a refusal of each stage says
+--     stage-le                     there are seven stages
 --     check-sound, check-first     the verdict is the first refusal that applies
 -- Assumes nothing.
 use Prim.Native.Nat.{ℕ, _-_, _*_, _%_, _<_, _≤_}
@@ -9,8 +10,8 @@ use mathlib.Core.Bool.{true, false, cond}
 use mathlib.Core.Logic.{_⊎_, inl, inr, ⊎-elim, _≢_}
 use mathlib.Core.List.{List, [], _∷_}
 use lib.ListN.{length, getD}
-use Rattle.seq.specs.Lists.{NotRising}
-use Rattle.seq.specs.Refusals.{Said, refused, answered, First, FirstRefusal}
+use Rattle.seq.specs.Lists.{elem, NotRising}
+use Rattle.seq.specs.Refusals.{Said, refused, answered, stageIn, First, FirstRefusal}
 use Rattle.seq.proofs.Laws.Tests.{either, neither, contrary}
 use Rattle.seq.proofs.Laws.Numbers.{first-before}
 use Rattle.seq.proofs.Laws.Refusals.{Sound, end, first-refusal}
@@ -18,7 +19,7 @@ use Rattle.volume.specs.Answers.{Sizes}
 use Rattle.volume.specs.Checksum.{checkA, checkB}
 use Rattle.volume.specs.Layout.{blocks, blockNumber, covered, storedA, storedB, word, version, listCount, extent, postingsOf}
 use Rattle.volume.specs.Check.{lengthWrong, numberWrong, checksumWrong, blockWrong, badBlock, blocksWrong, versionWrong, listCountWrong, extentWrong, orderWrong, badList, listsWrong, paddingWrong, badWord, tailWrong, sizes, streamVerdict, verdict}
-use Rattle.volume.specs.Refusals.{LeastBlocks, VolumeApplies, wrongLength, wrongNumber, wrongChecksum, wrongVersion, wrongListCount, wrongExtent, wrongOrder, wrongPadding, indexIn, volumeStage}
+use Rattle.volume.specs.Refusals.{LeastBlocks, VolumeApplies, wrongLength, wrongNumber, wrongChecksum, wrongVersion, wrongListCount, wrongExtent, wrongOrder, wrongPadding, volumeStages}
 use Rattle.seq.proofs.Laws.Decides.{holds}
 use Rattle.seq.proofs.Laws.Ladder.{Clear, clear-next, first-of, searched, single, choice}
 use Rattle.volume.proofs.Laws.Check.{lengthWrong-decides, numberWrong-decides, checksumWrong-decides, versionWrong-decides, listCountWrong-decides, extentWrong-decides, orderWrong-decides, paddingWrong-decides, blocks-clear, lists-clear, tail-clear, blocks-found, lists-found, tail-found}
@@ -40,8 +41,8 @@ module _ (v : List ℕ) where
       ⊥
 
   -- each refusal says what its stage does
-  at-stage : (m q : ℕ) → VolumeApplies v m q → AtStage m q (volumeStage m)
-  unfolding volumeStage indexIn
+  at-stage : (m q : ℕ) → VolumeApplies v m q → AtStage m q (stageIn volumeStages m)
+  unfolding stageIn elem
   at-stage m q (wrongLength h) = (refl, (refl, h))
   at-stage m q (wrongNumber k l h) = (l, inl (refl, h))
   at-stage m q (wrongChecksum k l h) = (l, inr (refl, h))
@@ -52,12 +53,12 @@ module _ (v : List ℕ) where
   at-stage m q (wrongPadding i l r h) = (refl, (l, r, h))
 
   -- the same for a stage that is known
-  at-this : (k m q : ℕ) → VolumeApplies v m q → volumeStage m ≡ k → AtStage m q k
+  at-this : (k m q : ℕ) → VolumeApplies v m q → stageIn volumeStages m ≡ k → AtStage m q k
   at-this k m q a e = subst (λ (s : ℕ). AtStage m q s) e (at-stage m q a)
 
   -- there are seven stages
-  stage-le : (m q : ℕ) → VolumeApplies v m q → volumeStage m ≤ 6
-  unfolding volumeStage indexIn
+  pub stage-le : (m q : ℕ) → VolumeApplies v m q → stageIn volumeStages m ≤ 6
+  unfolding stageIn elem
   stage-le m q (wrongLength h) = omega arith
   stage-le m q (wrongNumber k l h) = omega arith
   stage-le m q (wrongChecksum k l h) = omega arith
@@ -69,22 +70,22 @@ module _ (v : List ℕ) where
 
   -- the words of this call: no earlier stage applies, the first refusal, a sound answer
   abbrev IsClear : ℕ → Type 0
-  IsClear k = Clear volumeStage (VolumeApplies v) k
+  IsClear k = Clear (stageIn volumeStages) (VolumeApplies v) k
 
   abbrev IsFirst : ℕ → ℕ → Type 0
-  IsFirst n p = First volumeStage (VolumeApplies v) n p
+  IsFirst n p = First (stageIn volumeStages) (VolumeApplies v) n p
 
   abbrev IsSound : Said Sizes → Type 0
-  IsSound said = Sound volumeStage (VolumeApplies v) (sizes v) said
+  IsSound said = Sound (stageIn volumeStages) (VolumeApplies v) (sizes v) said
 
   -- the rungs, from the last one up
   from-end : IsClear 7 → IsSound (answered (sizes v))
-  from-end c = end volumeStage (VolumeApplies v) (sizes v) (λ m q a. let h = c m q a in let l = stage-le m q a in omega arith)
+  from-end c = end (stageIn volumeStages) (VolumeApplies v) (sizes v) (λ m q a. let h = c m q a in let l = stage-le m q a in omega arith)
 
   from-tail : IsClear 6 → IsSound (cond (tailWrong v) (refused 8 (badWord v)) (answered (sizes v)))
-  unfolding volumeStage indexIn
+  unfolding stageIn elem
   from-tail c =
-      searched volumeStage (VolumeApplies v) (sizes v) (tailWrong v) 8 (badWord v) (answered (sizes v)) _ c (at-this 6)
+      searched (stageIn volumeStages) (VolumeApplies v) (sizes v) (tailWrong v) 8 (badWord v) (answered (sizes v)) _ c (at-this 6)
       (λ e.
       let f = tail-found v e in (
         wrongPadding (badWord v) (f .0) (f .1) (paddingWrong-decides v (badWord v) .yes (f .2)),
@@ -94,9 +95,9 @@ module _ (v : List ℕ) where
       from-end
 
   from-order : IsClear 5 → (rest : Said Sizes) → (IsClear 6 → IsSound rest) → IsSound (cond (listsWrong v) (refused 7 (badList v)) rest)
-  unfolding volumeStage indexIn
+  unfolding stageIn elem
   from-order c rest later =
-      searched volumeStage (VolumeApplies v) (sizes v) (listsWrong v) 7 (badList v) rest _ c (at-this 5)
+      searched (stageIn volumeStages) (VolumeApplies v) (sizes v) (listsWrong v) 7 (badList v) rest _ c (at-this 5)
       (λ e.
       let f = lists-found v e in (
         wrongOrder (badList v) (f .0) (orderWrong-decides v (badList v) .yes (f .1)),
@@ -122,9 +123,9 @@ module _ (v : List ℕ) where
 
   -- 2 at the lowest wrong block, or 3 there
   first-number : IsClear 1 → blocksWrong v ≡ true → numberWrong v (badBlock v) ≡ true → IsFirst 2 (badBlock v)
-  unfolding volumeStage indexIn
+  unfolding stageIn elem
   first-number c e t =
-      first-of volumeStage (VolumeApplies v) 2 (badBlock v) c
+      first-of (stageIn volumeStages) (VolumeApplies v) 2 (badBlock v) c
       (wrongNumber (badBlock v) (blocks-found v e .0) (numberWrong-decides v (badBlock v) .yes t))
       (λ m q a s w. ⊎-elim (before-bad m q (at-this 1 m q a s .1)) (λ (h : (q ≡ badBlock v) × (m < 2)). not-less m q (at-this 1 m q a s .1) (h .1)) w)
     where
@@ -132,9 +133,9 @@ module _ (v : List ℕ) where
       not-less m q w h = ⊎-elim (λ (x : (m ≡ 2) × (blockNumber v q ≢ q)). let y = x .0 in omega arith) (λ x. let y : m ≡ 3 = x .0 in omega arith) w
 
   first-checksum : IsClear 1 → blocksWrong v ≡ true → numberWrong v (badBlock v) ≡ false → IsFirst 3 (badBlock v)
-  unfolding volumeStage indexIn blockWrong
+  unfolding stageIn elem blockWrong
   first-checksum c e t =
-      first-of volumeStage (VolumeApplies v) 3 (badBlock v) c
+      first-of (stageIn volumeStages) (VolumeApplies v) 3 (badBlock v) c
       (wrongChecksum (badBlock v) (blocks-found v e .0) (checksumWrong-decides v (badBlock v) .yes (⊎-elim (λ x. absurd (contrary x t)) (λ x. x) (either (numberWrong v (badBlock v)) (checksumWrong v (badBlock v)) (blocks-found v e .1)))))
       (λ m q a s w. ⊎-elim (before-bad m q (at-this 1 m q a s .1)) (λ (h : (q ≡ badBlock v) × (m < 3)). not-less m q (at-this 1 m q a s .1) (h .0) (h .1)) w)
     where
@@ -142,21 +143,21 @@ module _ (v : List ℕ) where
       not-less m q w e h = ⊎-elim (λ (x : (m ≡ 2) × (blockNumber v q ≢ q)). contrary (holds (numberWrong-decides v q) (x .1)) (rw e t)) (λ x. let y : m ≡ 3 = x .0 in omega arith) w
 
   from-blocks : IsClear 1 → (rest : Said Sizes) → (IsClear 2 → IsSound rest) → IsSound (cond (blocksWrong v) (cond (numberWrong v (badBlock v)) (refused 2 (badBlock v)) (refused 3 (badBlock v))) rest)
-  unfolding volumeStage indexIn
+  unfolding stageIn elem
   from-blocks c rest later =
-      choice volumeStage (VolumeApplies v) (sizes v) (blocksWrong v) (numberWrong v (badBlock v)) 2 3 (badBlock v) rest (first-number c) (first-checksum c)
-      (λ e. later (clear-next volumeStage (VolumeApplies v) 1 c (λ m q a s. let w = at-this 1 m q a s in in-order m q (blocks-clear v e q (w .0)) (w .1))))
+      choice (stageIn volumeStages) (VolumeApplies v) (sizes v) (blocksWrong v) (numberWrong v (badBlock v)) 2 3 (badBlock v) rest (first-number c) (first-checksum c)
+      (λ e. later (clear-next (stageIn volumeStages) (VolumeApplies v) 1 c (λ m q a s. let w = at-this 1 m q a s in in-order m q (blocks-clear v e q (w .0)) (w .1))))
 
   -- the whole ladder
   pub check-sound : IsSound (verdict v)
-  unfolding verdict streamVerdict volumeStage indexIn
+  unfolding verdict streamVerdict stageIn elem
   check-sound =
-      single volumeStage (VolumeApplies v) (sizes v) (lengthWrong v) 1 _ _ (lengthWrong-decides v) wrongLength (λ m q a. omega arith) (at-this 0)
+      single (stageIn volumeStages) (VolumeApplies v) (sizes v) (lengthWrong v) 1 _ _ (lengthWrong-decides v) wrongLength (λ m q a. omega arith) (at-this 0)
       (λ c1. from-blocks c1 _
-      (λ c2. single volumeStage (VolumeApplies v) (sizes v) (versionWrong v) 4 _ _ (versionWrong-decides v) wrongVersion c2 (at-this 2)
-      (λ c3. single volumeStage (VolumeApplies v) (sizes v) (listCountWrong v) 5 _ _ (listCountWrong-decides v) wrongListCount c3 (at-this 3)
-      (λ c4. single volumeStage (VolumeApplies v) (sizes v) (extentWrong v) 6 _ _ (extentWrong-decides v) wrongExtent c4 (at-this 4)
+      (λ c2. single (stageIn volumeStages) (VolumeApplies v) (sizes v) (versionWrong v) 4 _ _ (versionWrong-decides v) wrongVersion c2 (at-this 2)
+      (λ c3. single (stageIn volumeStages) (VolumeApplies v) (sizes v) (listCountWrong v) 5 _ _ (listCountWrong-decides v) wrongListCount c3 (at-this 3)
+      (λ c4. single (stageIn volumeStages) (VolumeApplies v) (sizes v) (extentWrong v) 6 _ _ (extentWrong-decides v) wrongExtent c4 (at-this 4)
       (λ c5. from-order c5 _ from-tail)))))
 
-  pub check-first : FirstRefusal volumeStage (VolumeApplies v) (sizes v) (verdict v)
-  check-first = first-refusal volumeStage (VolumeApplies v) (sizes v) (verdict v) check-sound
+  pub check-first : FirstRefusal (stageIn volumeStages) (VolumeApplies v) (sizes v) (verdict v)
+  check-first = first-refusal (stageIn volumeStages) (VolumeApplies v) (sizes v) (verdict v) check-sound

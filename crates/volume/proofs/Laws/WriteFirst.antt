@@ -9,14 +9,14 @@ use mathlib.Core.Bool.{cond}
 use mathlib.Core.Logic.{_⊎_, _≢_}
 use mathlib.Core.List.{List, [], _∷_}
 use lib.ListN.{length, getD}
-use Rattle.seq.specs.Lists.{total, NotRising}
-use Rattle.seq.specs.Refusals.{Said, refused, answered, FirstRefusal}
+use Rattle.seq.specs.Lists.{elem, total, NotRising}
+use Rattle.seq.specs.Refusals.{Said, refused, answered, stageIn, FirstRefusal}
 use Rattle.seq.proofs.Laws.Tests.{contrary}
 use Rattle.seq.proofs.Laws.Numbers.{first-before}
 use Rattle.seq.proofs.Laws.Refusals.{Sound, end, first-refusal}
 use Rattle.volume.specs.Layout.{blocksFor}
 use Rattle.volume.specs.Write.{givenList, countsWrong, sumWrong, givenWrong, badGiven, givenListsWrong, tooLarge, shortOutput, writeAnswer}
-use Rattle.volume.specs.Refusals.{LeastBlocks, WriteApplies, wrongCounts, wrongSum, wrongGiven, overLarge, outputShort, indexIn, writeStage}
+use Rattle.volume.specs.Refusals.{LeastBlocks, WriteApplies, wrongCounts, wrongSum, wrongGiven, overLarge, outputShort, writeStages}
 use Rattle.seq.proofs.Laws.Decides.{Decides, holds, same-decides}
 use Rattle.volume.proofs.Laws.Check.{least-blocksFor, blocksFor-least}
 use Rattle.volume.proofs.Laws.WriteAnswer.{countsWrong-decides, sumWrong-decides, givenWrong-decides, tooLarge-decides, shortOutput-decides, given-clear, given-found}
@@ -45,8 +45,8 @@ module _ (counts postings : List ℕ) (room : ℕ) where
       ⊥
 
   -- each refusal says what its stage does
-  at-stage : (m q : ℕ) → WriteApplies counts postings room m q → AtStage m q (writeStage m)
-  unfolding writeStage indexIn
+  at-stage : (m q : ℕ) → WriteApplies counts postings room m q → AtStage m q (stageIn writeStages m)
+  unfolding stageIn elem
   at-stage m q (wrongCounts h) = (refl, (refl, h))
   at-stage m q (wrongSum h) = (refl, (refl, h))
   at-stage m q (wrongGiven i l h) = (refl, (l, h))
@@ -54,12 +54,12 @@ module _ (counts postings : List ℕ) (room : ℕ) where
   at-stage m q (outputShort n l h) = (refl, (refl, (n, l, h)))
 
   -- the same for a stage that is known
-  at-this : (k m q : ℕ) → WriteApplies counts postings room m q → writeStage m ≡ k → AtStage m q k
+  at-this : (k m q : ℕ) → WriteApplies counts postings room m q → stageIn writeStages m ≡ k → AtStage m q k
   at-this k m q a e = subst (λ (s : ℕ). AtStage m q s) e (at-stage m q a)
 
   -- there are five stages
-  stage-le : (m q : ℕ) → WriteApplies counts postings room m q → writeStage m ≤ 4
-  unfolding writeStage indexIn
+  stage-le : (m q : ℕ) → WriteApplies counts postings room m q → stageIn writeStages m ≤ 4
+  unfolding stageIn elem
   stage-le m q (wrongCounts h) = omega arith
   stage-le m q (wrongSum h) = omega arith
   stage-le m q (wrongGiven i l h) = omega arith
@@ -68,14 +68,14 @@ module _ (counts postings : List ℕ) (room : ℕ) where
 
   -- the words of this call: no earlier stage applies, a sound answer
   abbrev IsClear : ℕ → Type 0
-  IsClear k = Clear writeStage (WriteApplies counts postings room) k
+  IsClear k = Clear (stageIn writeStages) (WriteApplies counts postings room) k
 
   abbrev IsSound : Said ℕ → Type 0
-  IsSound said = Sound writeStage (WriteApplies counts postings room) value said
+  IsSound said = Sound (stageIn writeStages) (WriteApplies counts postings room) value said
 
   -- the rungs, from the last one up
   from-end : IsClear 5 → IsSound (answered value)
-  from-end c = end writeStage (WriteApplies counts postings room) value (λ m q a. let h = c m q a in let l = stage-le m q a in omega arith)
+  from-end c = end (stageIn writeStages) (WriteApplies counts postings room) value (λ m q a. let h = c m q a in let l = stage-le m q a in omega arith)
 
   short-decides : Decides (shortOutput counts postings room) Short
   short-decides =
@@ -84,9 +84,9 @@ module _ (counts postings : List ℕ) (room : ℕ) where
       (λ w. let e : blocksFor (2 + length counts + length postings) ≡ w .0 = blocksFor-least (2 + length counts + length postings) (w .0) (w .1) in let h = w .2 in omega arith)
 
   from-order : IsClear 2 → (rest : Said ℕ) → (IsClear 3 → IsSound rest) → IsSound (cond (givenListsWrong counts postings) (refused 7 (badGiven counts postings)) rest)
-  unfolding writeStage indexIn
+  unfolding stageIn elem
   from-order c rest later =
-      searched writeStage (WriteApplies counts postings room) value (givenListsWrong counts postings) 7 (badGiven counts postings) rest _ c (at-this 2)
+      searched (stageIn writeStages) (WriteApplies counts postings room) value (givenListsWrong counts postings) 7 (badGiven counts postings) rest _ c (at-this 2)
       (λ e.
       let f = given-found counts postings e in (
         wrongGiven (badGiven counts postings) (f .0) (givenWrong-decides counts postings (badGiven counts postings) .yes (f .1)),
@@ -97,13 +97,13 @@ module _ (counts postings : List ℕ) (room : ℕ) where
 
   -- the whole ladder
   pub write-sound : IsSound (writeAnswer counts postings room)
-  unfolding writeAnswer writeStage indexIn
+  unfolding writeAnswer stageIn elem
   write-sound =
-      single writeStage (WriteApplies counts postings room) value (countsWrong counts) 5 _ _ (countsWrong-decides counts postings) wrongCounts (λ m q a. omega arith) (at-this 0)
-      (λ c1. single writeStage (WriteApplies counts postings room) value (sumWrong counts postings) 18 _ _ (sumWrong-decides counts postings) wrongSum c1 (at-this 1)
+      single (stageIn writeStages) (WriteApplies counts postings room) value (countsWrong counts) 5 _ _ (countsWrong-decides counts postings) wrongCounts (λ m q a. omega arith) (at-this 0)
+      (λ c1. single (stageIn writeStages) (WriteApplies counts postings room) value (sumWrong counts postings) 18 _ _ (sumWrong-decides counts postings) wrongSum c1 (at-this 1)
       (λ c2. from-order c2 _
-      (λ c3. single writeStage (WriteApplies counts postings room) value (tooLarge counts postings) 19 _ _ (tooLarge-decides counts postings) overLarge c3 (at-this 3)
-      (λ c4. single writeStage (WriteApplies counts postings room) value (shortOutput counts postings room) 20 _ _ short-decides (λ w. outputShort (w .0) (w .1) (w .2)) c4 (at-this 4) from-end))))
+      (λ c3. single (stageIn writeStages) (WriteApplies counts postings room) value (tooLarge counts postings) 19 _ _ (tooLarge-decides counts postings) overLarge c3 (at-this 3)
+      (λ c4. single (stageIn writeStages) (WriteApplies counts postings room) value (shortOutput counts postings room) 20 _ _ short-decides (λ w. outputShort (w .0) (w .1) (w .2)) c4 (at-this 4) from-end))))
 
-  pub write-first : FirstRefusal writeStage (WriteApplies counts postings room) (blocksFor (2 + length counts + length postings)) (writeAnswer counts postings room)
-  write-first = first-refusal writeStage (WriteApplies counts postings room) value (writeAnswer counts postings room) write-sound
+  pub write-first : FirstRefusal (stageIn writeStages) (WriteApplies counts postings room) (blocksFor (2 + length counts + length postings)) (writeAnswer counts postings room)
+  write-first = first-refusal (stageIn writeStages) (WriteApplies counts postings room) value (writeAnswer counts postings room) write-sound
