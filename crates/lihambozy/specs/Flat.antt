@@ -2,9 +2,13 @@
 use Prim.Native.Nat.{ℕ}
 use Rattle.seq.specs.Refusals.{Said, refused, answered}
 use Rattle.volume.specs.Answers.{Sizes}
+use Rattle.plan.specs.Answers as plan
+use Rattle.plan.specs.declared.showing.Span.{Span}
 use Rattle.lihambozy.specs.declared.VolumeSizes.{VolumeSizes}
 use Rattle.lihambozy.specs.declared.ListLength.{ListLength}
 use Rattle.lihambozy.specs.declared.VolumeLength.{VolumeLength}
+use Rattle.lihambozy.specs.declared.PlanSizes.{PlanSizes}
+use Rattle.lihambozy.specs.declared.PatternSpan.{PatternSpan}
 
 -- the answer of checking a volume
 abbrev pub flatSizes : Said Sizes → VolumeSizes
@@ -20,3 +24,12 @@ flatList (answered n) = record { refusal = 0; at = 0; count = n }
 abbrev pub flatVolume : Said ℕ → VolumeLength
 flatVolume (refused n p) = record { refusal = n; at = p; blocks = 0 }
 flatVolume (answered n) = record { refusal = 0; at = 0; blocks = n }
+
+-- the answer of checking a plan
+abbrev pub flatPlan : Said plan.Sizes → PlanSizes
+flatPlan (refused n p) = record { refusal = n; at = p; patterns = 0; vars = 0 }
+flatPlan (answered s) = record { refusal = 0; at = 0; patterns = s .patterns; vars = s .vars }
+
+-- where the rows of a pattern lie
+abbrev pub flatSpan : Span → PatternSpan
+flatSpan s = record { start = s .start; len = s .len }

@@ -9,7 +9,13 @@ ghost use Rattle.volume.specs.Answers.{codeOf, atOf};
 ghost use Rattle.volume.specs.Check.{verdict};
 ghost use Rattle.volume.specs.Read.{readAnswer, readOut};
 ghost use Rattle.volume.specs.Write.{writeAnswer, writeOut};
-ghost use Rattle.lihambozy.specs.Flat.{flatSizes, flatList, flatVolume};
+ghost use Rattle.plan.specs.Answers as plans;
+ghost use Rattle.plan.specs.Check as planned;
+ghost use Rattle.plan.specs.Parts.{spanOf};
+ghost use Rattle.lihambozy.specs.Flat.{flatSizes, flatList, flatVolume, flatPlan, flatSpan};
+use plan::Checked as PlanChecked;
+use plan::Fault;
+use plan::Refusal as PlanRefusal;
 use volume::Checked;
 use volume::ListRead;
 use volume::Refusal;
@@ -46,6 +52,24 @@ pub struct VolumeLength {
     pub blocks: u32,
 }
 
+// What `lhz_check_plan` answers: the number of patterns (01: figures) and of their variables
+// (01: voices).
+#[repr(C)]
+pub struct PlanSizes {
+    pub refusal: u32,
+    pub at: u32,
+    pub patterns: u32,
+    pub vars: u32,
+}
+
+// What `lhz_pattern_rows` answers: where the rows of a pattern lie, in words of the plan; 0 and 0 on
+// a refusal.
+#[repr(C)]
+pub struct PatternSpan {
+    pub start: u32,
+    pub len: u32,
+}
+
 fn code_of(why: Refusal) -> Code
     ensures { λ r. ⌜ (r .refusal ≡ codeOf why) × (r .at ≡ atOf why) ⌝ }
 {
@@ -70,6 +94,31 @@ fn code_of(why: Refusal) -> Code
             refusal: 8,
             at: word,
         },
+    }
+}
+
+fn fault_code(fault: Fault) -> u32
+    ensures { λ r. ⌜ r ≡ plans.faultCode fault ⌝ }
+{
+    match fault {
+        Fault::Form => 10,
+        Fault::List => 11,
+        Fault::TooMany => 12,
+        Fault::Order => 13,
+    }
+}
+
+fn plan_code(why: PlanRefusal) -> Code
+    ensures { λ r. ⌜ (r .refusal ≡ plans.codeOf why) × (r .at ≡ plans.atOf why) ⌝ }
+{
+    match why {
+        PlanRefusal::Volume(of) => code_of(of),
+        PlanRefusal::Length => Code { refusal: 9, at: 0 },
+        PlanRefusal::Row(fault, row) => Code {
+            refusal: fault_code(fault),
+            at: row,
+        },
+        PlanRefusal::Unfinished => Code { refusal: 14, at: 0 },
     }
 }
 
@@ -169,4 +218,40 @@ pub extern "C" fn lhz_write_volume(counts: &[u32], postings: &[u32], out: &mut [
             blocks: 0,
         },
     }
+}
+
+// Checks a plan over a volume.
+#[no_mangle]
+pub extern "C" fn lhz_check_plan(volume: &[u8], plan: &[u32]) -> PlanSizes
+    ensures { λ r. ⌜ r ≡ flatPlan (planned.verdict (now (volume .entry)) (now (plan .entry))) ⌝ }
+{
+    let checked = plan::check(volume, plan);
+    match checked {
+        PlanChecked::Accepted(patterns, vars) => PlanSizes {
+            refusal: 0,
+            at: 0,
+            patterns,
+            vars,
+        },
+        PlanChecked::Refused(why) => {
+            let code = plan_code(why);
+            PlanSizes {
+                refusal: code.refusal,
+                at: code.at,
+                patterns: 0,
+                vars: 0,
+            }
+        }
+    }
+}
+
+// Where the rows of a pattern of a plan over a volume lie.
+#[no_mangle]
+pub extern "C" fn lhz_pattern_rows(volume: &[u8], plan: &[u32], pattern: u32) -> PatternSpan
+    ensures { λ r. ⌜ r ≡ flatSpan (spanOf (now (volume .entry)) (now (plan .entry)) pattern) ⌝ }
+{
+    let span = plan::pattern_span(volume, plan, pattern);
+    let start = span.start as u32;
+    let len = span.len as u32;
+    PatternSpan { start, len }
 }

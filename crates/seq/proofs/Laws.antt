@@ -4,6 +4,7 @@
 --     Lists      total, joined and lists that rise
 --     Numbers    firstFrom, run and sumTo
 --     Runs       runs, sums and searches of lists
+--     Slices     parts of lists, as runs of their values
 --     Rising     lists and runs that rise
 --     Stores     a buffer that is written from the front
 --     Refusals   a ladder of tests answers the first refusal that applies
@@ -14,6 +15,7 @@ pub mod Decides
 pub mod Lists
 pub mod Numbers
 pub mod Runs
+pub mod Slices
 pub mod Rising
 pub mod Stores
 pub mod Refusals

@@ -11,7 +11,7 @@ use mathlib.Core.Bool.{Bool, true, false, not, _&&_, _||_}
 use mathlib.Core.Logic.{_⊎_, inl, inr, ⊎-elim}
 use lib.Dec.{ltb, leb, eqb}
 use borrow.Author.Tests.{ltb-true, ltb-false, leb-true, leb-false, eqb-true, eqb-false, not-true, not-false}
-use Rattle.seq.proofs.Laws.Tests.{both, neither, either, true-or, contrary}
+use Rattle.seq.proofs.Laws.Tests.{both, both-true, neither, either, true-or, contrary}
 
 -- a test decides a fact: where it is true the fact holds, where it is false the fact does not
 pub record Decides (t : Bool) (P : Type 0) : Type 0 where
@@ -51,11 +51,8 @@ module _ {P Q : Type 0} {s t : Bool} (d : Decides s P) (e : Decides t Q) where
   pub and-decides : Decides (s && t) (P × Q)
   and-decides = record {
     yes = λ q. let w = both s t q in (d .yes (w .0), e .yes (w .1));
-    no = λ q pq. contrary (all-true s t (holds d (pq .0)) (holds e (pq .1))) q;
+    no = λ q pq. contrary (both-true s t (holds d (pq .0)) (holds e (pq .1))) q;
   }
-    where
-      all-true : (a b : Bool) → a ≡ true → b ≡ true → (a && b) ≡ true
-      all-true a b x y = rw (x, y)
 
   pub or-decides : Decides (s || t) (P ⊎ Q)
   or-decides = record {

@@ -1,12 +1,15 @@
 -- The laws of `specs/Lists.antt`. No contract cites this file.
 --     above-here, above-fall           one step of `above`
 --     length-joined, joined-append     lists, joined
+--     length-snoc                      the length of a list with one more at its end
+--     Each, each-cons, each-snoc       a fact of every element, of a list with one more in front, or at its end
 -- Assumes nothing.
-use Prim.Native.Nat.{ℕ, _+_, _<_, _≤_}
+use Prim.Native.Nat.{ℕ, zero, suc, _+_, _<_, _≤_}
+use native.Mathlib.Omega.{arith}
 use mathlib.Core.Path.{_≡_, refl, sym, ap, _∙_}
 use mathlib.Core.Bool.{false}
 use mathlib.Core.List.{List, [], _∷_, _++_, append-assoc}
-use lib.ListN.{length, length-append}
+use lib.ListN.{length, getD, length-append}
 use borrow.Author.Tests.{lt-ltb, le-ltb}
 use Rattle.seq.specs.Lists.{total, joined, above}
 
@@ -27,3 +30,19 @@ pub joined-append : {A : Type 0} (xss yss : List (List A)) → joined (xss ++ ys
 unfolding joined
 joined-append [] yss = refl
 joined-append {A} (xs ∷ xss) yss = ap (λ (l : List A). xs ++ l) (joined-append xss yss) ∙ sym (append-assoc xs (joined xss) (joined yss))
+
+module _ {A : Type 0} where
+  pub length-snoc : (xs : List A) (x : A) → length (xs ++ (x ∷ [])) ≡ length xs + 1
+  length-snoc xs x = length-append xs (x ∷ [])
+
+  -- P holds of every element
+  abbrev pub Each : (A → Type 0) → A → List A → Type 0
+  Each P d xs = (i : ℕ) → i < length xs → P (getD xs i d)
+
+  pub each-cons : (P : A → Type 0) (d x : A) (xs : List A) → P x → Each P d xs → Each P d (x ∷ xs)
+  each-cons P d x xs p h zero l = p
+  each-cons P d x xs p h (suc i) l = h i (omega arith)
+
+  pub each-snoc : (P : A → Type 0) (d x : A) (xs : List A) → Each P d xs → P x → Each P d (xs ++ (x ∷ []))
+  each-snoc P d x [] h p = each-cons P d x [] p h
+  each-snoc P d x (y ∷ ys) h p = each-cons P d y (ys ++ (x ∷ [])) (h 0 (omega arith)) (each-snoc P d x ys (λ i l. h (suc i) (omega arith)) p)

@@ -5,10 +5,11 @@
 --     before-or      of two refusals one comes before the other, or they are one
 --     past           behind a rung that refuses
 --     laid-refused, laid-answered
+--     alike          two answers that are told alike are one, where each can be known from what is told
 -- Assumes nothing.
 use Prim.Native.Nat.{ℕ, _<_, _≤_}
 use native.Mathlib.Omega.{arith}
-use mathlib.Core.Path.{_≡_, refl, sym, ap₂, _∙_, subst}
+use mathlib.Core.Path.{_≡_, refl, sym, ap, ap₂, _∙_, subst}
 use mathlib.Core.Bool.{Bool, true, false, cond}
 use mathlib.Core.Logic.{_⊎_, inl, inr, ⊎-elim}
 use mathlib.Core.List.{List, _++_}
@@ -23,6 +24,10 @@ laid-refused s n p xs out e = rw e
 pub laid-answered : {A : Type 0} (s : Said A) (a : A) (xs out : List ℕ) → s ≡ answered a → laid s xs out ≡ xs ++ drop (length xs) out
 unfolding laid
 laid-answered s a xs out e = rw e
+
+-- two things said alike are heard alike
+pub alike : {A B : Type 0} (said : A → B) (heard : B → A) → ((a : A) → heard (said a) ≡ a) → (a b : A) → said a ≡ said b → a ≡ b
+alike said heard back a b e = sym (back a) ∙ ap heard e ∙ back b
 
 pub not-both : {A : Type 0} (s : Said A) (a : A) (n p : ℕ) → s ≡ answered a → s ≡ refused n p → ⊥
 not-both s a n p x y = let z : _≡_ {A = ℕ} 0 1 = cc in omega arith

@@ -5,15 +5,15 @@
 --     over-clear       where the other call refuses nothing, its stages are clear
 --     over-refused     an answer that is the other call's refusal
 -- Assumes nothing.
-use Prim.Native.Nat.{ℕ, suc, _+_, _<_, _≤_}
+use Prim.Native.Nat.{ℕ, suc, _<_, _≤_}
 use native.Mathlib.Omega.{arith}
-use mathlib.Core.Path.{_≡_, refl, ap, subst}
+use mathlib.Core.Path.{_≡_, refl, ap}
 use mathlib.Core.Bool.{Bool, true, false, cond, true≢false}
 use mathlib.Core.Logic.{_⊎_, inl, inr, ⊎-elim}
 use mathlib.Core.List.{List, [], _∷_, _++_}
 use lib.ListN.{length}
 use Rattle.seq.specs.Lists.{elem}
-use Rattle.seq.specs.Refusals.{Said, refused, answered, stageIn, Before, First}
+use Rattle.seq.specs.Refusals.{Said, refused, stageIn, Before, First}
 use Rattle.seq.proofs.Laws.Refusals.{Sound, rung}
 use Rattle.seq.proofs.Laws.Ladder.{Clear}
 

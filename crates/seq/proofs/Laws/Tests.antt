@@ -1,5 +1,6 @@
 -- What a test's value tells. No contract cites this file.
 --     both, neither      parts of a `&&` that is true, of a `||` that is false
+--     both-true          a `&&` from its parts
 --     either             parts of a `||` that is true
 --     below-or           a < b, or b ≤ a
 --     true-or            a test is true or false
@@ -15,6 +16,9 @@ use borrow.Author.Tests.{ltb-true, ltb-false}
 pub both : (a b : Bool) → (a && b) ≡ true → (a ≡ true) × (b ≡ true)
 both true b e = (refl, e)
 both false b e = absurd (true≢false (sym e))
+
+pub both-true : (a b : Bool) → a ≡ true → b ≡ true → (a && b) ≡ true
+both-true a b x y = rw (x, y)
 
 pub neither : (a b : Bool) → (a || b) ≡ false → (a ≡ false) × (b ≡ false)
 neither true b e = absurd (true≢false e)

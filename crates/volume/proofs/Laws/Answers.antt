@@ -4,13 +4,14 @@
 --     one-to-one                                              no two answers are said alike
 -- Assumes nothing.
 use Prim.Native.Nat.{ℕ}
-use mathlib.Core.Path.{_≡_, refl, sym, ap, _∙_}
+use mathlib.Core.Path.{_≡_, refl, ap}
 use mathlib.Core.Bool.{cond}
 use mathlib.Core.List.{[], _∷_}
 use lib.ListN.{getD}
 use lib.Dec.{eqb}
 use Rattle.seq.specs.Lists.{elem}
 use Rattle.seq.specs.Refusals.{Said, refused, answered, stageIn}
+use Rattle.seq.proofs.Laws.Refusals.{alike}
 use Rattle.volume.specs.declared.answers.Refusal.{Refusal}
 use Rattle.volume.specs.declared.answers.Refusal.the-variants.{Length, Number, Checksum, Version, ListCount, Extent, Order, Padding}
 use Rattle.volume.specs.declared.answers.Checked.{Checked}
@@ -24,7 +25,7 @@ use Rattle.volume.specs.Refusals.{writeStages}
 use Rattle.volume.specs.Demands.{OneToOne}
 
 -- the refusal with a number, by a list from 0, and a place
-abbrev heardRefusal : ℕ → ℕ → Refusal
+abbrev pub heardRefusal : ℕ → ℕ → Refusal
 heardRefusal n p = getD (Length ∷ Length ∷ Number p ∷ Checksum p ∷ Version ∷ ListCount ∷ Extent ∷ Order p ∷ Padding p ∷ []) n Length
 
 abbrev heardSizes : Said Sizes → Refusal
@@ -56,14 +57,7 @@ heard-refusal (Padding i) = refl
 
 heard-checked : (a : Checked) → heardChecked (saidChecked a) ≡ a
 heard-checked (checked.Accepted t s) = refl
-heard-checked (checked.Refused Length) = refl
-heard-checked (checked.Refused (Number k)) = refl
-heard-checked (checked.Refused (Checksum k)) = refl
-heard-checked (checked.Refused Version) = refl
-heard-checked (checked.Refused ListCount) = refl
-heard-checked (checked.Refused Extent) = refl
-heard-checked (checked.Refused (Order i)) = refl
-heard-checked (checked.Refused (Padding i)) = refl
+heard-checked (checked.Refused r) = ap checked.Refused (heard-refusal r)
 
 heard-read : (a : ListRead) → heardRead (saidRead a) ≡ a
 heard-read (list.Read n) = refl
@@ -86,10 +80,6 @@ heard-written written.CountSum = refl
 heard-written (written.Order i) = refl
 heard-written written.TooLarge = refl
 heard-written written.Short = refl
-
--- two things said alike are heard alike
-alike : {A B : Type 0} (said : A → B) (heard : B → A) → ((a : A) → heard (said a) ≡ a) → (a b : A) → said a ≡ said b → a ≡ b
-alike said heard back a b e = sym (back a) ∙ ap heard e ∙ back b
 
 pub one-to-one : OneToOne
 one-to-one = record {

@@ -1,0 +1,31 @@
+-- The laws of `specs/`. No contract cites these files.
+--     Kinds                the table of `src/kinds.rt` follows its rule
+--     Rows                 four words and the row that they are read as; the words of a plan and of its parts
+--     Standing             the reading of a plan, row by row
+--     Passed               a plan that passes every test
+--     Check                the rungs of the verdict, and what its tests decide
+--     Patterns, Given      what a plan that passes every test gives
+--     Spans                the first row of a kind
+--     Reading, Walk, Parts     the rows that say a pattern, the walk over them, and where they lie
+--     Shown                what showing a pattern answers
+--     CheckFirst           checking answers the first refusal that applies
+--     ShownFirst           a part is empty exactly if a refusal applies; the parts and the plan
+--     Accepted             what acceptance gives
+--     Answers, Sample      an answer is known from its number and values; document 01's sample plan
+pub mod Kinds
+pub mod Rows
+pub mod Standing
+pub mod Passed
+pub mod Check
+pub mod Patterns
+pub mod Given
+pub mod Spans
+pub mod Reading
+pub mod Walk
+pub mod Parts
+pub mod Shown
+pub mod CheckFirst
+pub mod ShownFirst
+pub mod Accepted
+pub mod Answers
+pub mod Sample

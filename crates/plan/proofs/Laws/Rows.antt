@@ -1,0 +1,252 @@
+-- The laws of `specs/Rows.antt`: four words and the row that they are read as. No contract cites this file.
+--     nine                         a fact of 1, .., 9 is one of each number from 1 to 9
+--     Used, formed-known           what four words of the right form are
+--     words-of, range-of           they are the words of their row, whose limit is in range
+--     reads-row                    and such words are read as their row
+--     words-at, numberOf, number-at     row i of a plan has the words there; the number of its kind
+--     form-below, form-above       the form of a row of unknown kind
+--     form-a .. form-most          the form of a row of a known kind, word by word
+--     formWrong-decides            the test of the form decides document 01's sentence
+--     rows-slice, words-slice      in a plan that passes every test: the rows of a slice of whole rows; it is their words
+--     plan-words                   the plan is the words of its rows
+-- Assumes nothing.
+use Prim.Native.Nat.{ℕ, zero, suc, _+_, _*_, _<_, _≤_}
+use native.Mathlib.Nat.{add-zero}
+use native.Mathlib.Numerals.{add-one, add-two, add-three}
+use native.Mathlib.Omega.{arith}
+use mathlib.Core.Path.{_≡_, refl, sym, ap, ap₂, _∙_, subst}
+use mathlib.Core.Bool.{Bool, true, false, not, _&&_, _||_}
+use mathlib.Core.Logic.{_↔_, _≢_}
+use mathlib.Core.List.{List, [], _∷_, _++_, map}
+use lib.ListN.{length, getD, take, drop}
+use lib.Dec.{eqb, ltb}
+use lib.Seq.{take-all}
+use borrow.Author.Tests.{ltb-false, lt-ltb, le-ltb, eqb-true, not-true, not-false}
+use Rattle.seq.specs.Lists.{joined}
+use Rattle.seq.specs.Numbers.{run}
+use Rattle.seq.proofs.Laws.Tests.{neither, contrary}
+use Rattle.seq.proofs.Laws.Decides.{Decides, not-decides, eqb-decides, ltb-decides, and-decides, or-decides}
+use Rattle.seq.proofs.Laws.Numbers.{run-append, run-ext}
+use Rattle.plan.specs.declared.kinds.Uses.{Uses}
+use Rattle.plan.specs.declared.row.Predicate.the-variants.{Distance, Ordered, Samepara, Window}
+use Rattle.plan.specs.declared.row.Operator.the-variants.{Both, Either, FirstNotSecond}
+use Rattle.plan.specs.declared.row.Kind.{Kind}
+use Rattle.plan.specs.declared.row.Kind.the-variants as kind
+use Rattle.plan.specs.declared.row.Row.{Row}
+use Rattle.plan.specs.Rows.{rowCount, kindAt, aAt, bAt, cAt, kindOf, rowOf, rowAt, rowsOf, usesOf, misused, formWrong, formWrongAt, wordsOf, InRange}
+use Rattle.plan.specs.Refusals.{WrongForm}
+use Rattle.plan.proofs.Laws.Passed.{Passed}
+use Rattle.seq.proofs.Laws.Slices.{length-slice, getD-slice, slice-run}
+
+-- the first word of a row
+abbrev pub numberOf : Kind → ℕ
+numberOf k = getD (wordsOf k) 0 0
+
+pub nine : (P : ℕ → Type 0) → P 1 → P 2 → P 3 → P 4 → P 5 → P 6 → P 7 → P 8 → P 9 → (k : ℕ) → 1 ≤ k → k ≤ 9 → P k
+nine P p1 p2 p3 p4 p5 p6 p7 p8 p9 zero l h = absurd (let z : ⊥ = omega arith in z)
+nine P p1 p2 p3 p4 p5 p6 p7 p8 p9 (suc zero) l h = p1
+nine P p1 p2 p3 p4 p5 p6 p7 p8 p9 (suc (suc zero)) l h = p2
+nine P p1 p2 p3 p4 p5 p6 p7 p8 p9 (suc (suc (suc zero))) l h = p3
+nine P p1 p2 p3 p4 p5 p6 p7 p8 p9 (suc (suc (suc (suc zero)))) l h = p4
+nine P p1 p2 p3 p4 p5 p6 p7 p8 p9 (suc (suc (suc (suc (suc zero))))) l h = p5
+nine P p1 p2 p3 p4 p5 p6 p7 p8 p9 (suc (suc (suc (suc (suc (suc zero)))))) l h = p6
+nine P p1 p2 p3 p4 p5 p6 p7 p8 p9 (suc (suc (suc (suc (suc (suc (suc zero))))))) l h = p7
+nine P p1 p2 p3 p4 p5 p6 p7 p8 p9 (suc (suc (suc (suc (suc (suc (suc (suc zero)))))))) l h = p8
+nine P p1 p2 p3 p4 p5 p6 p7 p8 p9 (suc (suc (suc (suc (suc (suc (suc (suc (suc zero))))))))) l h = p9
+nine P p1 p2 p3 p4 p5 p6 p7 p8 p9 (suc (suc (suc (suc (suc (suc (suc (suc (suc (suc k)))))))))) l h = absurd (let z : ⊥ = omega arith in z)
+
+-- words are as a kind uses them: one that is not used is 0, and c is in its range
+pub record Used (u : Uses) (a b c : ℕ) : Type 0 where
+  pub a-used : u .a ≡ false → a ≡ 0
+  pub b-used : u .b ≡ false → b ≡ 0
+  pub c-least : u .least ≤ c
+  pub c-most : c ≤ u .most
+
+used : (u : Uses) (a b c : ℕ) → misused u a b c ≡ false → Used u a b c
+unfolding misused
+used u a b c e = record {
+  a-used = zero-word (u .a) a (p .0);
+  b-used = zero-word (u .b) b (q .0);
+  c-least = ltb-false c (u .least) (r .0);
+  c-most = ltb-false (u .most) c (r .1);
+}
+  where
+    zero-word : (t : Bool) (w : ℕ) → (not t && not (eqb w 0)) ≡ false → t ≡ false → w ≡ 0
+    zero-word t w f z = eqb-true w 0 (not-false (eqb w 0) (rw z at f))
+
+    p : ((not (u .a) && not (eqb a 0)) ≡ false) × (((not (u .b) && not (eqb b 0)) || (ltb c (u .least) || ltb (u .most) c)) ≡ false)
+    p = neither (not (u .a) && not (eqb a 0)) ((not (u .b) && not (eqb b 0)) || (ltb c (u .least) || ltb (u .most) c)) e
+
+    q : ((not (u .b) && not (eqb b 0)) ≡ false) × ((ltb c (u .least) || ltb (u .most) c) ≡ false)
+    q = neither (not (u .b) && not (eqb b 0)) (ltb c (u .least) || ltb (u .most) c) (p .1)
+
+    r : (ltb c (u .least) ≡ false) × (ltb (u .most) c ≡ false)
+    r = neither (ltb c (u .least)) (ltb (u .most) c) (q .1)
+
+-- four words of the right form are of kind 1 to 9 and as that kind uses them
+pub formed-known : (k a b c : ℕ) → formWrong k a b c ≡ false → (1 ≤ k) × (k ≤ 9) × (Used (usesOf (kindOf k a b c)) a b c)
+unfolding formWrong
+formed-known k a b c e =
+    let p = neither (ltb k 1) (ltb 9 k || misused (usesOf (kindOf k a b c)) a b c) e in
+    let q = neither (ltb 9 k) (misused (usesOf (kindOf k a b c)) a b c) (p .1) in
+    (ltb-false k 1 (p .0), ltb-false 9 k (q .0), used (usesOf (kindOf k a b c)) a b c (q .1))
+
+module _ (a b c : ℕ) where
+  -- four words, by which of them are used
+  words-are : (k a′ b′ c′ : ℕ) → a ≡ a′ → b ≡ b′ → c ≡ c′ → k ∷ a′ ∷ b′ ∷ c′ ∷ [] ≡ k ∷ a ∷ b ∷ c ∷ []
+  words-are k a′ b′ c′ x y z = rw (x, y, z)
+
+  used-words : (k : ℕ) → 1 ≤ k → k ≤ 9 → Used (usesOf (kindOf k a b c)) a b c → wordsOf (kindOf k a b c) ≡ k ∷ a ∷ b ∷ c ∷ []
+  used-words =
+      nine (λ k. Used (usesOf (kindOf k a b c)) a b c → wordsOf (kindOf k a b c) ≡ k ∷ a ∷ b ∷ c ∷ [])
+      (λ u. words-are 1 a 0 0 refl (u .b-used refl) (none (u .c-most)))
+      (λ u. refl)
+      (λ u. words-are 3 a b 0 refl refl (none (u .c-most)))
+      (λ u. words-are 4 a b 0 refl refl (none (u .c-most)))
+      (λ u. words-are 5 0 0 c (u .a-used refl) (u .b-used refl) refl)
+      (λ u. words-are 6 0 0 0 (u .a-used refl) (u .b-used refl) (none (u .c-most)))
+      (λ u. words-are 7 0 0 0 (u .a-used refl) (u .b-used refl) (none (u .c-most)))
+      (λ u. words-are 8 0 0 0 (u .a-used refl) (u .b-used refl) (none (u .c-most)))
+      (λ u. words-are 9 0 0 0 (u .a-used refl) (u .b-used refl) (none (u .c-most)))
+    where
+      none : c ≤ 0 → c ≡ 0
+      none h = omega arith
+
+  used-range : (k : ℕ) → 1 ≤ k → k ≤ 9 → Used (usesOf (kindOf k a b c)) a b c → InRange (kindOf k a b c)
+  used-range =
+      nine (λ k. Used (usesOf (kindOf k a b c)) a b c → InRange (kindOf k a b c))
+      (λ u. tt) (λ u. u .c-most) (λ u. tt) (λ u. tt) (λ u. (u .c-least, u .c-most)) (λ u. tt) (λ u. tt) (λ u. tt) (λ u. tt)
+
+pub words-of : (k a b c : ℕ) → formWrong k a b c ≡ false → wordsOf (kindOf k a b c) ≡ k ∷ a ∷ b ∷ c ∷ []
+words-of k a b c e = let f = formed-known k a b c e in used-words a b c k (f .0) (f .1) (f .2)
+
+pub range-of : (k a b c : ℕ) → formWrong k a b c ≡ false → InRange (kindOf k a b c)
+range-of k a b c e = let f = formed-known k a b c e in used-range a b c k (f .0) (f .1) (f .2)
+
+-- words are read as a row of this kind, and have the right form
+abbrev ReadAs : Kind → List ℕ → Type 0
+ReadAs r ws = (formWrong (getD ws 0 0) (getD ws 1 0) (getD ws 2 0) (getD ws 3 0) ≡ false) × (kindOf (getD ws 0 0) (getD ws 1 0) (getD ws 2 0) (getD ws 3 0) ≡ r)
+
+-- the words of a row whose limit is in range are read as that row
+read-words : (r : Kind) → InRange r → ReadAs r (wordsOf r)
+unfolding formWrong misused
+read-words (kind.Voice list) h = (refl, refl)
+read-words (kind.Condition (Distance a b limit)) h = (rw (le-ltb limit 0 (omega arith), le-ltb 65535 limit h), refl)
+read-words (kind.Condition (Ordered a b)) h = (refl, refl)
+read-words (kind.Condition (Samepara a b)) h = (refl, refl)
+read-words (kind.Condition (Window limit)) h = (rw (le-ltb limit 1 (h .0), le-ltb 65536 limit (h .1)), refl)
+read-words kind.End h = (refl, refl)
+read-words (kind.Operator Both) h = (refl, refl)
+read-words (kind.Operator Either) h = (refl, refl)
+read-words (kind.Operator FirstNotSecond) h = (refl, refl)
+
+-- four words have the right form and are read as a row exactly if its limit is in range and they are its words
+pub reads-row : (k a b c : ℕ) (r : Row) → ((formWrong k a b c ≡ false) × (rowOf k a b c ≡ r)) ↔ (InRange (r .kind) × (wordsOf (r .kind) ≡ k ∷ a ∷ b ∷ c ∷ []))
+reads-row k a b c r = (there, back)
+  where
+    there : (formWrong k a b c ≡ false) × (rowOf k a b c ≡ r) → InRange (r .kind) × (wordsOf (r .kind) ≡ k ∷ a ∷ b ∷ c ∷ [])
+    there w = subst (λ (x : Row). InRange (x .kind) × (wordsOf (x .kind) ≡ k ∷ a ∷ b ∷ c ∷ [])) (w .1) (range-of k a b c (w .0), words-of k a b c (w .0))
+
+    back : InRange (r .kind) × (wordsOf (r .kind) ≡ k ∷ a ∷ b ∷ c ∷ []) → (formWrong k a b c ≡ false) × (rowOf k a b c ≡ r)
+    back w = let q : ReadAs (r .kind) (k ∷ a ∷ b ∷ c ∷ []) = rw (w .1) at (read-words (r .kind) (w .0)) in (q .0, ap (λ (x : Kind). record { kind = x }) (q .1))
+
+-- rows of the same words are the same
+row-ext : (p q : List ℕ) (i j : ℕ) → kindAt p i ≡ kindAt q j → aAt p i ≡ aAt q j → bAt p i ≡ bAt q j → cAt p i ≡ cAt q j → rowAt p i ≡ rowAt q j
+unfolding rowAt
+row-ext p q i j k a b c = rw (k, a, b, c)
+
+module _ (p : List ℕ) where
+  -- row i of the right form has the words that the plan has there
+  pub words-at : (i : ℕ) → formWrongAt p i ≡ false → wordsOf (rowAt p i .kind) ≡ kindAt p i ∷ aAt p i ∷ bAt p i ∷ cAt p i ∷ []
+  unfolding rowAt
+  words-at i e = words-of (kindAt p i) (aAt p i) (bAt p i) (cAt p i) e
+
+  pub number-at : (i : ℕ) → formWrongAt p i ≡ false → numberOf (rowAt p i .kind) ≡ kindAt p i
+  number-at i e = ap (λ (ws : List ℕ). getD ws 0 0) (words-at i e)
+
+  -- the words of m rows of the right form, from row i on
+  words-run : (i m : ℕ) → ((j : ℕ) → i ≤ j → j < i + m → formWrongAt p j ≡ false) → joined (map (λ (r : Row). wordsOf (r .kind)) (run (rowAt p) i m)) ≡ run (λ j. getD p j 0) (4 * i) (4 * m)
+  unfolding joined run
+  words-run i zero formed = refl
+  words-run i (suc m) formed =
+      let e : 4 * suc m ≡ 4 + 4 * m = omega arith in
+      let f : 4 * i + 4 ≡ 4 * suc i = omega arith in
+      ap₂ (λ (u v : List ℕ). u ++ v) (words-at i (formed i (omega arith) (omega arith)) ∙ four) (words-run (suc i) m (λ j a b. formed j (omega arith) (omega arith)))
+      ∙ sym (ap (run (λ j. getD p j 0) (4 * i)) e ∙ run-append (λ j. getD p j 0) (4 * i) 4 (4 * m) ∙ ap (λ (k : ℕ). run (λ j. getD p j 0) (4 * i) 4 ++ run (λ j. getD p j 0) k (4 * m)) f)
+    where
+      four : kindAt p i ∷ aAt p i ∷ bAt p i ∷ cAt p i ∷ [] ≡ run (λ j. getD p j 0) (4 * i) 4
+      four = rw (add-one, add-two, add-three)
+
+-- slices of a plan that passes every test
+module _ (t : ℕ) (p : List ℕ) (ok : Passed t p) where
+  -- the rows of a slice of m whole rows, from row i on
+  pub rows-slice : (i m : ℕ) → i + m ≤ rowCount p → rowsOf (take (4 * m) (drop (4 * i) p)) ≡ run (rowAt p) i m
+  rows-slice i m h =
+      let n = ok .whole in
+      let l : length (take (4 * m) (drop (4 * i) p)) ≡ 4 * m = length-slice p (4 * i) (4 * m) (omega arith) in
+      let c : rowCount (take (4 * m) (drop (4 * i) p)) ≡ m = omega arith in
+      ap (run (rowAt (take (4 * m) (drop (4 * i) p))) 0) c
+      ∙ run-ext (rowAt (take (4 * m) (drop (4 * i) p))) (rowAt p) 0 i m same
+    where
+      word : (j w : ℕ) → j < m → w < 4 → getD (take (4 * m) (drop (4 * i) p)) (4 * (0 + j) + w) 0 ≡ getD p (4 * (i + j) + w) 0
+      word j w g k =
+          let e : 4 * i + (4 * (0 + j) + w) ≡ 4 * (i + j) + w = omega arith in
+          getD-slice p (4 * i) (4 * m) (4 * (0 + j) + w) 0 (omega arith) ∙ ap (λ (x : ℕ). getD p x 0) e
+
+      word-0 : (j : ℕ) → j < m → kindAt (take (4 * m) (drop (4 * i) p)) (0 + j) ≡ kindAt p (i + j)
+      word-0 j g = rw (add-zero (4 * (0 + j)), add-zero (4 * (i + j))) at (word j 0 g (omega arith))
+
+      same : (j : ℕ) → j < m → rowAt (take (4 * m) (drop (4 * i) p)) (0 + j) ≡ rowAt p (i + j)
+      same j g = row-ext (take (4 * m) (drop (4 * i) p)) p (0 + j) (i + j) (word-0 j g) (word j 1 g (omega arith)) (word j 2 g (omega arith)) (word j 3 g (omega arith))
+
+  -- which is their words
+  pub words-slice : (i m : ℕ) → i + m ≤ rowCount p → take (4 * m) (drop (4 * i) p) ≡ joined (map (λ (r : Row). wordsOf (r .kind)) (run (rowAt p) i m))
+  words-slice i m h = let n = ok .whole in slice-run 0 p (4 * i) (4 * m) (omega arith) ∙ sym (words-run p i m (λ j a l. ok .formed j (omega arith)))
+
+  -- the plan is the words of its rows
+  pub plan-words : p ≡ joined (map (λ (r : Row). wordsOf (r .kind)) (rowsOf p))
+  plan-words = let n = ok .whole in sym (take-all (4 * rowCount p) p (omega arith)) ∙ words-slice 0 (rowCount p) (omega arith)
+
+-- the test of the form, the way the code takes it
+module _ (k a b c : ℕ) where
+  pub form-below : k < 1 → formWrong k a b c ≡ true
+  unfolding formWrong
+  form-below h = simp (lt-ltb k 1 h)
+
+  pub form-above : 1 ≤ k → 9 < k → formWrong k a b c ≡ true
+  unfolding formWrong
+  form-above h l = simp (le-ltb k 1 h, lt-ltb 9 k l)
+
+  -- what a known kind uses
+  module _ (u : Uses) (e : u ≡ usesOf (kindOf k a b c)) (low : 1 ≤ k) (high : k ≤ 9) where
+    form-used : formWrong k a b c ≡ misused u a b c
+    unfolding formWrong
+    form-used = simp (le-ltb k 1 low, le-ltb 9 k high) (ap (λ (w : Uses). misused w a b c) (sym e))
+
+    pub form-a : (not (u .a) && not (eqb a 0)) ≡ true → formWrong k a b c ≡ true
+    unfolding misused
+    form-a x = form-used ∙ rw x
+
+    module _ (xa : (not (u .a) && not (eqb a 0)) ≡ false) where
+      pub form-b : (not (u .b) && not (eqb b 0)) ≡ true → formWrong k a b c ≡ true
+      unfolding misused
+      form-b x = form-used ∙ rw (xa, x)
+
+      module _ (xb : (not (u .b) && not (eqb b 0)) ≡ false) where
+        pub form-least : c < u .least → formWrong k a b c ≡ true
+        unfolding misused
+        form-least h = form-used ∙ rw (xa, xb, lt-ltb c (u .least) h)
+
+        pub form-most : u .least ≤ c → formWrong k a b c ≡ ltb (u .most) c
+        unfolding misused
+        form-most h = form-used ∙ rw (xa, xb, le-ltb c (u .least) h)
+
+-- a word that is not used is not 0
+stray-decides : (used : Bool) (x : ℕ) → Decides (not used && not (eqb x 0)) ((used ≡ false) × (x ≢ 0))
+stray-decides used x = and-decides (record { yes = not-true used; no = λ e f. contrary (not-false used e) f }) (not-decides (eqb-decides x 0))
+
+pub formWrong-decides : (k a b c : ℕ) → Decides (formWrong k a b c) (WrongForm k a b c)
+unfolding formWrong misused
+formWrong-decides k a b c =
+    let u = usesOf (kindOf k a b c) in
+    or-decides (ltb-decides k 1) (or-decides (ltb-decides 9 k) (or-decides (stray-decides (u .a) a) (or-decides (stray-decides (u .b) b) (or-decides (ltb-decides c (u .least)) (ltb-decides (u .most) c)))))

@@ -1,0 +1,75 @@
+-- The statements that the crate is held to, each a named type. `proofs/Demands.antt` proves each in a line. Assumes nothing.
+--     CheckRefuses, PartRefuses     demand 1 for checking a plan and for showing a pattern
+--     ReadsRows                     four words are read as exactly the row that they state
+--     Gives                         what acceptance gives
+--     Parts                         the rows of a pattern are those it was read from; with the operators between them they are the plan
+--     OneToOne                      no two answers are told alike
+--     Sample                        document 01's sample plan
+use Prim.Native.Nat.{ℕ, _<_, _≤_}
+use mathlib.Core.Path.{_≡_}
+use mathlib.Core.Bool.{true, false}
+use mathlib.Core.Logic.{_↔_}
+use mathlib.Core.List.{List, [], _∷_, _++_, map}
+use Rattle.seq.specs.Lists.{all, joined}
+use Rattle.seq.specs.Numbers.{run}
+use Rattle.seq.specs.Refusals.{answered, stageIn, FirstRefusal}
+use Rattle.volume.specs.Write.{volumeOf}
+use Rattle.volume.specs.Demands.{sampleLists}
+use Rattle.plan.specs.declared.answers.Refusal.{Refusal}
+use Rattle.plan.specs.declared.answers.Checked.{Checked}
+use Rattle.plan.specs.declared.row.Predicate.the-variants.{Ordered, Samepara}
+use Rattle.plan.specs.declared.row.Row.{Row}
+use Rattle.plan.specs.Rows.{rowOf, rowsOf, formWrong, wordsOf, InRange}
+use Rattle.plan.specs.Patterns.{Pattern, patternsOf}
+use Rattle.plan.specs.Answers.{Sizes, saidRefusal, saidChecked}
+use Rattle.plan.specs.Check.{sizes, verdict, Accepted}
+use Rattle.plan.specs.Parts.{partOf, gap, isOperator, patternRows}
+use Rattle.plan.specs.Refusals.{PlanApplies, PartApplies, planStages}
+use Rattle.plan.specs.Accepted.{patternAt, Given}
+
+-- Demand 1, checking: the verdict is the first of 1 to 14 that applies, and F and V exactly if none applies
+unfoldable pub CheckRefuses : Type 0
+CheckRefuses = (v p : List ℕ) → FirstRefusal (stageIn planStages) (PlanApplies v p) (sizes p) (verdict v p)
+
+-- Demand 1, showing a pattern: the part is empty exactly if one of 1 to 14 or 17 applies
+unfoldable pub PartRefuses : Type 0
+PartRefuses = (v p : List ℕ) (k : ℕ) → (partOf v p k ≡ []) ↔ ((n : ℕ) × (q : ℕ) × PartApplies v p k n q)
+
+-- four words have the right form and are read as a row exactly if its limit is in range and they are its words
+unfoldable pub ReadsRows : Type 0
+ReadsRows = (k a b c : ℕ) (r : Row) → ((formWrong k a b c ≡ false) × (rowOf k a b c ≡ r)) ↔ (InRange (r .kind) × (wordsOf (r .kind) ≡ k ∷ a ∷ b ∷ c ∷ []))
+
+-- an accepted volume and plan give these facts
+unfoldable pub Gives : Type 0
+Gives = (v p : List ℕ) → Accepted v p → Given v p
+
+-- the patterns' parts: their rows are those that say the pattern, and their words those of these rows; the parts in order, with the
+-- operators between them, are the whole plan
+pub record Parted (v p : List ℕ) : Type 0 where
+  pub rows : (k : ℕ) → k < sizes p .patterns → rowsOf (partOf v p k) ≡ patternRows (patternAt p k)
+  pub words : (k : ℕ) → k < sizes p .patterns → partOf v p k ≡ joined (map (λ (r : Row). wordsOf (r .kind)) (patternRows (patternAt p k)))
+  pub whole : p ≡ joined (run (λ k. gap p k ++ partOf v p k) 0 (sizes p .patterns)) ++ gap p (sizes p .patterns)
+  pub gaps : (k : ℕ) → k ≤ sizes p .patterns → all (λ (r : Row). isOperator (r .kind)) (rowsOf (gap p k)) ≡ true
+
+unfoldable pub Parts : Type 0
+Parts = (v p : List ℕ) → Accepted v p → Parted v p
+
+-- no two answers have document 01's number and values in common
+pub record OneToOne : Type 0 where
+  pub refusal : (a b : Refusal) → saidRefusal {A = Sizes} a ≡ saidRefusal b → a ≡ b
+  pub checked : (a b : Checked) → saidChecked a ≡ saidChecked b → a ≡ b
+
+-- document 01's sample plan: VOICE 1, VOICE 2, BEFORE 0 1, SAME TITLE 0 1, END
+abbrev pub samplePattern : Pattern
+samplePattern = record { vars = 1 ∷ 2 ∷ []; predicates = Ordered 0 1 ∷ Samepara 0 1 ∷ [] }
+
+abbrev pub samplePlan : List ℕ
+samplePlan = joined (map (λ (r : Row). wordsOf (r .kind)) (patternRows samplePattern))
+
+-- over the sample volume it is accepted with one pattern and two variables, means that pattern, and its part is the whole plan
+pub record Sample : Type 0 where
+  pub words : samplePlan ≡ 1 ∷ 1 ∷ 0 ∷ 0 ∷ 1 ∷ 2 ∷ 0 ∷ 0 ∷ 3 ∷ 0 ∷ 1 ∷ 0 ∷ 4 ∷ 0 ∷ 1 ∷ 0 ∷ 6 ∷ 0 ∷ 0 ∷ 0 ∷ []
+  pub checks : verdict (volumeOf sampleLists) samplePlan ≡ answered (record { patterns = 1; vars = 2 })
+  pub means : patternsOf (rowsOf samplePlan) ≡ samplePattern ∷ []
+  pub part : partOf (volumeOf sampleLists) samplePlan 0 ≡ samplePlan
+  pub no-part : partOf (volumeOf sampleLists) samplePlan 1 ≡ []

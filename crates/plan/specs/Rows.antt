@@ -1,0 +1,107 @@
+-- The rows of a plan: four words each, and the kind that they are read as. Each definition is total: behind the end of the plan stand zeros.
+-- Assumes nothing.
+use Prim.Native.Nat.{ℕ, _+_, _-_, _*_, _/_, _≤_}
+use mathlib.Core.Bool.{Bool, true, false, not, _&&_, _||_}
+use mathlib.Core.List.{List, [], _∷_}
+use lib.ListN.{length, getD}
+use lib.Dec.{eqb, ltb}
+use Rattle.seq.specs.Numbers.{run}
+use Rattle.plan.specs.declared.kinds.Uses.{Uses}
+use Rattle.plan.specs.declared.row.Predicate.the-variants.{Distance, Ordered, Samepara, Window}
+use Rattle.plan.specs.declared.row.Operator.{Operator}
+use Rattle.plan.specs.declared.row.Operator.the-variants.{Both, Either, FirstNotSecond}
+use Rattle.plan.specs.declared.row.Kind.{Kind}
+use Rattle.plan.specs.declared.row.Kind.the-variants as kind
+use Rattle.plan.specs.declared.row.Row.{Row}
+
+-- the number of rows
+abbrev pub rowCount : List ℕ → ℕ
+rowCount p = length p / 4
+
+-- the words of row i: its kind, a, b and c
+abbrev pub kindAt : List ℕ → ℕ → ℕ
+kindAt p i = getD p (4 * i) 0
+
+abbrev pub aAt : List ℕ → ℕ → ℕ
+aAt p i = getD p (4 * i + 1) 0
+
+abbrev pub bAt : List ℕ → ℕ → ℕ
+bAt p i = getD p (4 * i + 2) 0
+
+abbrev pub cAt : List ℕ → ℕ → ℕ
+cAt p i = getD p (4 * i + 3) 0
+
+-- the kind of a row with these words, for kinds 1 to 9
+abbrev pub kindOf : ℕ → ℕ → ℕ → ℕ → Kind
+kindOf k a b c =
+    getD
+    (kind.Voice a
+    ∷ kind.Condition (Distance a b c)
+    ∷ kind.Condition (Ordered a b)
+    ∷ kind.Condition (Samepara a b)
+    ∷ kind.Condition (Window c)
+    ∷ kind.End
+    ∷ kind.Operator Both
+    ∷ kind.Operator Either
+    ∷ kind.Operator FirstNotSecond
+    ∷ [])
+    (k - 1)
+    kind.End
+
+abbrev pub rowOf : ℕ → ℕ → ℕ → ℕ → Row
+rowOf k a b c = record { kind = kindOf k a b c }
+
+-- row i
+unfoldable pub rowAt : List ℕ → ℕ → Row
+rowAt p i = rowOf (kindAt p i) (aAt p i) (bAt p i) (cAt p i)
+
+-- the rows
+abbrev pub rowsOf : List ℕ → List Row
+rowsOf p = run (rowAt p) 0 (rowCount p)
+
+-- whether a and b are used, and the range of c
+abbrev pub uses : Bool → Bool → ℕ → ℕ → Uses
+uses a b least most = record { a = a; b = b; least = least; most = most }
+
+-- the words that a row uses, by its kind; c is 0 where it is not used
+abbrev pub usesOf : Kind → Uses
+usesOf (kind.Voice list) = uses true false 0 0
+usesOf (kind.Condition (Distance a b limit)) = uses true true 0 65535
+usesOf (kind.Condition (Ordered a b)) = uses true true 0 0
+usesOf (kind.Condition (Samepara a b)) = uses true true 0 0
+usesOf (kind.Condition (Window limit)) = uses false false 1 65536
+usesOf kind.End = uses false false 0 0
+usesOf (kind.Operator o) = uses false false 0 0
+
+-- words a, b and c are not as a kind uses them: one that is not used is not 0, or c is out of its range
+unfoldable pub misused : Uses → ℕ → ℕ → ℕ → Bool
+misused u a b c = (not (u .a) && not (eqb a 0)) || ((not (u .b) && not (eqb b 0)) || (ltb c (u .least) || ltb (u .most) c))
+
+-- 10: unknown kind, unused word not 0, or c out of range
+unfoldable pub formWrong : ℕ → ℕ → ℕ → ℕ → Bool
+formWrong k a b c = ltb k 1 || (ltb 9 k || misused (usesOf (kindOf k a b c)) a b c)
+
+abbrev pub formWrongAt : List ℕ → ℕ → Bool
+formWrongAt p i = formWrong (kindAt p i) (aAt p i) (bAt p i) (cAt p i)
+
+-- the words of a row
+abbrev pub wordsOf : Kind → List ℕ
+wordsOf (kind.Voice list) = 1 ∷ list ∷ 0 ∷ 0 ∷ []
+wordsOf (kind.Condition (Distance a b limit)) = 2 ∷ a ∷ b ∷ limit ∷ []
+wordsOf (kind.Condition (Ordered a b)) = 3 ∷ a ∷ b ∷ 0 ∷ []
+wordsOf (kind.Condition (Samepara a b)) = 4 ∷ a ∷ b ∷ 0 ∷ []
+wordsOf (kind.Condition (Window limit)) = 5 ∷ 0 ∷ 0 ∷ limit ∷ []
+wordsOf kind.End = 6 ∷ 0 ∷ 0 ∷ 0 ∷ []
+wordsOf (kind.Operator Both) = 7 ∷ 0 ∷ 0 ∷ 0 ∷ []
+wordsOf (kind.Operator Either) = 8 ∷ 0 ∷ 0 ∷ 0 ∷ []
+wordsOf (kind.Operator FirstNotSecond) = 9 ∷ 0 ∷ 0 ∷ 0 ∷ []
+
+-- the limit of a condition is in its range
+abbrev pub InRange : Kind → Type 0
+InRange (kind.Voice list) = Unit
+InRange (kind.Condition (Distance a b limit)) = limit ≤ 65535
+InRange (kind.Condition (Ordered a b)) = Unit
+InRange (kind.Condition (Samepara a b)) = Unit
+InRange (kind.Condition (Window limit)) = (1 ≤ limit) × (limit ≤ 65536)
+InRange kind.End = Unit
+InRange (kind.Operator o) = Unit

@@ -1,0 +1,26 @@
+// Query plans: rows of four words over the lists of a volume. `check` gives the number of a plan's
+// patterns and variables or says why it is refused, and `pattern_rows` gives a pattern's own rows.
+//
+// Neither has a `requires`, nor has `pattern_span`. What each one answers is an equation with a
+// definition of `specs/`. `row_at` and `span_at` serve the crates above, on a plan that they have
+// checked.
+mod answers;
+mod checking;
+mod kinds;
+mod row;
+mod showing;
+mod standing;
+
+pub use answers::Checked;
+pub use answers::Fault;
+pub use answers::Refusal;
+pub use checking::check;
+pub use row::Kind;
+pub use row::Operator;
+pub use row::Predicate;
+pub use row::Row;
+pub use row::row_at;
+pub use showing::Span;
+pub use showing::pattern_rows;
+pub use showing::pattern_span;
+pub use showing::span_at;
