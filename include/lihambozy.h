@@ -1,4 +1,4 @@
-/* lihambozy.h: reading and writing the volumes of a surtitle archive.
+/* lihambozy.h: reading and writing the volumes of a surtitle archive, and checking plans over them.
  *
  * A volume is an inverted index as one piece of bytes. It holds T posting lists, 1 to 1,024. A
  * posting is a 32-bit number, document * 65,536 + position, both 0 to 65,535 (document 01 says
@@ -10,6 +10,27 @@
  * blocks, joined, are the stream: the format version (01: edition), 1; T; T counts; the lists back
  * to back; then zero words. With S the sum of the counts, n is the least number of blocks that
  * holds 2 + T + S words. All stored numbers are little-endian.
+ *
+ * A plan is a query over a volume: 1 to 64 rows of four words, kind, a, b and c. A row whose kind
+ * does not use a word has 0 there. The nine kinds:
+ *
+ *    1  VOICE             a variable (01: voice) with list a, which is not list 0. Where no pattern
+ *                         (01: figure) is open it opens one. Variables are numbered from 0 in each
+ *                         pattern.
+ *    2  NEAR              a predicate (01: condition): the positions of variables a and b differ by
+ *                         at most c + 1; c is 0 to 65,535
+ *    3  BEFORE            a predicate: the position of variable a is less than that of variable b
+ *    4  SAME TITLE        a predicate: variables a and b stand in one title
+ *    5  SPAN              a predicate: the largest and smallest position of the pattern's variables
+ *                         differ by at most c - 1; c is 1 to 65,536
+ *    6  END               closes the pattern; its answer is stacked
+ *    7  BOTH              takes the top two answers and stacks one: both are yes
+ *    8  EITHER            the same: at least one is yes
+ *    9  FIRST NOT SECOND  the same: the lower one is yes and the upper one is not
+ *
+ * In a pattern all variables stand before the predicates. A pattern has 1 to 8 variables, a plan 1
+ * to 8 patterns, numbered from 0 in the order in which they open. At the end no pattern is open and
+ * one answer is left.
  *
  * What every call here has in common:
  *
@@ -25,7 +46,7 @@
  *   that starts with `refusal` and `at`. `refusal` is 0 where the call is answered. Otherwise it is
  *   the number of the first refusal that applies, in the order listed at the call; `at` is its
  *   place, 0 where none is named below; the fields behind `at` are 0; and `out` is left exactly as
- *   it was.
+ *   it was. lhz_pattern_rows alone tells no number: an empty part stands for every refusal.
  */
 #ifndef LIHAMBOZY_H
 #define LIHAMBOZY_H
@@ -42,6 +63,21 @@ extern "C" {
 #define LHZ_MAX_BLOCKS 8192    /* blocks of the largest volume */
 #define LHZ_MAX_WORDS 1032192  /* stream words of the largest volume */
 #define LHZ_MAX_LISTS 1024     /* lists of a volume, at most; 1 at least */
+#define LHZ_ROW_WORDS 4        /* words of a row of a plan */
+#define LHZ_MAX_ROWS 64        /* rows of a plan, at most; 1 at least */
+#define LHZ_MAX_PATTERNS 8     /* patterns of a plan, at most; 1 at least */
+#define LHZ_MAX_VARS 8         /* variables of a pattern, at most; 1 at least */
+
+/* The kinds of a plan's rows. */
+#define LHZ_VOICE 1
+#define LHZ_NEAR 2
+#define LHZ_BEFORE 3
+#define LHZ_SAME_TITLE 4
+#define LHZ_SPAN 5
+#define LHZ_END 6
+#define LHZ_BOTH 7
+#define LHZ_EITHER 8
+#define LHZ_FIRST_NOT_SECOND 9
 
 /* The answer of lhz_check_volume. */
 typedef struct lhz_check_volume_answer {
@@ -113,6 +149,50 @@ typedef struct lhz_write_volume_answer {
 lhz_write_volume_answer lhz_write_volume(const uint32_t *counts, size_t counts_len,
                                          const uint32_t *postings, size_t postings_len,
                                          uint8_t *out, size_t out_len);
+
+/* The answer of lhz_check_plan. */
+typedef struct lhz_check_plan_answer {
+    uint32_t refusal;
+    uint32_t at;
+    uint32_t patterns; /* F, the number of patterns */
+    uint32_t vars;     /* V, the number of variables of all patterns together */
+} lhz_check_plan_answer;
+
+/* Checks a plan over a volume.
+ *
+ * Lent for reading: volume, len bytes; plan, plan_len words. Nothing is written.
+ *
+ * Refusals, the first that applies. Rows go upward, 10 to 13 in order in each, and 14 comes after
+ * all of them. For 10 to 13, at: the row, from 0.
+ *    1 to 8  the volume is refused, as by lhz_check_volume, with the same place
+ *    9       plan_len is 0, no multiple of 4, or over 256
+ *   10       the kind is not 1 to 9, an unused word is not 0, or c is out of range
+ *   11       a VOICE with list 0, or with a list not below T
+ *   12       a ninth variable of a pattern, or a VOICE that would open a ninth pattern
+ *   13       a VOICE after a predicate; a predicate with no pattern open, or naming a variable that
+ *            is not there; END with no pattern open; BOTH, EITHER or FIRST NOT SECOND with a
+ *            pattern open or fewer than two answers
+ *   14       at the end a pattern is open, or the number of answers is not one
+ */
+lhz_check_plan_answer lhz_check_plan(const uint8_t *volume, size_t len, const uint32_t *plan,
+                                     size_t plan_len);
+
+/* The answer of lhz_pattern_rows: a part of the plan. */
+typedef struct lhz_pattern_rows_answer {
+    uint32_t start; /* the words of the plan in front of the part */
+    uint32_t len;   /* the words of the part, LHZ_ROW_WORDS for each row */
+} lhz_pattern_rows_answer;
+
+/* Finds the rows of one pattern in a plan, from its first VOICE to its END.
+ *
+ * Lent for reading: volume, len bytes; plan, plan_len words. `pattern` is the pattern's number,
+ * from 0. Nothing is written.
+ *
+ * The part is empty, start 0 and len 0, where lhz_check_plan refuses the volume or the plan (1 to
+ * 14), and where `pattern` is not below F (17). Otherwise it has at least a VOICE and an END.
+ */
+lhz_pattern_rows_answer lhz_pattern_rows(const uint8_t *volume, size_t len, const uint32_t *plan,
+                                         size_t plan_len, uint32_t pattern);
 
 #ifdef __cplusplus
 }

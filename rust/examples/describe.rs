@@ -1,8 +1,10 @@
 //! Writes the sample volume of document 01 through the library, checks it and describes it: what
-//! it holds, then each list as document:position.
+//! it holds, then each list as document:position. Then it checks the sample plan over it and shows
+//! the rows of each pattern in document 01's words.
 
 use lihambozy::{
-    check_volume, doc_of, pos_of, posting, read_list, volume_len, write_volume, Refusal,
+    check_plan, check_volume, doc_of, kind, pattern_rows, pos_of, posting, read_list, volume_len,
+    write_volume, Refusal, ROW_WORDS,
 };
 
 fn main() -> Result<(), Refusal> {
@@ -32,5 +34,33 @@ fn main() -> Result<(), Refusal> {
         }
         println!();
     }
+
+    let plan = [
+        [kind::VOICE, 1, 0, 0],
+        [kind::VOICE, 2, 0, 0],
+        [kind::BEFORE, 0, 1, 0],
+        [kind::SAME_TITLE, 0, 1, 0],
+        [kind::END, 0, 0, 0],
+    ]
+    .concat();
+    let checked = check_plan(&volume, &plan)?;
+    println!("sample plan: {} pattern, {} variables", checked.patterns, checked.vars);
+    for pattern in 0..checked.patterns {
+        let rows = pattern_rows(&volume, &plan, pattern).chunks(ROW_WORDS);
+        println!("pattern {pattern}: {}", rows.map(in_words).collect::<Vec<_>>().join(", "));
+    }
     Ok(())
+}
+
+/// A row of a pattern in document 01's words.
+fn in_words(row: &[u32]) -> String {
+    match *row {
+        [kind::VOICE, list, ..] => format!("VOICE {list}"),
+        [kind::NEAR, a, b, c] => format!("NEAR {a} {b} {c}"),
+        [kind::BEFORE, a, b, _] => format!("BEFORE {a} {b}"),
+        [kind::SAME_TITLE, a, b, _] => format!("SAME TITLE {a} {b}"),
+        [kind::SPAN, .., c] => format!("SPAN {c}"),
+        [kind::END, ..] => "END".to_string(),
+        _ => unreachable!("an accepted pattern has no other row: {row:?}"),
+    }
 }

@@ -32,6 +32,22 @@ pub(crate) struct WriteVolumeAnswer {
     pub blocks: u32,
 }
 
+/// An answer of `lhz_check_plan`.
+#[repr(C)]
+pub(crate) struct CheckPlanAnswer {
+    pub refusal: u32,
+    pub at: u32,
+    pub patterns: u32,
+    pub vars: u32,
+}
+
+/// An answer of `lhz_pattern_rows`.
+#[repr(C)]
+pub(crate) struct PatternRowsAnswer {
+    pub start: u32,
+    pub len: u32,
+}
+
 extern "C" {
     fn lhz_check_volume(volume: *const u8, len: usize) -> CheckVolumeAnswer;
 
@@ -51,6 +67,21 @@ extern "C" {
         out: *mut u8,
         out_len: usize,
     ) -> WriteVolumeAnswer;
+
+    fn lhz_check_plan(
+        volume: *const u8,
+        len: usize,
+        plan: *const u32,
+        plan_len: usize,
+    ) -> CheckPlanAnswer;
+
+    fn lhz_pattern_rows(
+        volume: *const u8,
+        len: usize,
+        plan: *const u32,
+        plan_len: usize,
+        pattern: u32,
+    ) -> PatternRowsAnswer;
 }
 
 pub(crate) fn check_volume(volume: &[u8]) -> CheckVolumeAnswer {
@@ -77,6 +108,16 @@ pub(crate) fn write_volume(counts: &[u32], postings: &[u32], out: &mut [u8]) -> 
             out.len(),
         )
     }
+}
+
+pub(crate) fn check_plan(volume: &[u8], plan: &[u32]) -> CheckPlanAnswer {
+    // SAFETY: `volume` and `plan` are read only, and each length is that of its slice, in elements.
+    unsafe { lhz_check_plan(volume.as_ptr(), volume.len(), plan.as_ptr(), plan.len()) }
+}
+
+pub(crate) fn pattern_rows(volume: &[u8], plan: &[u32], pattern: u32) -> PatternRowsAnswer {
+    // SAFETY: `volume` and `plan` are read only, and each length is that of its slice, in elements.
+    unsafe { lhz_pattern_rows(volume.as_ptr(), volume.len(), plan.as_ptr(), plan.len(), pattern) }
 }
 
 #[cfg(test)]
@@ -148,5 +189,70 @@ mod tests {
         assert_eq!(fields(&[0, 3], &POSTINGS, 512), [7, 1, 0]);
         assert_eq!(fields(&[1_032_190], &rising, 512), [19, 0, 0]);
         assert_eq!(fields(&COUNTS, &POSTINGS, 511), [20, 0, 0]);
+    }
+    /// A pattern of one variable, a pattern of two, and EITHER.
+    const PLAN: [u32; 24] = [
+        1, 1, 0, 0, // VOICE 1
+        6, 0, 0, 0, // END
+        1, 1, 0, 0, // VOICE 1
+        1, 1, 0, 0, // VOICE 1
+        6, 0, 0, 0, // END
+        8, 0, 0, 0, // EITHER
+    ];
+
+    /// `PLAN` with one word replaced.
+    fn plan_with(index: usize, word: u32) -> [u32; 24] {
+        let mut plan = PLAN;
+        plan[index] = word;
+        plan
+    }
+
+    /// Volumes and plans that are refused, each with the number and the place.
+    fn refused_plans() -> Vec<([u8; 512], Vec<u32>, [u32; 2])> {
+        let volume = volume_with(&[]);
+        vec![
+            (volume_with(&[(6, 4)]), PLAN.to_vec(), [7, 1]),
+            (volume_with(&[(125, 7)]), vec![], [8, 125]),
+            (volume, vec![], [9, 0]),
+            (volume, PLAN[..23].to_vec(), [9, 0]),
+            (volume, plan_with(7, 1).to_vec(), [10, 1]),
+            (volume, plan_with(13, 2).to_vec(), [11, 3]),
+            (volume, [1, 1, 0, 0].repeat(9), [12, 8]),
+            (volume, plan_with(16, 7).to_vec(), [13, 4]),
+            (volume, PLAN[..20].to_vec(), [14, 0]),
+        ]
+    }
+
+    #[test]
+    fn check_plan_fields() {
+        let fields = |volume: &[u8], plan: &[u32]| {
+            let answer = check_plan(volume, plan);
+            [answer.refusal, answer.at, answer.patterns, answer.vars]
+        };
+        let volume = volume_with(&[]);
+        assert_eq!(fields(&volume, &PLAN), [0, 0, 2, 3]);
+        assert_eq!(fields(&volume, &PLAN[8..20]), [0, 0, 1, 2]);
+        for (volume, plan, [number, at]) in refused_plans() {
+            assert_eq!(fields(&volume, &plan), [number, at, 0, 0]);
+        }
+    }
+
+    #[test]
+    fn pattern_rows_fields() {
+        let fields = |volume: &[u8], plan: &[u32], pattern: u32| {
+            let answer = pattern_rows(volume, plan, pattern);
+            [answer.start, answer.len]
+        };
+        let volume = volume_with(&[]);
+        assert_eq!(fields(&volume, &PLAN, 0), [0, 8]);
+        assert_eq!(fields(&volume, &PLAN, 1), [8, 12]);
+        for pattern in [2, 3, 1 << 31, u32::MAX] {
+            assert_eq!(fields(&volume, &PLAN, pattern), [0, 0], "pattern {pattern}");
+        }
+        for (volume, plan, refused) in refused_plans() {
+            for pattern in [0, 1, 2] {
+                assert_eq!(fields(&volume, &plan, pattern), [0, 0], "{refused:?}");
+            }
+        }
     }
 }

@@ -1,4 +1,4 @@
-//! Reads and writes the volumes of a surtitle archive.
+//! Reads and writes the volumes of a surtitle archive, and checks plans over them.
 //!
 //! A volume is an inverted index as one piece of bytes: 1 to 1,024 posting lists in blocks of 512
 //! bytes, each block numbered and under a checksum. A posting is a document (01: scene) and a
@@ -6,11 +6,16 @@
 //! positions at which titles start, the others belong to words. (01 is the document that fixes the
 //! layout; `include/lihambozy.h` tells it.)
 //!
+//! A plan is a query over a volume, as rows of four words: a [`kind`], and the words a, b and c
+//! that it uses. Its patterns (01: figures) are made of variables (01: voices) and predicates on
+//! their positions (01: conditions); operators join the answers of the patterns into one.
+//!
 //! The work is done by the proved library behind `include/lihambozy.h`; this crate lends it
-//! slices. Every call takes any input. One that does not fit is answered by a [`Refusal`], and what
-//! was lent for writing then is exactly as it was.
+//! slices. Every call takes any input. One that does not fit is answered by a [`Refusal`], or in
+//! [`pattern_rows`] by an empty part, and what was lent for writing then is exactly as it was.
 //!
 //! ```
+//! use lihambozy::{check_plan, kind, pattern_rows};
 //! use lihambozy::{check_volume, posting, read_list, volume_len, write_volume};
 //!
 //! // List 0: titles start at document 1, positions 0 and 6. List 1: a word, at three places.
@@ -29,6 +34,18 @@
 //!
 //! let refusal = read_list(&volume, 2, &mut list).unwrap_err();
 //! assert_eq!((refusal.number, refusal.at), (17, 0));
+//!
+//! // A pattern: list 1 at two positions, the first of them before the second.
+//! let plan = [
+//!     [kind::VOICE, 1, 0, 0],
+//!     [kind::VOICE, 1, 0, 0],
+//!     [kind::BEFORE, 0, 1, 0],
+//!     [kind::END, 0, 0, 0],
+//! ]
+//! .concat();
+//! let checked = check_plan(&volume, &plan)?;
+//! assert_eq!((checked.patterns, checked.vars), (1, 2));
+//! assert_eq!(pattern_rows(&volume, &plan, 0), plan);
 //! # Ok::<(), lihambozy::Refusal>(())
 //! ```
 
@@ -55,14 +72,46 @@ pub const MAX_BLOCKS: usize = 8_192;
 pub const MAX_WORDS: usize = MAX_BLOCKS * BLOCK_WORDS;
 /// Lists of a volume, at most.
 pub const MAX_LISTS: usize = 1_024;
+/// Words of a row of a plan, 32 bits each: kind, a, b and c.
+pub const ROW_WORDS: usize = 4;
+/// Rows of a plan, at most.
+pub const MAX_ROWS: usize = 64;
+/// Patterns of a plan, at most.
+pub const MAX_PATTERNS: usize = 8;
+/// Variables of a pattern, at most.
+pub const MAX_VARS: usize = 8;
+
+/// The kinds of a plan's rows. Words that a kind does not use are 0.
+pub mod kind {
+    /// A variable of a pattern (01: a voice of a figure), with list `a`. It opens a pattern where
+    /// none is open. Variables are numbered from 0 in each pattern.
+    pub const VOICE: u32 = 1;
+    /// The positions of variables `a` and `b` differ by at most `c` + 1; `c` is 0 to 65,535.
+    pub const NEAR: u32 = 2;
+    /// The position of variable `a` is less than that of variable `b`.
+    pub const BEFORE: u32 = 3;
+    /// Variables `a` and `b` stand in one title.
+    pub const SAME_TITLE: u32 = 4;
+    /// The largest and smallest position of the pattern's variables differ by at most `c` - 1; `c`
+    /// is 1 to 65,536.
+    pub const SPAN: u32 = 5;
+    /// Closes the pattern; its answer is stacked.
+    pub const END: u32 = 6;
+    /// Takes the top two answers and stacks one: both are yes.
+    pub const BOTH: u32 = 7;
+    /// Takes the top two answers and stacks one: at least one is yes.
+    pub const EITHER: u32 = 8;
+    /// Takes the top two answers and stacks one: the lower is yes and the upper is not.
+    pub const FIRST_NOT_SECOND: u32 = 9;
+}
 
 /// Why a call was not answered: the first refusal that applies, in document 01's numbers.
 #[derive(Clone, Copy, Debug, PartialEq, Eq, Hash)]
 pub struct Refusal {
     /// Document 01's number of the refusal.
     pub number: u32,
-    /// The block, list or stream index that it is about (01: place), from 0; 0 where the refusal is
-    /// about none.
+    /// The block, list, stream index or row of a plan that it is about (01: place), from 0; 0 where
+    /// the refusal is about none.
     pub at: u32,
 }
 
@@ -81,6 +130,26 @@ impl fmt::Display for Refusal {
             6 => write!(f, "the number of blocks is not the least that holds the lists"),
             7 => write!(f, "list {at} does not rise strictly"),
             8 => write!(f, "word {at} of the stream, behind the lists, is not 0"),
+            9 => write!(f, "the plan has no words, no whole number of rows, or over 64 rows"),
+            10 => write!(
+                f,
+                "row {at} of the plan has an unknown kind, an unused word that is not 0, or a \
+                 limit out of range"
+            ),
+            11 => write!(
+                f,
+                "row {at} of the plan names list 0, or a list that the volume does not have"
+            ),
+            12 => write!(
+                f,
+                "row {at} of the plan is the ninth variable of a pattern, or opens a ninth pattern"
+            ),
+            13 => write!(
+                f,
+                "row {at} of the plan is out of order, or names a variable that its pattern does \
+                 not have"
+            ),
+            14 => write!(f, "the plan ends with a pattern open, or not with one answer"),
             16 => write!(f, "the buffer is shorter than the list"),
             17 => write!(f, "the volume has no list of that number"),
             18 => write!(f, "the counts do not sum to the number of postings"),
@@ -115,6 +184,15 @@ pub struct ReadList {
 pub struct WrittenVolume {
     /// The blocks written, of [`BLOCK_BYTES`] each.
     pub blocks: u32,
+}
+
+/// What [`check_plan`] finds in an accepted plan.
+#[derive(Clone, Copy, Debug, PartialEq, Eq)]
+pub struct CheckedPlan {
+    /// The number of patterns (01: F).
+    pub patterns: u32,
+    /// The number of variables of all patterns together (01: V).
+    pub vars: u32,
 }
 
 /// The posting of a document and a position in it.
@@ -178,7 +256,62 @@ pub fn write_volume(
     Ok(WrittenVolume { blocks: answer.blocks })
 }
 
-/// Splits the two fields that every answer starts with: number 0 means that the call is answered.
+/// Checks a plan over a volume, every byte of the volume and every row of the plan.
+///
+/// Refused with 1 to 8 as by [`check_volume`], then, the first that applies, with 9 (length), then
+/// row by row, all at the row, 10 (unknown kind, unused word not 0, or `c` out of range), 11 (list
+/// 0, or no list of the volume), 12 (a ninth variable of a pattern, or a ninth pattern) and 13 (out
+/// of order, or no variable of the pattern), then 14 (a pattern open, or not one answer, at the
+/// end).
+///
+/// ```
+/// use lihambozy::{check_plan, kind, write_volume};
+///
+/// // Two lists, both empty: a plan may name an empty list, and list 0 never.
+/// let mut volume = [0; 512];
+/// write_volume(&[0, 0], &[], &mut volume)?;
+///
+/// let mut plan = [kind::VOICE, 1, 0, 0, kind::SPAN, 0, 0, 1, kind::END, 0, 0, 0];
+/// let checked = check_plan(&volume, &plan)?;
+/// assert_eq!((checked.patterns, checked.vars), (1, 1));
+///
+/// plan[7] = 0;
+/// let refusal = check_plan(&volume, &plan).unwrap_err();
+/// assert_eq!((refusal.number, refusal.at), (10, 1));
+/// # Ok::<(), lihambozy::Refusal>(())
+/// ```
+pub fn check_plan(volume: &[u8], plan: &[u32]) -> Result<CheckedPlan, Refusal> {
+    let answer = ffi::check_plan(volume, plan);
+    accepted(answer.refusal, answer.at)?;
+    Ok(CheckedPlan { patterns: answer.patterns, vars: answer.vars })
+}
+
+/// The rows of one pattern: the part of `plan` from its first VOICE to its END. Patterns are
+/// numbered from 0 in the order in which they open.
+///
+/// The part is empty where [`check_plan`] refuses, and where the plan has no pattern of that number
+/// (01: 17); otherwise it never is.
+///
+/// ```
+/// use lihambozy::{kind, pattern_rows, write_volume};
+///
+/// let mut volume = [0; 512];
+/// write_volume(&[0, 0], &[], &mut volume)?;
+///
+/// let [voice, end] = [[kind::VOICE, 1, 0, 0], [kind::END, 0, 0, 0]];
+/// let plan = [voice, end, voice, voice, end, [kind::BOTH, 0, 0, 0]].concat();
+/// assert_eq!(pattern_rows(&volume, &plan, 0), &plan[..8]);
+/// assert_eq!(pattern_rows(&volume, &plan, 1), &plan[8..20]);
+/// assert!(pattern_rows(&volume, &plan, 2).is_empty());
+/// assert!(pattern_rows(&volume, &plan[..20], 0).is_empty());
+/// # Ok::<(), lihambozy::Refusal>(())
+/// ```
+pub fn pattern_rows<'a>(volume: &[u8], plan: &'a [u32], pattern: u32) -> &'a [u32] {
+    let answer = ffi::pattern_rows(volume, plan, pattern);
+    &plan[answer.start as usize..][..answer.len as usize]
+}
+
+/// Splits the two fields that an answer starts with: number 0 means that the call is answered.
 fn accepted(number: u32, at: u32) -> Result<(), Refusal> {
     match number {
         0 => Ok(()),
@@ -197,13 +330,20 @@ mod tests {
             (3, 8_191, "the checksum of block 8191 is wrong (refused 3 8191)"),
             (7, 0, "list 0 does not rise strictly (refused 7 0)"),
             (8, 125, "word 125 of the stream, behind the lists, is not 0 (refused 8 125)"),
+            (
+                11,
+                3,
+                "row 3 of the plan names list 0, or a list that the volume does not have \
+                 (refused 11 3)",
+            ),
+            (14, 0, "the plan ends with a pattern open, or not with one answer (refused 14 0)"),
             (16, 0, "the buffer is shorter than the list (refused 16 0)"),
         ];
         for (number, at, sentence) in rows {
             assert_eq!(Refusal { number, at }.to_string(), sentence);
         }
         let unknown = Refusal { number: 0, at: 0 }.to_string();
-        for number in (1..=8).chain(16..=20) {
+        for number in (1..=14).chain(16..=20) {
             let told = Refusal { number, at: 0 }.to_string();
             assert!(told.ends_with(&format!(" (refused {number} 0)")), "{told}");
             assert_ne!(
@@ -211,6 +351,10 @@ mod tests {
                 unknown.split(" (").next(),
                 "refusal {number} has no sentence of its own"
             );
+        }
+        for number in [2, 3, 7, 8, 10, 11, 12, 13] {
+            let told = Refusal { number, at: 7_654 }.to_string();
+            assert_eq!(told.matches("7654").count(), 2, "the place is not told: {told}");
         }
     }
 

@@ -1,17 +1,17 @@
-//! The C header: a C program that includes it links the library and gets document 01's answers.
+//! The C header: C programs that include it link the library and get document 01's answers.
 
 use std::path::Path;
 use std::process::Command;
 
-#[test]
-fn a_c_program_links_the_library() {
+/// Compiles `tests/c/NAME.c` against the header and the library: what the program prints.
+fn printed(name: &str) -> String {
     let package = Path::new(env!("CARGO_MANIFEST_DIR"));
-    let program = Path::new(env!("CARGO_TARGET_TMPDIR")).join("volume");
+    let program = Path::new(env!("CARGO_TARGET_TMPDIR")).join(name);
     let compiler = std::env::var_os("CC").unwrap_or("cc".into());
     let compiled = Command::new(compiler)
         .args(["-std=c99", "-Wall", "-Wextra", "-Werror", "-I"])
         .arg(package.join("../include"))
-        .arg(package.join("tests/c/volume.c"))
+        .arg(package.join("tests/c").join(name).with_extension("c"))
         .arg(package.join("../target/staticlib/liblihambozy.a"))
         .arg("-o")
         .arg(&program)
@@ -21,6 +21,11 @@ fn a_c_program_links_the_library() {
 
     let ran = Command::new(&program).output().expect("the program runs");
     assert!(ran.status.success());
+    String::from_utf8_lossy(&ran.stdout).into_owned()
+}
+
+#[test]
+fn volumes() {
     let expected = "\
 limits 512 126 8192 1032192 1024
 write 18 0 0
@@ -36,5 +41,41 @@ read 16 0 0: 7 7 7 7
 read 17 0 0: 7 7 7 7
 read 2 0 0: 7 7 7 7
 ";
-    assert_eq!(String::from_utf8_lossy(&ran.stdout), expected);
+    assert_eq!(printed("volume"), expected);
+}
+
+#[test]
+fn plans() {
+    let expected = "\
+check answer 16: 0 4 8 12
+rows answer 8: 0 4
+limits 4 64 8 8
+kinds 1 2 3 4 5 6 7 8 9
+no row: 9 0 0 0
+open: 14 0 0 0
+rows of 0: 0 0
+sample: 0 0 1 2
+a word less: 9 0 0 0
+rows of 0: 0 20
+rows of 1: 0 0
+rows of 4294967295: 0 0
+two answers: 14 0 0 0
+two patterns: 0 0 2 3
+rows of 0: 0 20
+rows of 1: 20 16
+rows of 2: 0 0
+c of NEAR: 10 6 0 0
+rows of 1: 0 0
+list: 11 5 0 0
+variable: 13 6 0 0
+two patterns: 0 0 2 3
+BOTH: 0 0 2 3
+EITHER: 0 0 2 3
+checksum: 3 0 0 0
+checksum, no row: 3 0 0 0
+rows of 0: 0 0
+nine variables: 12 8 0 0
+65 rows: 9 0 0 0
+";
+    assert_eq!(printed("plan"), expected);
 }

@@ -15,54 +15,63 @@ pub struct Uses {
 
 // Of the kinds 1 to 9, in order.
 const KINDS: [Uses; 9] = [
+    // 1 VOICE: a
     Uses {
         a: true,
         b: false,
         least: 0,
         most: 0,
     },
+    // 2 NEAR: a, b, c
     Uses {
         a: true,
         b: true,
         least: 0,
         most: 65535,
     },
+    // 3 BEFORE: a, b
     Uses {
         a: true,
         b: true,
         least: 0,
         most: 0,
     },
+    // 4 SAME TITLE: a, b
     Uses {
         a: true,
         b: true,
         least: 0,
         most: 0,
     },
+    // 5 SPAN: c
     Uses {
         a: false,
         b: false,
         least: 1,
         most: 65536,
     },
+    // 6 END
     Uses {
         a: false,
         b: false,
         least: 0,
         most: 0,
     },
+    // 7 BOTH
     Uses {
         a: false,
         b: false,
         least: 0,
         most: 0,
     },
+    // 8 EITHER
     Uses {
         a: false,
         b: false,
         least: 0,
         most: 0,
     },
+    // 9 FIRST NOT SECOND
     Uses {
         a: false,
         b: false,

@@ -1,7 +1,9 @@
-//! What the tests share: a seeded generator, lists and damage made with it, and the comparison of
-//! the library with the plain reader and writer, call by call.
+//! What the tests share: a seeded generator, lists and damage made with it, plans (in `plans`), and
+//! the comparison of the library with the plain reader and writer, call by call.
 
 #![allow(dead_code)]
+
+pub mod plans;
 
 use crate::plain::{self, Refused};
 use lihambozy::Refusal;
@@ -281,12 +283,24 @@ fn lend<T: Fill, R>(room: usize, call: impl FnOnce(&mut [T]) -> R) -> Lent<T, R>
     Lent { answer, before, after }
 }
 
-/// The public calls.
+/// Elements on either side of a slice that is lent for reading. An odd number, so that a volume
+/// starts at an odd address.
+const AMID: usize = 13;
+
+/// The elements, in the middle of others.
+fn amid<T: Fill>(elements: &[T]) -> Vec<T> {
+    let mut memory: Vec<T> = (0..AMID + elements.len() + AMID).map(T::fill).collect();
+    memory[AMID..AMID + elements.len()].copy_from_slice(elements);
+    memory
+}
+
+/// The public calls that answer a refusal's number.
 #[derive(Clone, Copy, Debug, PartialEq, Eq, PartialOrd, Ord)]
 pub enum Call {
     Check,
     Read,
     Write,
+    Plan,
 }
 
 /// Makes calls of the library and of the plain reader and writer, compares them in the answer and
@@ -294,7 +308,8 @@ pub enum Call {
 #[derive(Default)]
 pub struct Trial {
     pub case: String,
-    met: BTreeMap<(Call, u32), usize>,
+    /// How often each number was met, place by place.
+    met: BTreeMap<(Call, u32), BTreeMap<u32, usize>>,
 }
 
 impl Trial {
@@ -368,9 +383,46 @@ impl Trial {
         answer
     }
 
+    /// Checks a plan over a volume, and asks for the rows of each of its patterns and of some that
+    /// it does not have: F and V.
+    #[track_caller]
+    pub fn plan(&mut self, volume: &[u8], plan: &[u32]) -> Result<(u32, u32), Refused> {
+        let case = &self.case;
+        let plain = plain::plan::check(volume, plan);
+        let (bytes, words) = (amid(volume), amid(plan));
+        let lent_volume = &bytes[AMID..AMID + volume.len()];
+        let lent = &words[AMID..AMID + plan.len()];
+
+        let answer = lihambozy::check_plan(lent_volume, lent)
+            .map(|checked| (checked.patterns, checked.vars))
+            .map_err(pair);
+        let sizes = |plan: &plain::plan::Plan| (plan.patterns.len() as u32, plan.vars);
+        assert_eq!(answer, plain.as_ref().map(sizes).map_err(|&refused| refused), "{case}: plan");
+
+        let patterns = answer.map_or(0, |sizes| sizes.0);
+        let mut parts = Vec::new();
+        for pattern in (0..patterns + 2).chain([256, 65_536, 1 << 31, u32::MAX]) {
+            let part = lihambozy::pattern_rows(lent_volume, lent, pattern);
+            let expected = &lent[plain::plan::part(&plain, pattern)];
+            assert_eq!(part, expected, "{case}: rows of pattern {pattern}");
+            assert_eq!(part.is_empty(), pattern >= patterns, "{case}: rows of pattern {pattern}");
+            if !part.is_empty() {
+                assert!(std::ptr::eq(part, expected), "{case}: the rows are not those lent");
+                parts.push(part);
+            }
+        }
+        if answer.is_ok() {
+            assert!(plans::makes(lent, &parts), "{case}: {parts:?} do not make the plan");
+        }
+        assert!(bytes == amid(volume), "{case}: written in the volume or beside it");
+        assert!(words == amid(plan), "{case}: written in the plan or beside it");
+        self.count(Call::Plan, &answer);
+        answer
+    }
+
     fn count<T>(&mut self, call: Call, answer: &Result<T, Refused>) {
-        let number = answer.as_ref().err().map_or(0, |refused| refused.0);
-        *self.met.entry((call, number)).or_default() += 1;
+        let (number, at) = answer.as_ref().err().copied().unwrap_or((0, 0));
+        *self.met.entry((call, number)).or_default().entry(at).or_default() += 1;
     }
 
     /// The call gave each of these numbers at least so often, and no other; 0 stands for an answer
@@ -381,13 +433,22 @@ impl Trial {
             .met
             .iter()
             .filter(|((of, _), _)| *of == call)
-            .map(|((_, number), times)| (*number, *times))
+            .map(|((_, number), places)| (*number, places.values().sum()))
             .collect();
         assert!(
             met.iter().map(|row| row.0).eq(numbers.iter().copied())
                 && met.iter().all(|row| row.1 >= least),
             "{call:?} met {met:?}"
         );
+    }
+
+    /// The call gave each of these numbers at so many different places at least.
+    #[track_caller]
+    pub fn assert_met_at(&self, call: Call, least: usize, numbers: &[u32]) {
+        for &number in numbers {
+            let places = self.met.get(&(call, number)).map_or(0, BTreeMap::len);
+            assert!(places >= least, "{call:?} met {number} at {places} places");
+        }
     }
 }
 

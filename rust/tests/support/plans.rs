@@ -1,0 +1,142 @@
+//! Plans for the tests: rows by name, random plans, and changes of them.
+
+use super::Rng;
+pub use crate::plain::plan::Row;
+use lihambozy::kind;
+
+pub const fn voice(list: u32) -> Row {
+    [kind::VOICE, list, 0, 0]
+}
+
+pub const fn near(a: u32, b: u32, c: u32) -> Row {
+    [kind::NEAR, a, b, c]
+}
+
+pub const fn before(a: u32, b: u32) -> Row {
+    [kind::BEFORE, a, b, 0]
+}
+
+pub const fn same_title(a: u32, b: u32) -> Row {
+    [kind::SAME_TITLE, a, b, 0]
+}
+
+pub const fn span(c: u32) -> Row {
+    [kind::SPAN, 0, 0, c]
+}
+
+pub const END: Row = [kind::END, 0, 0, 0];
+pub const BOTH: Row = [kind::BOTH, 0, 0, 0];
+pub const EITHER: Row = [kind::EITHER, 0, 0, 0];
+pub const FIRST_NOT_SECOND: Row = [kind::FIRST_NOT_SECOND, 0, 0, 0];
+
+/// The sample plan of document 01.
+pub const SAMPLE: [Row; 5] = [voice(1), voice(2), before(0, 1), same_title(0, 1), END];
+
+/// Whether the parts, in order and with operators alone around them, are the whole plan, each of
+/// them from a VOICE to the first END behind it.
+pub fn makes(plan: &[u32], parts: &[&[u32]]) -> bool {
+    let kinds = |words: &[u32]| words.chunks(4).map(|row| row[0]).collect::<Vec<u32>>();
+    let operators = |words: &[u32]| {
+        let is_operator = |row: &&[u32]| (7..=9).contains(&row[0]);
+        4 * words.chunks(4).take_while(is_operator).count()
+    };
+    let mut rest = plan;
+    for part in parts {
+        rest = &rest[operators(rest)..];
+        let kinds = kinds(part);
+        if kinds[0] != 1 || kinds.iter().position(|&kind| kind == 6) != Some(kinds.len() - 1) {
+            return false;
+        }
+        match rest.strip_prefix(*part) {
+            Some(behind) => rest = behind,
+            None => return false,
+        }
+    }
+    operators(rest) == rest.len()
+}
+
+/// A row of a pattern with so many variables, none of its words at fault.
+fn random_predicate(rng: &mut Rng, vars: usize) -> Row {
+    let (a, b) = (rng.below(vars) as u32, rng.below(vars) as u32);
+    let c = rng.word() % 65_536;
+    match rng.below(4) {
+        0 => near(a, b, rng.pick(&[0, 1, 65_535, c])),
+        1 => before(a, b),
+        2 => same_title(a, b),
+        _ => span(rng.pick(&[1, 2, 65_536, 1 + c])),
+    }
+}
+
+/// A plan in order, over a volume of so many lists, two at least: 1 to 8 patterns in 2 to 64 rows.
+pub fn random_plan(rng: &mut Rng, lists: usize) -> Vec<Row> {
+    let any = 1 + rng.below(8);
+    let count = rng.pick(&[1, 2, 3, 7, 8, any]);
+    // The variables and the predicates of each pattern.
+    let mut sizes = vec![(1, 0); count];
+    // A VOICE and an END for each pattern, and an operator for each but one, are there already.
+    let room = 64 - (3 * count - 1);
+    let more = rng.pick(&[0, 1, 5, room / 2, room - 3, room]);
+    // Out of four rows more, so many are VOICE.
+    let voices = rng.pick(&[0, 1, 2, 3, 4, 4]);
+    for _ in 0..more {
+        let pattern = rng.below(count);
+        let open: Vec<usize> = (0..count).filter(|&i| sizes[i].0 < 8).collect();
+        if rng.below(4) < voices && !open.is_empty() {
+            sizes[rng.pick(&open)].0 += 1;
+        } else {
+            sizes[pattern].1 += 1;
+        }
+    }
+
+    let mut rows = Vec::new();
+    let mut answers = 0;
+    for (i, (vars, predicates)) in sizes.into_iter().enumerate() {
+        rows.extend((0..vars).map(|_| voice(1 + rng.below(lists - 1) as u32)));
+        rows.extend((0..predicates).map(|_| random_predicate(rng, vars)));
+        rows.push(END);
+        answers += 1;
+        while answers > 1 && (i + 1 == count || rng.below(2) == 0) {
+            rows.push(rng.pick(&[BOTH, EITHER, FIRST_NOT_SECOND]));
+            answers -= 1;
+        }
+    }
+    rows
+}
+
+/// A row that may stand in some plan.
+pub fn random_row(rng: &mut Rng, lists: usize) -> Row {
+    match rng.below(8) {
+        0..=2 => voice(1 + rng.below(lists) as u32),
+        3 => random_predicate(rng, 8),
+        4 => random_predicate(rng, 2),
+        5 | 6 => END,
+        _ => rng.pick(&[BOTH, EITHER, FIRST_NOT_SECOND]),
+    }
+}
+
+/// Changes one word or one row, or removes, doubles, moves or adds one.
+pub fn spoil(rng: &mut Rng, rows: &mut Vec<Row>, lists: usize) {
+    let count = rows.len();
+    if count == 0 {
+        return;
+    }
+    let (at, other) = (rng.below(count), rng.below(count));
+    match rng.below(11) {
+        0 | 1 => {
+            let t = lists as u32;
+            let edges = [0, 1, 2, 7, 8, 65_535, 65_536, 65_537, t - 1, t, 1 << 31, u32::MAX];
+            rows[at][1 + rng.below(3)] = rng.pick(&edges);
+        }
+        2 => rows[at][0] = rng.pick(&[0, 1, 2, 3, 4, 5, 6, 7, 8, 9, 10, 257, u32::MAX]),
+        3 => rows[at] = random_row(rng, lists),
+        4 => {
+            rows.remove(at);
+        }
+        5 => rows.insert(at, rows[at]),
+        6 => rows.insert(at, rows[other]),
+        7 => rows.insert(at, random_row(rng, lists)),
+        8 => rows.insert(at, voice(1)),
+        9 => rows.swap(at, other),
+        _ => rows.swap(at, (at + 1) % count),
+    }
+}
