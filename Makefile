@@ -1,4 +1,4 @@
-# make        proves every crate, builds the library and the Rust package, describes the sample volume
+# make        proves every crate, builds the library and the Rust package, describes the sample volume and plan
 # make test   the gate (rt ci), then every other test; the last line is the gate's own, if all passed
 # make bench  times the library beside plain Rust and beside a copy
 # make clean  removes all that these made

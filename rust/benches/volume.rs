@@ -1,10 +1,10 @@
 //! Times the library's check and writer on the largest volume, beside a copy of the same bytes and
-//! beside plain Rust. Every shape runs once a round, so that a slow moment of the machine falls on
+//! beside plain Rust, and its check of the largest plan beside its check of the volume. Every shape runs once a round, so that a slow moment of the machine falls on
 //! all of them. Run as a test, it makes one round, to compare the results, and prints no times.
 
 mod late;
 
-use lihambozy::{check_volume, volume_len, write_volume};
+use lihambozy::{check_plan, check_volume, kind, volume_len, write_volume};
 use std::hint::black_box;
 use std::time::{Duration, Instant};
 
@@ -42,6 +42,17 @@ fn lists() -> (Vec<u32>, Vec<u32>) {
         }));
     }
     (counts, postings)
+}
+
+/// A plan of 64 rows with the most variables, 51: six patterns of eight and one of three, joined.
+fn plan() -> Vec<u32> {
+    let mut rows = Vec::new();
+    for vars in [8, 8, 8, 8, 8, 8, 3] {
+        rows.extend((1..=vars).map(|list| [kind::VOICE, list, 0, 0]));
+        rows.push([kind::END, 0, 0, 0]);
+    }
+    rows.extend([[kind::EITHER, 0, 0, 0]; 6]);
+    rows.concat()
 }
 
 /// A shape: its name and its times.
@@ -88,10 +99,20 @@ fn main() {
     assert_eq!(checked.ok(), late::check_volume(&volume).ok());
     assert_eq!(checked, Ok((counts.len() as u32, postings.len() as u32)));
 
-    let mut shapes =
-        ["copy", "check, library", "check, plain Rust", "write, library", "write, plain Rust"]
-            .map(Shape::new);
-    let [copied, check, plain_check, write, plain_write] = &mut shapes;
+    let plan = plan();
+    let checked = check_plan(&volume, &plan).map(|checked| (checked.patterns, checked.vars));
+    assert_eq!((plan.len(), checked), (256, Ok((7, 51))));
+
+    let mut shapes = [
+        "copy",
+        "check, library",
+        "check, plain Rust",
+        "write, library",
+        "write, plain Rust",
+        "check of a plan, library",
+    ]
+    .map(Shape::new);
+    let [copied, check, plain_check, write, plain_write, check_rows] = &mut shapes;
     for _ in 0..rounds {
         copied.time(|| {
             copy.copy_from_slice(black_box(&volume));
@@ -102,6 +123,7 @@ fn main() {
         write.time(|| write_volume(black_box(&counts), black_box(&postings), &mut ours));
         plain_write
             .time(|| late::write_volume(black_box(&counts), black_box(&postings), &mut theirs));
+        check_rows.time(|| check_plan(black_box(&volume), black_box(&plan)));
     }
     assert!(ours == volume && theirs == volume && copy == volume);
     if !timed {
@@ -128,6 +150,7 @@ fn main() {
         ("check / copy", 1, 0, 1.5),
         ("check / plain check", 1, 2, 1.0),
         ("write / plain write", 3, 4, 1.25),
+        ("check of a plan / check", 5, 1, 1.25),
     ] {
         let (over, under) = (shapes[over].figures(), shapes[under].figures());
         let (medians, minima) = (over[0] / under[0], over[1] / under[1]);

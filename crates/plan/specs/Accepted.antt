@@ -2,15 +2,13 @@
 use Prim.Native.Nat.{ℕ, _+_, _*_, _<_, _≤_}
 use mathlib.Core.Path.{_≡_}
 use mathlib.Core.Bool.{Bool, true, false}
-use mathlib.Core.List.{List, [], map}
+use mathlib.Core.List.{List, []}
 use lib.ListN.{length, getD}
-use Rattle.seq.specs.Lists.{joined}
 use Rattle.volume.specs.Layout.{listCount}
 use Rattle.volume.specs.Check as volume
 use Rattle.plan.specs.declared.row.Predicate.the-variants.{Window}
 use Rattle.plan.specs.declared.row.Kind.the-variants as kind
-use Rattle.plan.specs.declared.row.Row.{Row}
-use Rattle.plan.specs.Rows.{rowCount, rowsOf, formWrongAt, wordsOf, InRange}
+use Rattle.plan.specs.Rows.{rowCount, rowsOf, formWrongAt, planOf, InRange}
 use Rattle.plan.specs.Standing.{namesBelow}
 use Rattle.plan.specs.Patterns.{Pattern, noRow, patternsOf, answersFrom}
 use Rattle.plan.specs.Check.{sizes}
@@ -36,7 +34,7 @@ pub record Given (v p : List ℕ) : Type 0 where
   pub some-rows : 1 ≤ rowCount p
   pub most-rows : rowCount p ≤ 64
   pub formed : (i : ℕ) → i < rowCount p → formWrongAt p i ≡ false
-  pub words : p ≡ joined (map (λ (r : Row). wordsOf (r .kind)) (rowsOf p))
+  pub words : p ≡ planOf (rowsOf p)
   -- 1 to 8 patterns, each well made
   pub some-patterns : 1 ≤ sizes p .patterns
   pub most-patterns : sizes p .patterns ≤ 8

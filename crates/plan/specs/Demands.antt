@@ -9,7 +9,7 @@ use Prim.Native.Nat.{ℕ, _<_, _≤_}
 use mathlib.Core.Path.{_≡_}
 use mathlib.Core.Bool.{true, false}
 use mathlib.Core.Logic.{_↔_}
-use mathlib.Core.List.{List, [], _∷_, _++_, map}
+use mathlib.Core.List.{List, [], _∷_, _++_}
 use Rattle.seq.specs.Lists.{all, joined}
 use Rattle.seq.specs.Numbers.{run}
 use Rattle.seq.specs.Refusals.{answered, stageIn, FirstRefusal}
@@ -19,7 +19,7 @@ use Rattle.plan.specs.declared.answers.Refusal.{Refusal}
 use Rattle.plan.specs.declared.answers.Checked.{Checked}
 use Rattle.plan.specs.declared.row.Predicate.the-variants.{Ordered, Samepara}
 use Rattle.plan.specs.declared.row.Row.{Row}
-use Rattle.plan.specs.Rows.{rowOf, rowsOf, formWrong, wordsOf, InRange}
+use Rattle.plan.specs.Rows.{rowOf, rowsOf, formWrong, wordsOf, planOf, InRange}
 use Rattle.plan.specs.Patterns.{Pattern, patternsOf}
 use Rattle.plan.specs.Answers.{Sizes, saidRefusal, saidChecked}
 use Rattle.plan.specs.Check.{sizes, verdict, Accepted}
@@ -47,7 +47,7 @@ Gives = (v p : List ℕ) → Accepted v p → Given v p
 -- operators between them, are the whole plan
 pub record Parted (v p : List ℕ) : Type 0 where
   pub rows : (k : ℕ) → k < sizes p .patterns → rowsOf (partOf v p k) ≡ patternRows (patternAt p k)
-  pub words : (k : ℕ) → k < sizes p .patterns → partOf v p k ≡ joined (map (λ (r : Row). wordsOf (r .kind)) (patternRows (patternAt p k)))
+  pub words : (k : ℕ) → k < sizes p .patterns → partOf v p k ≡ planOf (patternRows (patternAt p k))
   pub whole : p ≡ joined (run (λ k. gap p k ++ partOf v p k) 0 (sizes p .patterns)) ++ gap p (sizes p .patterns)
   pub gaps : (k : ℕ) → k ≤ sizes p .patterns → all (λ (r : Row). isOperator (r .kind)) (rowsOf (gap p k)) ≡ true
 
@@ -64,7 +64,7 @@ abbrev pub samplePattern : Pattern
 samplePattern = record { vars = 1 ∷ 2 ∷ []; predicates = Ordered 0 1 ∷ Samepara 0 1 ∷ [] }
 
 abbrev pub samplePlan : List ℕ
-samplePlan = joined (map (λ (r : Row). wordsOf (r .kind)) (patternRows samplePattern))
+samplePlan = planOf (patternRows samplePattern)
 
 -- over the sample volume it is accepted with one pattern and two variables, means that pattern, and its part is the whole plan
 pub record Sample : Type 0 where

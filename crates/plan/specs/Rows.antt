@@ -2,9 +2,10 @@
 -- Assumes nothing.
 use Prim.Native.Nat.{ℕ, _+_, _-_, _*_, _/_, _≤_}
 use mathlib.Core.Bool.{Bool, true, false, not, _&&_, _||_}
-use mathlib.Core.List.{List, [], _∷_}
+use mathlib.Core.List.{List, [], _∷_, map}
 use lib.ListN.{length, getD}
 use lib.Dec.{eqb, ltb}
+use Rattle.seq.specs.Lists.{joined}
 use Rattle.seq.specs.Numbers.{run}
 use Rattle.plan.specs.declared.kinds.Uses.{Uses}
 use Rattle.plan.specs.declared.row.Predicate.the-variants.{Distance, Ordered, Samepara, Window}
@@ -95,6 +96,10 @@ wordsOf kind.End = 6 ∷ 0 ∷ 0 ∷ 0 ∷ []
 wordsOf (kind.Operator Both) = 7 ∷ 0 ∷ 0 ∷ 0 ∷ []
 wordsOf (kind.Operator Either) = 8 ∷ 0 ∷ 0 ∷ 0 ∷ []
 wordsOf (kind.Operator FirstNotSecond) = 9 ∷ 0 ∷ 0 ∷ 0 ∷ []
+
+-- the plan of rows: their words, joined
+abbrev pub planOf : List Row → List ℕ
+planOf rows = joined (map (λ (r : Row). wordsOf (r .kind)) rows)
 
 -- the limit of a condition is in its range
 abbrev pub InRange : Kind → Type 0

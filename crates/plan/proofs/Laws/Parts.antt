@@ -11,14 +11,14 @@ use native.Mathlib.Omega.{arith}
 use mathlib.Core.Path.{_≡_, refl, sym, ap, _∙_}
 use mathlib.Core.Bool.{true}
 use mathlib.Core.Logic.{⊎-elim}
-use mathlib.Core.List.{List, [], _∷_, _++_, map, append-assoc, nil≢cons, head-eq-of-cons-eq, tail-eq-of-cons-eq}
+use mathlib.Core.List.{List, [], _∷_, _++_, append-assoc, nil≢cons, head-eq-of-cons-eq, tail-eq-of-cons-eq}
 use lib.ListN.{length, take, drop}
 use lib.Seq.{take-all, drop-cons, drop-length}
 use Rattle.seq.specs.Lists.{all, joined}
 use Rattle.seq.specs.Numbers.{run}
 use Rattle.seq.proofs.Laws.Tests.{below-or}
 use Rattle.plan.specs.declared.row.Row.{Row}
-use Rattle.plan.specs.Rows.{rowCount, rowAt, rowsOf, wordsOf}
+use Rattle.plan.specs.Rows.{rowCount, rowAt, rowsOf, planOf}
 use Rattle.plan.specs.Standing.{standing}
 use Rattle.plan.specs.Patterns.{noRow, patternsFrom, patternsOf}
 use Rattle.plan.specs.Parts.{opening, behind, firstRow, lastRow, spanAt, partAt, gap, isOperator, patternRows}
@@ -111,10 +111,10 @@ module _ (t : ℕ) (p : List ℕ) (ok : Passed t p) where
     pub part-rows : rowsOf (partAt p (spanAt p k)) ≡ patternRows (patternAt p k)
     part-rows = rows-slice t p ok (firstRow p k) (lastRow p k + 1 - firstRow p k) span-fits ∙ piece-at k h .rows
 
-    pub part-words : partAt p (spanAt p k) ≡ joined (map (λ (r : Row). wordsOf (r .kind)) (patternRows (patternAt p k)))
+    pub part-words : partAt p (spanAt p k) ≡ planOf (patternRows (patternAt p k))
     part-words =
         words-slice t p ok (firstRow p k) (lastRow p k + 1 - firstRow p k) span-fits
-        ∙ ap (λ (rows : List Row). joined (map (λ (r : Row). wordsOf (r .kind)) rows)) (piece-at k h .rows)
+        ∙ ap planOf (piece-at k h .rows)
 
     pub part-some : partAt p (spanAt p k) ≡ [] → ⊥
     part-some e =

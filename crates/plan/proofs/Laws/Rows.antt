@@ -17,7 +17,7 @@ use native.Mathlib.Omega.{arith}
 use mathlib.Core.Path.{_≡_, refl, sym, ap, ap₂, _∙_, subst}
 use mathlib.Core.Bool.{Bool, true, false, not, _&&_, _||_}
 use mathlib.Core.Logic.{_↔_, _≢_}
-use mathlib.Core.List.{List, [], _∷_, _++_, map}
+use mathlib.Core.List.{List, [], _∷_, _++_}
 use lib.ListN.{length, getD, take, drop}
 use lib.Dec.{eqb, ltb}
 use lib.Seq.{take-all}
@@ -33,7 +33,7 @@ use Rattle.plan.specs.declared.row.Operator.the-variants.{Both, Either, 
 use Rattle.plan.specs.declared.row.Kind.{Kind}
 use Rattle.plan.specs.declared.row.Kind.the-variants as kind
 use Rattle.plan.specs.declared.row.Row.{Row}
-use Rattle.plan.specs.Rows.{rowCount, kindAt, aAt, bAt, cAt, kindOf, rowOf, rowAt, rowsOf, usesOf, misused, formWrong, formWrongAt, wordsOf, InRange}
+use Rattle.plan.specs.Rows.{rowCount, kindAt, aAt, bAt, cAt, kindOf, rowOf, rowAt, rowsOf, usesOf, misused, formWrong, formWrongAt, wordsOf, planOf, InRange}
 use Rattle.plan.specs.Refusals.{WrongForm}
 use Rattle.plan.proofs.Laws.Passed.{Passed}
 use Rattle.seq.proofs.Laws.Slices.{length-slice, getD-slice, slice-run}
@@ -165,7 +165,7 @@ module _ (p : List ℕ) where
   number-at i e = ap (λ (ws : List ℕ). getD ws 0 0) (words-at i e)
 
   -- the words of m rows of the right form, from row i on
-  words-run : (i m : ℕ) → ((j : ℕ) → i ≤ j → j < i + m → formWrongAt p j ≡ false) → joined (map (λ (r : Row). wordsOf (r .kind)) (run (rowAt p) i m)) ≡ run (λ j. getD p j 0) (4 * i) (4 * m)
+  words-run : (i m : ℕ) → ((j : ℕ) → i ≤ j → j < i + m → formWrongAt p j ≡ false) → planOf (run (rowAt p) i m) ≡ run (λ j. getD p j 0) (4 * i) (4 * m)
   unfolding joined run
   words-run i zero formed = refl
   words-run i (suc m) formed =
@@ -200,11 +200,11 @@ module _ (t : ℕ) (p : List ℕ) (ok : Passed t p) where
       same j g = row-ext (take (4 * m) (drop (4 * i) p)) p (0 + j) (i + j) (word-0 j g) (word j 1 g (omega arith)) (word j 2 g (omega arith)) (word j 3 g (omega arith))
 
   -- which is their words
-  pub words-slice : (i m : ℕ) → i + m ≤ rowCount p → take (4 * m) (drop (4 * i) p) ≡ joined (map (λ (r : Row). wordsOf (r .kind)) (run (rowAt p) i m))
+  pub words-slice : (i m : ℕ) → i + m ≤ rowCount p → take (4 * m) (drop (4 * i) p) ≡ planOf (run (rowAt p) i m)
   words-slice i m h = let n = ok .whole in slice-run 0 p (4 * i) (4 * m) (omega arith) ∙ sym (words-run p i m (λ j a l. ok .formed j (omega arith)))
 
   -- the plan is the words of its rows
-  pub plan-words : p ≡ joined (map (λ (r : Row). wordsOf (r .kind)) (rowsOf p))
+  pub plan-words : p ≡ planOf (rowsOf p)
   plan-words = let n = ok .whole in sym (take-all (4 * rowCount p) p (omega arith)) ∙ words-slice 0 (rowCount p) (omega arith)
 
 -- the test of the form, the way the code takes it
