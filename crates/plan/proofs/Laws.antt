@@ -2,6 +2,7 @@
 --     Kinds                the table of `src/kinds.rt` follows its rule
 --     Rows                 four words and the row that they are read as; the words of a plan and of its parts
 --     Standing             the reading of a plan, row by row
+--     Counts               the same, by counting rows
 --     Passed               a plan that passes every test
 --     Check                the rungs of the verdict, and what its tests decide
 --     Patterns, Given      what a plan that passes every test gives
@@ -15,6 +16,7 @@
 pub mod Kinds
 pub mod Rows
 pub mod Standing
+pub mod Counts
 pub mod Passed
 pub mod Check
 pub mod Patterns

@@ -19,11 +19,11 @@ use Rattle.plan.specs.declared.answers.Refusal.{Refusal}
 use Rattle.plan.specs.declared.answers.Checked.{Checked}
 use Rattle.plan.specs.declared.row.Predicate.the-variants.{Ordered, Samepara}
 use Rattle.plan.specs.declared.row.Row.{Row}
-use Rattle.plan.specs.Rows.{rowOf, rowsOf, formWrong, wordsOf, planOf, InRange}
+use Rattle.plan.specs.Rows.{rowOf, rowsOf, formWrong, wordsOf, planOf, InRange, isOperator}
 use Rattle.plan.specs.Patterns.{Pattern, patternsOf}
 use Rattle.plan.specs.Answers.{Sizes, saidRefusal, saidChecked}
 use Rattle.plan.specs.Check.{sizes, verdict, Accepted}
-use Rattle.plan.specs.Parts.{partOf, gap, isOperator, patternRows}
+use Rattle.plan.specs.Parts.{partOf, gap, patternRows}
 use Rattle.plan.specs.Refusals.{PlanApplies, PartApplies, planStages}
 use Rattle.plan.specs.Accepted.{patternAt, Given}
 

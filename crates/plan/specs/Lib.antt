@@ -5,6 +5,7 @@
 --     Answers     document 01's number and values for each answer
 --     Check       the verdict on a plan: its tests, and the first that applies
 --     Parts       where the rows of each pattern lie
+--     Counts      where the reading of a plan stands, by counting rows
 --     Refusals    document 01's refusals as relations, one line for each number
 --     Accepted    what acceptance gives
 --     Demands     the statements that the crate is held to
@@ -14,6 +15,7 @@ pub mod Patterns
 pub mod Answers
 pub mod Check
 pub mod Parts
+pub mod Counts
 pub mod Refusals
 pub mod Accepted
 pub mod Demands

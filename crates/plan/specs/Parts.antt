@@ -1,13 +1,12 @@
 -- Where the rows of each pattern lie in a plan. Assumes nothing.
 use Prim.Native.Nat.{ℕ, zero, suc, _+_, _-_, _*_}
-use mathlib.Core.Bool.{Bool, true, false, cond}
+use mathlib.Core.Bool.{cond}
 use mathlib.Core.List.{List, [], _∷_, _++_, map}
 use lib.ListN.{take, drop}
 use lib.Dec.{eqb, leb}
 use Rattle.seq.specs.Numbers.{firstFrom}
 use Rattle.seq.specs.Refusals.{Said, refused, answered}
 use Rattle.plan.specs.declared.row.Predicate.{Predicate}
-use Rattle.plan.specs.declared.row.Kind.{Kind}
 use Rattle.plan.specs.declared.row.Kind.the-variants as kind
 use Rattle.plan.specs.declared.row.Row.{Row}
 use Rattle.plan.specs.declared.showing.Span.{Span}
@@ -65,13 +64,6 @@ partOf v p k = partAt p (spanOf v p k)
 -- the words between the pattern before k, or the plan's start, and pattern k, or the plan's end
 unfoldable pub gap : List ℕ → ℕ → List ℕ
 gap p k = take (4 * (firstRow p k - behind p k)) (drop (4 * behind p k) p)
-
--- a row is an operator
-abbrev pub isOperator : Kind → Bool
-isOperator (kind.Voice list) = false
-isOperator (kind.Condition c) = false
-isOperator kind.End = false
-isOperator (kind.Operator o) = true
 
 -- the rows that say a pattern: its variables, its predicates, END
 abbrev pub patternRows : Pattern → List Row

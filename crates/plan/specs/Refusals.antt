@@ -1,11 +1,13 @@
--- Document 01's refusals of a plan as relations, one line for each number: refusal n applies at place q. The order in which a call
--- tells them is the order of its stages, in a stage by place, at a place by number. Assumes nothing.
+-- Document 01's refusals of a plan as relations, one line for each number: refusal n applies at place q. What stands in front of a row is
+-- told by counting. The order in which a call tells them is the order of its stages, in a stage by place, at a place by number.
+-- Assumes nothing.
 use Prim.Native.Nat.{ℕ, _%_, _<_, _≤_}
 use mathlib.Core.Path.{_≡_}
 use mathlib.Core.Bool.{true, false}
 use mathlib.Core.Logic.{_⊎_, _≢_}
 use mathlib.Core.List.{List, [], _∷_, _++_}
 use lib.ListN.{length}
+use Rattle.seq.specs.Numbers.{run}
 use Rattle.volume.specs.Layout.{listCount}
 use Rattle.volume.specs.Refusals.{VolumeApplies, volumeStages}
 use Rattle.plan.specs.declared.kinds.Uses.{Uses}
@@ -14,8 +16,10 @@ use Rattle.plan.specs.declared.row.Predicate.the-variants.{Distance, Ord
 use Rattle.plan.specs.declared.row.Kind.{Kind}
 use Rattle.plan.specs.declared.row.Kind.the-variants as kind
 use Rattle.plan.specs.declared.standing.Standing.{Standing}
-use Rattle.plan.specs.Rows.{rowCount, kindAt, aAt, bAt, cAt, kindOf, rowAt, usesOf}
-use Rattle.plan.specs.Standing.{takes, standing}
+use Rattle.plan.specs.declared.row.Row.{Row}
+use Rattle.plan.specs.Rows.{rowCount, kindAt, aAt, bAt, cAt, kindOf, rowAt, rowsOf, usesOf}
+use Rattle.plan.specs.Standing.{takes}
+use Rattle.plan.specs.Counts.{counted}
 use Rattle.plan.specs.Check.{sizes}
 
 -- a word that is not used is not 0, or c is out of range
@@ -59,6 +63,10 @@ WrongOrder s (kind.Operator o) = (s .vars ≢ 0) ⊎ (s .answers < takes o)
 abbrev pub Unfinished : Standing → Type 0
 Unfinished s = (s .vars ≢ 0) ⊎ (s .answers ≢ 1)
 
+-- the rows in front of row i
+abbrev pub rowsBefore : List ℕ → ℕ → List Row
+rowsBefore p i = run (rowAt p) 0 i
+
 -- the refusals of a plan over a volume: those of the volume, then 9 to 14
 pub data PlanApplies (v p : List ℕ) : ℕ → ℕ → Type 0 where
   -- 1 to 8 of the volume
@@ -70,12 +78,12 @@ pub data PlanApplies (v p : List ℕ) : ℕ → ℕ → Type 0 where
   -- 11: list 0, or a list not below T; place: row
   wrongList : (i : ℕ) → i < rowCount p → WrongList (listCount v) (rowAt p i .kind) → PlanApplies v p 11 i
   -- 12: a ninth voice, or a VOICE that would open a ninth figure; place: row
-  ninth : (i : ℕ) → i < rowCount p → Ninth (standing p i) (rowAt p i .kind) → PlanApplies v p 12 i
+  ninth : (i : ℕ) → i < rowCount p → Ninth (counted (rowsBefore p i)) (rowAt p i .kind) → PlanApplies v p 12 i
   -- 13: VOICE after a condition; a condition with no figure open or naming a voice not there; END with no figure open;
   -- 7 to 9 with a figure open or fewer than two answers; place: row
-  wrongOrder : (i : ℕ) → i < rowCount p → WrongOrder (standing p i) (rowAt p i .kind) → PlanApplies v p 13 i
+  wrongOrder : (i : ℕ) → i < rowCount p → WrongOrder (counted (rowsBefore p i)) (rowAt p i .kind) → PlanApplies v p 13 i
   -- 14: figure open, or not one answer, at the end
-  unfinished : Unfinished (standing p (rowCount p)) → PlanApplies v p 14 0
+  unfinished : Unfinished (counted (rowsOf p)) → PlanApplies v p 14 0
 
 -- the refusals of showing pattern k: those of the volume and the plan, then 17
 pub data PartApplies (v p : List ℕ) (k : ℕ) : ℕ → ℕ → Type 0 where

@@ -60,6 +60,31 @@ rowAt p i = rowOf (kindAt p i) (aAt p i) (bAt p i) (cAt p i)
 abbrev pub rowsOf : List ℕ → List Row
 rowsOf p = run (rowAt p) 0 (rowCount p)
 
+-- what sort of row it is
+abbrev pub isVoice : Kind → Bool
+isVoice (kind.Voice list) = true
+isVoice (kind.Condition c) = false
+isVoice kind.End = false
+isVoice (kind.Operator o) = false
+
+abbrev pub isCondition : Kind → Bool
+isCondition (kind.Voice list) = false
+isCondition (kind.Condition c) = true
+isCondition kind.End = false
+isCondition (kind.Operator o) = false
+
+abbrev pub isEnd : Kind → Bool
+isEnd (kind.Voice list) = false
+isEnd (kind.Condition c) = false
+isEnd kind.End = true
+isEnd (kind.Operator o) = false
+
+abbrev pub isOperator : Kind → Bool
+isOperator (kind.Voice list) = false
+isOperator (kind.Condition c) = false
+isOperator kind.End = false
+isOperator (kind.Operator o) = true
+
 -- whether a and b are used, and the range of c
 abbrev pub uses : Bool → Bool → ℕ → ℕ → Uses
 uses a b least most = record { a = a; b = b; least = least; most = most }

@@ -11,6 +11,7 @@ use lib.ListN.{length, getD}
 use Rattle.seq.specs.Lists.{elem}
 use Rattle.seq.specs.Refusals.{Said, refused, answered, stageIn, First, FirstRefusal}
 use Rattle.seq.proofs.Laws.Tests.{contrary}
+use Rattle.seq.proofs.Laws.Decides.{Decides}
 use Rattle.seq.proofs.Laws.Numbers.{first-before, search-found, search-clear}
 use Rattle.seq.proofs.Laws.Refusals.{Sound, end, rung, first-refusal}
 use Rattle.seq.proofs.Laws.Ladder.{Clear, clear-next, first-of, single}
@@ -20,13 +21,15 @@ use Rattle.volume.specs.Check as volume
 use Rattle.volume.specs.Refusals.{VolumeApplies, volumeStages}
 use Rattle.volume.proofs.Laws.CheckFirst as below
 use Rattle.plan.specs.Answers.{Sizes}
-use Rattle.plan.specs.Rows.{rowCount, kindAt, aAt, bAt, cAt, rowAt, formWrongAt}
+use Rattle.plan.specs.Rows.{rowCount, kindAt, aAt, bAt, cAt, rowAt, rowsOf, formWrongAt}
 use Rattle.plan.specs.Standing.{listWrong, tooMany, orderWrong, standing}
 use Rattle.plan.specs.Check.{lengthWrong, rowWrong, rowFault, badRow, rowsWrong, unfinished, sizes, rowsVerdict, planVerdict, verdictBy, verdict}
-use Rattle.plan.specs.Refusals.{WrongForm, WrongList, Ninth, WrongOrder, Unfinished, PlanApplies, ofVolume, wrongLength, wrongForm, wrongList, ninth, wrongOrder, planStages}
+use Rattle.plan.specs.Counts.{counted}
+use Rattle.plan.specs.Refusals.{WrongForm, WrongList, Ninth, WrongOrder, Unfinished, rowsBefore, PlanApplies, ofVolume, wrongLength, wrongForm, wrongList, ninth, wrongOrder, planStages}
 use Rattle.plan.specs.Refusals as refusals
 use Rattle.plan.proofs.Laws.Rows.{formWrong-decides}
 use Rattle.plan.proofs.Laws.Standing.{step-form, step-list, step-many, step-order, step-stands, listWrong-decides, tooMany-decides, orderWrong-decides}
+use Rattle.plan.proofs.Laws.Counts.{counted-is}
 use Rattle.plan.proofs.Laws.Check.{row-stands, row-faulty, row-right, lengthWrong-decides, unfinished-decides}
 
 module _ (v p : List ℕ) where
@@ -38,10 +41,10 @@ module _ (v p : List ℕ) where
   ListAt q = WrongList (listCount v) (rowAt p q .kind)
 
   abbrev NinthAt : ℕ → Type 0
-  NinthAt q = Ninth (standing p q) (rowAt p q .kind)
+  NinthAt q = Ninth (counted (rowsBefore p q)) (rowAt p q .kind)
 
   abbrev OrderAt : ℕ → Type 0
-  OrderAt q = WrongOrder (standing p q) (rowAt p q .kind)
+  OrderAt q = WrongOrder (counted (rowsBefore p q)) (rowAt p q .kind)
 
   abbrev InRow : ℕ → ℕ → Type 0
   InRow m q = ((m ≡ 10) × FormAt q) ⊎ (((m ≡ 11) × ListAt q) ⊎ (((m ≡ 12) × NinthAt q) ⊎ ((m ≡ 13) × OrderAt q)))
@@ -53,7 +56,7 @@ module _ (v p : List ℕ) where
   abbrev AtStage : ℕ → ℕ → ℕ → Type 0
   AtStage m q k =
       getD
-      (((m ≡ 9) × ((q ≡ 0) × Long)) ∷ ((q < rowCount p) × InRow m q) ∷ ((m ≡ 14) × ((q ≡ 0) × Unfinished (standing p (rowCount p)))) ∷ [])
+      (((m ≡ 9) × ((q ≡ 0) × Long)) ∷ ((q < rowCount p) × InRow m q) ∷ ((m ≡ 14) × ((q ≡ 0) × Unfinished (counted (rowsOf p)))) ∷ [])
       (k - 7)
       ⊥
 
@@ -94,14 +97,26 @@ module _ (v p : List ℕ) where
     stage-le : (m q : ℕ) → PlanApplies v p m q → stageIn planStages m ≤ 9
     stage-le m q a = ⊎-elim (λ x. absurd (none m q x)) (λ w. w .1) (of-call m q a)
 
-    -- a row that is not refused has none of 10 to 13
-    in-order : (m q : ℕ) → rowWrong (listCount v) p q ≡ false → InRow m q → ⊥
-    in-order m q e w =
-        let r = row-right (listCount v) p q e in
+    -- in front of a row, where those before it are not refused, counting gives the standing
+    counts : (q : ℕ) → ((j : ℕ) → j < q → rowWrong (listCount v) p j ≡ false) → counted (rowsBefore p q) ≡ standing p q
+    counts q right = counted-is p q (λ j l. row-right (listCount v) p j (right j l) .3)
+
+    -- the tests of 12 and 13 there
+    many-decides : (q : ℕ) → ((j : ℕ) → j < q → rowWrong (listCount v) p j ≡ false) → Decides (tooMany (standing p q) (rowAt p q .kind)) (NinthAt q)
+    many-decides q right = rw (counts q right) (tooMany-decides (standing p q) (rowAt p q .kind))
+
+    order-decides : (q : ℕ) → ((j : ℕ) → j < q → rowWrong (listCount v) p j ≡ false) → Decides (orderWrong (standing p q) (rowAt p q .kind)) (OrderAt q)
+    order-decides q right = rw (counts q right) (orderWrong-decides (standing p q) (rowAt p q .kind))
+
+    -- a row that is not refused, nor any before it, has none of 10 to 13
+    in-order : (m q : ℕ) → ((j : ℕ) → j ≤ q → rowWrong (listCount v) p j ≡ false) → InRow m q → ⊥
+    in-order m q right w =
+        let r = row-right (listCount v) p q (right q (omega arith)) in
+        let before : (j : ℕ) → j < q → rowWrong (listCount v) p j ≡ false = λ j l. right j (omega arith) in
         ⊎-elim (λ (x : (m ≡ 10) × FormAt q). formWrong-decides (kindAt p q) (aAt p q) (bAt p q) (cAt p q) .no (r .0) (x .1))
         (⊎-elim (λ (x : (m ≡ 11) × ListAt q). listWrong-decides (listCount v) (rowAt p q .kind) .no (r .1) (x .1))
-        (⊎-elim (λ (x : (m ≡ 12) × NinthAt q). tooMany-decides (standing p q) (rowAt p q .kind) .no (r .2) (x .1))
-        (λ (x : (m ≡ 13) × OrderAt q). orderWrong-decides (standing p q) (rowAt p q .kind) .no (r .3) (x .1))))
+        (⊎-elim (λ (x : (m ≡ 12) × NinthAt q). many-decides q before .no (r .2) (x .1))
+        (λ (x : (m ≡ 13) × OrderAt q). order-decides q before .no (r .3) (x .1))))
         w
 
     -- the lowest row that is refused
@@ -113,13 +128,16 @@ module _ (v p : List ℕ) where
       unfolding rowsWrong
       found = search-found (rowWrong (listCount v) p) 0 (rowCount p) (rowCount p) (omega arith) e
 
+      before-bad : (j : ℕ) → j < bad → rowWrong (listCount v) p j ≡ false
+      before-bad j h = first-before (rowWrong (listCount v) p) 0 (rowCount p) j (omega arith) h
+
       -- a number of its stage that applies there, with none below it
       first-here : (n : ℕ) → stageIn planStages n ≡ 8 → PlanApplies v p n bad → ((m : ℕ) → InRow m bad → m < n → ⊥) → IsFirst n bad
       first-here n s a least =
           first-of (stageIn planStages) (PlanApplies v p) n bad (rw s c) a
           (λ m q x y w.
           let z = at-this 8 m q x (y ∙ s) in
-          ⊎-elim (λ (h : q < bad). in-order m q (first-before (rowWrong (listCount v) p) 0 (rowCount p) q (omega arith) h) (z .1))
+          ⊎-elim (λ (h : q < bad). in-order m q (λ j l. before-bad j (omega arith)) (z .1))
           (λ (h : (q ≡ bad) × (m < n)). least m (rw (h .0) at (z .1)) (h .1))
           w)
 
@@ -170,29 +188,31 @@ module _ (v p : List ℕ) where
               (λ m w h. from-list m w (formWrong-decides (kindAt p bad) (aAt p bad) (bAt p bad) (cAt p bad) .no ef) h))
           go false false true o ef el et eo =
               named 12 (row-faulty (listCount v) p bad _ (step-many (listCount v) (standing p bad) p bad ef el et) .1)
-              (first-here 12 refl (ninth bad (found .0) (tooMany-decides (standing p bad) (rowAt p bad .kind) .yes et))
+              (first-here 12 refl (ninth bad (found .0) (many-decides bad before-bad .yes et))
               (λ m w h. from-many m w (formWrong-decides (kindAt p bad) (aAt p bad) (bAt p bad) (cAt p bad) .no ef) (listWrong-decides (listCount v) (rowAt p bad .kind) .no el) h))
           go false false false true ef el et eo =
               named 13 (row-faulty (listCount v) p bad _ (step-order (listCount v) (standing p bad) p bad ef el et eo) .1)
-              (first-here 13 refl (wrongOrder bad (found .0) (orderWrong-decides (standing p bad) (rowAt p bad .kind) .yes eo))
-              (λ m w h. from-order m w (formWrong-decides (kindAt p bad) (aAt p bad) (bAt p bad) (cAt p bad) .no ef) (listWrong-decides (listCount v) (rowAt p bad .kind) .no el) (tooMany-decides (standing p bad) (rowAt p bad .kind) .no et) h))
+              (first-here 13 refl (wrongOrder bad (found .0) (order-decides bad before-bad .yes eo))
+              (λ m w h. from-order m w (formWrong-decides (kindAt p bad) (aAt p bad) (bAt p bad) (cAt p bad) .no ef) (listWrong-decides (listCount v) (rowAt p bad .kind) .no el) (many-decides bad before-bad .no et) h))
           go false false false false ef el et eo =
               absurd (contrary (found .1) (row-stands (listCount v) p bad _ (step-stands (listCount v) (standing p bad) p bad ef el et eo)))
 
     -- the rungs, from the last one up
-    from-end : IsClear 9 → IsSound (cond (unfinished p) (refused 14 0) (answered (sizes p)))
+    from-end : ((j : ℕ) → j < rowCount p → rowWrong (listCount v) p j ≡ false) → IsClear 9 → IsSound (cond (unfinished p) (refused 14 0) (answered (sizes p)))
     unfolding stageIn elem
-    from-end c =
-        single (stageIn planStages) (PlanApplies v p) (sizes p) (unfinished p) 14 _ _ (unfinished-decides p) refusals.unfinished c (at-this 9)
+    from-end right c =
+        single (stageIn planStages) (PlanApplies v p) (sizes p) (unfinished p) 14 _ _ (rw (counts (rowCount p) right) (unfinished-decides p)) refusals.unfinished c (at-this 9)
         (λ d. end (stageIn planStages) (PlanApplies v p) (sizes p) (λ m q a. let h = d m q a in let l = stage-le m q a in omega arith))
 
     from-rows : IsClear 8 → IsSound (rowsVerdict (listCount v) p)
     unfolding rowsVerdict rowsWrong
     from-rows c =
         rung (stageIn planStages) (PlanApplies v p) (sizes p) (rowsWrong (listCount v) p) _ _ _ (first-row c)
-        (λ e. from-end
-        (clear-next (stageIn planStages) (PlanApplies v p) 8 c
-        (λ m q a s. let w = at-this 8 m q a s in in-order m q (search-clear (rowWrong (listCount v) p) 0 (rowCount p) (rowCount p) e q (omega arith) (w .0)) (w .1))))
+        (λ e. from-end (right e)
+        (clear-next (stageIn planStages) (PlanApplies v p) 8 c (λ m q a s. let w = at-this 8 m q a s in let l : q < rowCount p = w .0 in in-order m q (λ j h. right e j (omega arith)) (w .1))))
+      where
+        right : rowsWrong (listCount v) p ≡ false → (j : ℕ) → j < rowCount p → rowWrong (listCount v) p j ≡ false
+        right e j h = search-clear (rowWrong (listCount v) p) 0 (rowCount p) (rowCount p) e j (omega arith) h
 
     from-plan : IsSound (planVerdict (listCount v) p)
     unfolding planVerdict stageIn elem

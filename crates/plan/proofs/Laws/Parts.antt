@@ -18,10 +18,10 @@ use Rattle.seq.specs.Lists.{all, joined}
 use Rattle.seq.specs.Numbers.{run}
 use Rattle.seq.proofs.Laws.Tests.{below-or}
 use Rattle.plan.specs.declared.row.Row.{Row}
-use Rattle.plan.specs.Rows.{rowCount, rowAt, rowsOf, planOf}
+use Rattle.plan.specs.Rows.{rowCount, rowAt, rowsOf, planOf, isOperator}
 use Rattle.plan.specs.Standing.{standing}
 use Rattle.plan.specs.Patterns.{noRow, patternsFrom, patternsOf}
-use Rattle.plan.specs.Parts.{opening, behind, firstRow, lastRow, spanAt, partAt, gap, isOperator, patternRows}
+use Rattle.plan.specs.Parts.{opening, behind, firstRow, lastRow, spanAt, partAt, gap, patternRows}
 use Rattle.plan.specs.Accepted.{patternAt}
 use Rattle.seq.proofs.Laws.Slices.{length-slice, take-slice, joined-takes}
 use Rattle.plan.proofs.Laws.Rows.{rows-slice, words-slice}

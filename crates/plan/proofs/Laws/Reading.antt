@@ -21,7 +21,8 @@ use Rattle.plan.specs.declared.row.Row.{Row}
 use Rattle.plan.specs.declared.standing.Standing.{Standing}
 use Rattle.plan.specs.Standing.{after, orderWrong}
 use Rattle.plan.specs.Patterns.{Pattern, noRow, openAfter, closed, patternsFrom}
-use Rattle.plan.specs.Parts.{isOperator, patternRows}
+use Rattle.plan.specs.Rows.{isOperator}
+use Rattle.plan.specs.Parts.{patternRows}
 use Rattle.plan.proofs.Laws.Rows.{numberOf}
 use Rattle.plan.proofs.Laws.Standing.{condition-stands, end-stands, operator-stands}
 

@@ -25,6 +25,7 @@ use Rattle.plan.specs.declared.answers.Fault.the-variants as fault
 use Rattle.plan.specs.declared.row.Predicate.{Predicate}
 use Rattle.plan.specs.declared.row.Predicate.the-variants.{Distance, Ordered, Samepara, Window}
 use Rattle.plan.specs.declared.row.Operator.{Operator}
+use Rattle.plan.specs.declared.row.Operator.the-variants.{Both, Either, FirstNotSecond}
 use Rattle.plan.specs.declared.row.Kind.{Kind}
 use Rattle.plan.specs.declared.row.Kind.the-variants as kind
 use Rattle.plan.specs.declared.row.Row.{Row}
@@ -84,6 +85,12 @@ condition-stands s c e =
 
 pub end-stands : (s : Standing) → orderWrong s kind.End ≡ false → s .vars ≢ 0
 end-stands s e = eqb-false (s .vars) 0 e
+
+-- an operator takes at least one answer
+pub takes-some : (o : Operator) → 1 ≤ takes o
+takes-some Both = omega arith
+takes-some Either = omega arith
+takes-some FirstNotSecond = omega arith
 
 pub operator-stands : (s : Standing) (o : Operator) → orderWrong s (kind.Operator o) ≡ false → (s .vars ≡ 0) × (takes o ≤ s .answers)
 operator-stands s o e =

@@ -18,10 +18,10 @@ use Rattle.seq.proofs.Laws.Tests.{below-or}
 use Rattle.seq.proofs.Laws.Numbers.{run-end, run-step, run-snoc}
 use Rattle.plan.specs.declared.row.Kind.the-variants as kind
 use Rattle.plan.specs.declared.row.Row.{Row}
-use Rattle.plan.specs.Rows.{rowCount, kindAt, aAt, rowAt}
+use Rattle.plan.specs.Rows.{rowCount, kindAt, aAt, rowAt, isOperator}
 use Rattle.plan.specs.Standing.{after, standing}
 use Rattle.plan.specs.Patterns.{Pattern, noRow, openAfter, patternsFrom}
-use Rattle.plan.specs.Parts.{firstOfKind, opening, ending, isOperator, patternRows}
+use Rattle.plan.specs.Parts.{firstOfKind, opening, ending, patternRows}
 use Rattle.seq.proofs.Laws.Slices.{all-run, run-parts}
 use Rattle.plan.proofs.Laws.Rows.{numberOf, number-at}
 use Rattle.plan.proofs.Laws.Standing.{standing-next}

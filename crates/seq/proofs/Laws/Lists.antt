@@ -2,16 +2,17 @@
 --     above-here, above-fall           one step of `above`
 --     length-joined, joined-append     lists, joined
 --     length-snoc                      the length of a list with one more at its end
+--     total-snoc, all-snoc, keep-snoc     a sum, a test of all, and a count, with one more at the end
 --     Each, each-cons, each-snoc       a fact of every element, of a list with one more in front, or at its end
 -- Assumes nothing.
 use Prim.Native.Nat.{ℕ, zero, suc, _+_, _<_, _≤_}
 use native.Mathlib.Omega.{arith}
 use mathlib.Core.Path.{_≡_, refl, sym, ap, _∙_}
-use mathlib.Core.Bool.{false}
+use mathlib.Core.Bool.{Bool, true, false, cond, _&&_, and-assoc}
 use mathlib.Core.List.{List, [], _∷_, _++_, append-assoc}
 use lib.ListN.{length, getD, length-append}
 use borrow.Author.Tests.{lt-ltb, le-ltb}
-use Rattle.seq.specs.Lists.{total, joined, above}
+use Rattle.seq.specs.Lists.{consIf, keep, all, total, joined, above}
 
 pub above-here : (a x : ℕ) (xs : List ℕ) → a < x → above a (x ∷ xs) ≡ above x xs
 unfolding above
@@ -34,6 +35,34 @@ joined-append {A} (xs ∷ xss) yss = ap (λ (l : List A). xs ++ l) (joined-appen
 module _ {A : Type 0} where
   pub length-snoc : (xs : List A) (x : A) → length (xs ++ (x ∷ [])) ≡ length xs + 1
   length-snoc xs x = length-append xs (x ∷ [])
+
+  pub total-snoc : (f : A → ℕ) (xs : List A) (x : A) → total f (xs ++ (x ∷ [])) ≡ total f xs + f x
+  unfolding total
+  total-snoc f [] x = omega arith
+  total-snoc f (y ∷ ys) x = let e = total-snoc f ys x in omega arith
+
+  pub all-snoc : (test : A → Bool) (xs : List A) (x : A) → all test (xs ++ (x ∷ [])) ≡ (all test xs && test x)
+  unfolding all
+  all-snoc test [] x = and-true (test x)
+    where
+      and-true : (t : Bool) → (t && true) ≡ t
+      and-true true = refl
+      and-true false = refl
+  all-snoc test (y ∷ ys) x = ap (λ (t : Bool). test y && t) (all-snoc test ys x) ∙ sym (and-assoc (test y) (all test ys) (test x))
+
+  -- how many pass a test, with one more at the end
+  pub keep-snoc : (test : A → Bool) (xs : List A) (x : A) → length (keep test (xs ++ (x ∷ []))) ≡ length (keep test xs) + cond (test x) 1 0
+  unfolding keep
+  keep-snoc test [] x = go (test x)
+    where
+      go : (t : Bool) → length (consIf t x []) ≡ 0 + cond t 1 0
+      go true = refl
+      go false = refl
+  keep-snoc test (y ∷ ys) x = go (test y) (keep-snoc test ys x)
+    where
+      go : (t : Bool) → length (keep test (ys ++ (x ∷ []))) ≡ length (keep test ys) + cond (test x) 1 0 → length (consIf t y (keep test (ys ++ (x ∷ [])))) ≡ length (consIf t y (keep test ys)) + cond (test x) 1 0
+      go true e = omega arith
+      go false e = e
 
   -- P holds of every element
   abbrev pub Each : (A → Type 0) → A → List A → Type 0

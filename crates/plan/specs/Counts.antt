@@ -1,0 +1,40 @@
+-- Where the reading of a plan stands, told by counting the rows that have been read. Assumes nothing.
+use Prim.Native.Nat.{ℕ, _-_}
+use mathlib.Core.Bool.{Bool, not, cond}
+use mathlib.Core.List.{List, [], _∷_}
+use lib.ListN.{length}
+use lib.Dec.{ltb}
+use Rattle.seq.specs.Lists.{keep, all, total}
+use Rattle.plan.specs.declared.row.Kind.{Kind}
+use Rattle.plan.specs.declared.row.Kind.the-variants as kind
+use Rattle.plan.specs.declared.row.Row.{Row}
+use Rattle.plan.specs.declared.standing.Standing.{Standing}
+use Rattle.plan.specs.Rows.{isVoice, isCondition, isEnd}
+use Rattle.plan.specs.Standing.{takes}
+
+-- how many of some rows are of a sort
+unfoldable pub countOf : (Kind → Bool) → List Row → ℕ
+countOf sort rows = length (keep (λ (r : Row). sort (r .kind)) rows)
+
+-- the rows behind the last END
+unfoldable pub behindEnd : List Row → List Row
+behindEnd [] = []
+behindEnd (r ∷ rows) = let rest = behindEnd rows in cond (all (λ (x : Row). not (isEnd (x .kind))) (r ∷ rows)) (r ∷ rows) rest
+
+-- how many answers fewer there are behind a row: an operator takes some and stacks one
+abbrev pub spent : Kind → ℕ
+spent (kind.Voice list) = 0
+spent (kind.Condition c) = 0
+spent kind.End = 0
+spent (kind.Operator o) = takes o - 1
+
+-- where the reading stands behind some rows: the variables of the open pattern are the VOICE rows behind the last END, its conditions have
+-- begun if one stands there, each END has closed a pattern and stacked an answer
+unfoldable pub counted : List Row → Standing
+counted rows = record {
+  vars = countOf isVoice (behindEnd rows);
+  begun = ltb 0 (countOf isCondition (behindEnd rows));
+  patterns = countOf isEnd rows;
+  answers = countOf isEnd rows - total (λ (r : Row). spent (r .kind)) rows;
+  total = countOf isVoice rows;
+}
