@@ -7,7 +7,6 @@ use mathlib.Core.Bool.{true, false}
 use mathlib.Core.Logic.{_⊎_, _≢_}
 use mathlib.Core.List.{List, [], _∷_, _++_}
 use lib.ListN.{length}
-use Rattle.seq.specs.Numbers.{run}
 use Rattle.volume.specs.Layout.{listCount}
 use Rattle.volume.specs.Refusals.{VolumeApplies, volumeStages}
 use Rattle.plan.specs.declared.kinds.Uses.{Uses}
@@ -16,11 +15,14 @@ use Rattle.plan.specs.declared.row.Predicate.the-variants.{Distance, Ord
 use Rattle.plan.specs.declared.row.Kind.{Kind}
 use Rattle.plan.specs.declared.row.Kind.the-variants as kind
 use Rattle.plan.specs.declared.standing.Standing.{Standing}
-use Rattle.plan.specs.declared.row.Row.{Row}
-use Rattle.plan.specs.Rows.{rowCount, kindAt, aAt, bAt, cAt, kindOf, rowAt, rowsOf, usesOf}
+use Rattle.plan.specs.Rows.{rowCount, kindAt, aAt, bAt, cAt, kindOf, rowAt, rowsBefore, rowsOf, usesOf}
 use Rattle.plan.specs.Standing.{takes}
 use Rattle.plan.specs.Counts.{counted}
 use Rattle.plan.specs.Check.{sizes}
+
+-- length 0, not a multiple of four words, or over 256 words
+abbrev pub WrongLength : List ℕ → Type 0
+WrongLength p = (length p ≡ 0) ⊎ ((length p % 4 ≢ 0) ⊎ (256 < length p))
 
 -- a word that is not used is not 0, or c is out of range
 abbrev pub Misused : Uses → ℕ → ℕ → ℕ → Type 0
@@ -63,16 +65,12 @@ WrongOrder s (kind.Operator o) = (s .vars ≢ 0) ⊎ (s .answers < takes o)
 abbrev pub Unfinished : Standing → Type 0
 Unfinished s = (s .vars ≢ 0) ⊎ (s .answers ≢ 1)
 
--- the rows in front of row i
-abbrev pub rowsBefore : List ℕ → ℕ → List Row
-rowsBefore p i = run (rowAt p) 0 i
-
 -- the refusals of a plan over a volume: those of the volume, then 9 to 14
 pub data PlanApplies (v p : List ℕ) : ℕ → ℕ → Type 0 where
   -- 1 to 8 of the volume
   ofVolume : (n q : ℕ) → VolumeApplies v n q → PlanApplies v p n q
   -- 9: length 0, not a multiple of four words, or over 256 words
-  wrongLength : (length p ≡ 0) ⊎ ((length p % 4 ≢ 0) ⊎ (256 < length p)) → PlanApplies v p 9 0
+  wrongLength : WrongLength p → PlanApplies v p 9 0
   -- 10: unknown kind, unused word not 0, or c out of range; place: row
   wrongForm : (i : ℕ) → i < rowCount p → WrongForm (kindAt p i) (aAt p i) (bAt p i) (cAt p i) → PlanApplies v p 10 i
   -- 11: list 0, or a list not below T; place: row

@@ -56,9 +56,13 @@ rowOf k a b c = record { kind = kindOf k a b c }
 unfoldable pub rowAt : List ℕ → ℕ → Row
 rowAt p i = rowOf (kindAt p i) (aAt p i) (bAt p i) (cAt p i)
 
+-- the rows in front of row i
+abbrev pub rowsBefore : List ℕ → ℕ → List Row
+rowsBefore p i = run (rowAt p) 0 i
+
 -- the rows
 abbrev pub rowsOf : List ℕ → List Row
-rowsOf p = run (rowAt p) 0 (rowCount p)
+rowsOf p = rowsBefore p (rowCount p)
 
 -- what sort of row it is
 abbrev pub isVoice : Kind → Bool

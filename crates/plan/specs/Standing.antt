@@ -3,7 +3,6 @@ use Prim.Native.Nat.{ℕ, _+_, _-_, _≤_}
 use mathlib.Core.Bool.{Bool, true, false, not, cond, _&&_, _||_}
 use mathlib.Core.List.{List, [], _∷_}
 use lib.Dec.{eqb, ltb, leb}
-use Rattle.seq.specs.Numbers.{run}
 use Rattle.plan.specs.declared.answers.Fault.the-variants as fault
 use Rattle.plan.specs.declared.row.Predicate.{Predicate}
 use Rattle.plan.specs.declared.row.Predicate.the-variants.{Distance, Ordered, Samepara, Window}
@@ -15,7 +14,7 @@ use Rattle.plan.specs.declared.row.Row.{Row}
 use Rattle.plan.specs.declared.standing.Standing.{Standing}
 use Rattle.plan.specs.declared.standing.Step.{Step}
 use Rattle.plan.specs.declared.standing.Step.the-variants.{Stands, Faulty}
-use Rattle.plan.specs.Rows.{rowAt, formWrongAt}
+use Rattle.plan.specs.Rows.{rowAt, rowsBefore, formWrongAt}
 
 -- in front of row 0: no pattern open, nothing stacked
 abbrev pub outset : Standing
@@ -41,7 +40,7 @@ stand s (r ∷ rows) = stand (after s (r .kind)) rows
 
 -- in front of row i of a plan
 unfoldable pub standing : List ℕ → ℕ → Standing
-standing p i = stand outset (run (rowAt p) 0 i)
+standing p i = stand outset (rowsBefore p i)
 
 -- a predicate names only variables below n
 abbrev pub namesBelow : ℕ → Predicate → Bool

@@ -4,14 +4,14 @@
 --     plan-zero, plan-cut, plan-long, plan-rows  planVerdict by the length
 --     lengthWrong-decides, unfinished-decides    the tests decide document 01's sentences
 --     row-right                                  the four tests of a row
---     said-sizes, passed                         a plan whose verdict answers
+--     passed                                     a plan whose verdict answers
 --     volume-accepted, verdict-sizes, verdict-passed     a volume and a plan whose verdict answers
 -- Assumes nothing.
 use Prim.Native.Nat.{ℕ, _%_, _<_, _≤_}
 use native.Mathlib.Omega.{arith}
 use mathlib.Core.Path.{_≡_, refl, sym, ap, _∙_}
-use mathlib.Core.Bool.{Bool, true, false, cond, true≢false}
-use mathlib.Core.Logic.{_⊎_, inl, inr, ⊎-elim, _≢_}
+use mathlib.Core.Bool.{true, false, cond, true≢false}
+use mathlib.Core.Logic.{inl, inr, ⊎-elim, _≢_}
 use mathlib.Core.List.{List}
 use lib.ListN.{length}
 use borrow.Author.Tests.{lt-ltb, le-ltb, eq-eqb, ne-eqb}
@@ -23,15 +23,16 @@ use Rattle.volume.specs.Layout.{listCount}
 use Rattle.volume.specs.Check as volume
 use Rattle.volume.proofs.Laws.CheckFirst.{check-sound}
 use Rattle.plan.specs.declared.answers.Fault.{Fault}
-use Rattle.plan.specs.declared.answers.Fault.the-variants as fault
 use Rattle.plan.specs.declared.standing.Standing.{Standing}
+use Rattle.plan.specs.declared.standing.Step.{Step}
 use Rattle.plan.specs.declared.standing.Step.the-variants.{Stands, Faulty}
 use Rattle.plan.specs.Answers.{Sizes, faultCode}
 use Rattle.plan.specs.Rows.{rowCount, rowAt, formWrongAt}
-use Rattle.plan.specs.Standing.{after, standing, listWrong, tooMany, orderWrong, step}
+use Rattle.plan.specs.Standing.{standing, listWrong, tooMany, orderWrong, step}
 use Rattle.plan.specs.Check.{lengthWrong, faulty, faultOf, rowWrong, rowFault, badRow, rowsWrong, unfinished, sizes, rowsVerdict, planVerdict, verdictBy, verdict}
-use Rattle.plan.specs.Refusals.{Unfinished}
+use Rattle.plan.specs.Refusals.{WrongLength, Unfinished}
 use Rattle.plan.proofs.Laws.Passed.{Passed}
+use Rattle.plan.proofs.Laws.Standing.{step-right}
 
 module _ (t : ℕ) (p : List ℕ) where
   pub row-stands : (i : ℕ) (s : Standing) → step t (standing p i) p i ≡ Stands s → rowWrong t p i ≡ false
@@ -86,7 +87,7 @@ module _ (t : ℕ) (p : List ℕ) where
       unfolding planVerdict lengthWrong
       plan-rows h = rw (ne-eqb (length p) 0 some, eq-eqb (length p % 4) 0 whole, le-ltb 256 (length p) h)
 
-pub lengthWrong-decides : (p : List ℕ) → Decides (lengthWrong p) ((length p ≡ 0) ⊎ ((length p % 4 ≢ 0) ⊎ (256 < length p)))
+pub lengthWrong-decides : (p : List ℕ) → Decides (lengthWrong p) (WrongLength p)
 unfolding lengthWrong
 lengthWrong-decides p = or-decides (eqb-decides (length p) 0) (or-decides (not-decides (eqb-decides (length p % 4) 0)) (ltb-decides 256 (length p)))
 
@@ -96,15 +97,12 @@ unfinished-decides p = or-decides (not-decides (eqb-decides (standing p (rowCoun
 
 -- the tests of one row, from the test of its step
 pub row-right : (t : ℕ) (p : List ℕ) (i : ℕ) → rowWrong t p i ≡ false → (formWrongAt p i ≡ false) × (listWrong t (rowAt p i .kind) ≡ false) × (tooMany (standing p i) (rowAt p i .kind) ≡ false) × (orderWrong (standing p i) (rowAt p i .kind) ≡ false)
-unfolding rowWrong step
-row-right t p i e = go (formWrongAt p i) (listWrong t (rowAt p i .kind)) (tooMany (standing p i) (rowAt p i .kind)) (orderWrong (standing p i) (rowAt p i .kind)) e
+unfolding rowWrong
+row-right t p i e = go (step t (standing p i) p i) refl e
   where
-    go : (a b c d : Bool) → faulty (cond a (Faulty fault.Form) (cond b (Faulty fault.List) (cond c (Faulty fault.TooMany) (cond d (Faulty fault.Order) (Stands (after (standing p i) (rowAt p i .kind))))))) ≡ false → (a ≡ false) × (b ≡ false) × (c ≡ false) × (d ≡ false)
-    go true b c d x = absurd (true≢false x)
-    go false true c d x = absurd (true≢false x)
-    go false false true d x = absurd (true≢false x)
-    go false false false true x = absurd (true≢false x)
-    go false false false false x = (refl, refl, refl, refl)
+    go : (x : Step) → step t (standing p i) p i ≡ x → faulty x ≡ false → (formWrongAt p i ≡ false) × (listWrong t (rowAt p i .kind) ≡ false) × (tooMany (standing p i) (rowAt p i .kind) ≡ false) × (orderWrong (standing p i) (rowAt p i .kind) ≡ false)
+    go (Stands s) q f = let w = step-right t (standing p i) p i s q in (w .0, w .1, w .2, w .3)
+    go (Faulty why) q f = absurd (true≢false f)
 
 -- a verdict that answers: every test is passed, and the sizes are those of the plan
 module _ (t : ℕ) (p : List ℕ) (s : Sizes) (e : planVerdict t p ≡ answered s) where
@@ -119,7 +117,7 @@ module _ (t : ℕ) (p : List ℕ) (s : Sizes) (e : planVerdict t p ≡ answered 
   finished : (unfinished p ≡ false) × (answered (sizes p) ≡ answered s)
   finished = past (unfinished p) 14 0 (answered (sizes p)) s (end-said .1)
 
-  pub said-sizes : s ≡ sizes p
+  said-sizes : s ≡ sizes p
   said-sizes = let q = finished .1 in cc
 
   right : (i : ℕ) → i < rowCount p → rowWrong t p i ≡ false
@@ -142,7 +140,7 @@ module _ (t : ℕ) (p : List ℕ) (s : Sizes) (e : planVerdict t p ≡ answered 
     single = stable (eqb-decides (standing p (rowCount p) .answers) 1) (λ n. open-end (inr n));
   }
     where
-      long : ((length p ≡ 0) ⊎ ((length p % 4 ≢ 0) ⊎ (256 < length p))) → ⊥
+      long : WrongLength p → ⊥
       long = lengthWrong-decides p .no (rows-said .0)
 
       open-end : Unfinished (standing p (rowCount p)) → ⊥

@@ -1,13 +1,13 @@
 -- Checking a plan answers the first refusal that applies. No contract cites this file.
 --     check-sound, check-first     the verdict is the first refusal that applies
 -- Assumes nothing.
-use Prim.Native.Nat.{ℕ, _-_, _%_, _<_, _≤_}
+use Prim.Native.Nat.{ℕ, _-_, _<_, _≤_}
 use native.Mathlib.Omega.{arith}
 use mathlib.Core.Path.{_≡_, refl, sym, _∙_, subst}
 use mathlib.Core.Bool.{Bool, true, false, cond}
-use mathlib.Core.Logic.{_⊎_, inl, inr, ⊎-elim, _≢_}
+use mathlib.Core.Logic.{_⊎_, inl, inr, ⊎-elim}
 use mathlib.Core.List.{List, [], _∷_}
-use lib.ListN.{length, getD}
+use lib.ListN.{getD}
 use Rattle.seq.specs.Lists.{elem}
 use Rattle.seq.specs.Refusals.{Said, refused, answered, stageIn, First, FirstRefusal}
 use Rattle.seq.proofs.Laws.Tests.{contrary}
@@ -21,11 +21,11 @@ use Rattle.volume.specs.Check as volume
 use Rattle.volume.specs.Refusals.{VolumeApplies, volumeStages}
 use Rattle.volume.proofs.Laws.CheckFirst as below
 use Rattle.plan.specs.Answers.{Sizes}
-use Rattle.plan.specs.Rows.{rowCount, kindAt, aAt, bAt, cAt, rowAt, rowsOf, formWrongAt}
+use Rattle.plan.specs.Rows.{rowCount, kindAt, aAt, bAt, cAt, rowAt, rowsBefore, rowsOf, formWrongAt}
 use Rattle.plan.specs.Standing.{listWrong, tooMany, orderWrong, standing}
 use Rattle.plan.specs.Check.{lengthWrong, rowWrong, rowFault, badRow, rowsWrong, unfinished, sizes, rowsVerdict, planVerdict, verdictBy, verdict}
 use Rattle.plan.specs.Counts.{counted}
-use Rattle.plan.specs.Refusals.{WrongForm, WrongList, Ninth, WrongOrder, Unfinished, rowsBefore, PlanApplies, ofVolume, wrongLength, wrongForm, wrongList, ninth, wrongOrder, planStages}
+use Rattle.plan.specs.Refusals.{WrongLength, WrongForm, WrongList, Ninth, WrongOrder, Unfinished, PlanApplies, ofVolume, wrongLength, wrongForm, wrongList, ninth, wrongOrder, planStages}
 use Rattle.plan.specs.Refusals as refusals
 use Rattle.plan.proofs.Laws.Rows.{formWrong-decides}
 use Rattle.plan.proofs.Laws.Standing.{step-form, step-list, step-many, step-order, step-stands, listWrong-decides, tooMany-decides, orderWrong-decides}
@@ -49,14 +49,11 @@ module _ (v p : List ℕ) where
   abbrev InRow : ℕ → ℕ → Type 0
   InRow m q = ((m ≡ 10) × FormAt q) ⊎ (((m ≡ 11) × ListAt q) ⊎ (((m ≡ 12) × NinthAt q) ⊎ ((m ≡ 13) × OrderAt q)))
 
-  abbrev Long : Type 0
-  Long = (length p ≡ 0) ⊎ ((length p % 4 ≢ 0) ⊎ (256 < length p))
-
   -- what a refusal of the plan's own stages says, by its number m and place q
   abbrev AtStage : ℕ → ℕ → ℕ → Type 0
   AtStage m q k =
       getD
-      (((m ≡ 9) × ((q ≡ 0) × Long)) ∷ ((q < rowCount p) × InRow m q) ∷ ((m ≡ 14) × ((q ≡ 0) × Unfinished (counted (rowsOf p)))) ∷ [])
+      (((m ≡ 9) × ((q ≡ 0) × WrongLength p)) ∷ ((q < rowCount p) × InRow m q) ∷ ((m ≡ 14) × ((q ≡ 0) × Unfinished (counted (rowsOf p)))) ∷ [])
       (k - 7)
       ⊥
 
@@ -141,35 +138,13 @@ module _ (v p : List ℕ) where
           (λ (h : (q ≡ bad) × (m < n)). least m (rw (h .0) at (z .1)) (h .1))
           w)
 
-      -- no number of a row is below 10; those below n, where the tests of the earlier ones fail
-      module _ (m : ℕ) (w : InRow m bad) where
-        from-form : m < 10 → ⊥
-        from-form h =
-            ⊎-elim (λ (x : (m ≡ 10) × FormAt bad). let y = x .0 in omega arith)
-            (⊎-elim (λ (x : (m ≡ 11) × ListAt bad). let y = x .0 in omega arith)
-            (⊎-elim (λ (x : (m ≡ 12) × NinthAt bad). let y = x .0 in omega arith) (λ (x : (m ≡ 13) × OrderAt bad). let y = x .0 in omega arith)))
-            w
-
-        from-list : (FormAt bad → ⊥) → m < 11 → ⊥
-        from-list f h =
-            ⊎-elim (λ (x : (m ≡ 10) × FormAt bad). f (x .1))
-            (⊎-elim (λ (x : (m ≡ 11) × ListAt bad). let y = x .0 in omega arith)
-            (⊎-elim (λ (x : (m ≡ 12) × NinthAt bad). let y = x .0 in omega arith) (λ (x : (m ≡ 13) × OrderAt bad). let y = x .0 in omega arith)))
-            w
-
-        from-many : (FormAt bad → ⊥) → (ListAt bad → ⊥) → m < 12 → ⊥
-        from-many f l h =
-            ⊎-elim (λ (x : (m ≡ 10) × FormAt bad). f (x .1))
-            (⊎-elim (λ (x : (m ≡ 11) × ListAt bad). l (x .1))
-            (⊎-elim (λ (x : (m ≡ 12) × NinthAt bad). let y = x .0 in omega arith) (λ (x : (m ≡ 13) × OrderAt bad). let y = x .0 in omega arith)))
-            w
-
-        from-order : (FormAt bad → ⊥) → (ListAt bad → ⊥) → (NinthAt bad → ⊥) → m < 13 → ⊥
-        from-order f l t h =
-            ⊎-elim (λ (x : (m ≡ 10) × FormAt bad). f (x .1))
-            (⊎-elim (λ (x : (m ≡ 11) × ListAt bad). l (x .1))
-            (⊎-elim (λ (x : (m ≡ 12) × NinthAt bad). t (x .1)) (λ (x : (m ≡ 13) × OrderAt bad). let y = x .0 in omega arith)))
-            w
+      -- a number of the row is not below n, where none of the earlier ones applies
+      not-below : (n : ℕ) → n ≤ 13 → (10 < n → FormAt bad → ⊥) → (11 < n → ListAt bad → ⊥) → (12 < n → NinthAt bad → ⊥) → (m : ℕ) → InRow m bad → m < n → ⊥
+      not-below n top form list many m w h =
+          ⊎-elim (λ (x : (m ≡ 10) × FormAt bad). let y = x .0 in form (omega arith) (x .1))
+          (⊎-elim (λ (x : (m ≡ 11) × ListAt bad). let y = x .0 in list (omega arith) (x .1))
+          (⊎-elim (λ (x : (m ≡ 12) × NinthAt bad). let y = x .0 in many (omega arith) (x .1)) (λ (x : (m ≡ 13) × OrderAt bad). let y = x .0 in omega arith)))
+          w
 
       first-row : IsFirst (rowFault (listCount v) p bad) bad
       unfolding stageIn elem
@@ -178,22 +153,25 @@ module _ (v p : List ℕ) where
           named : (n : ℕ) → rowFault (listCount v) p bad ≡ n → IsFirst n bad → IsFirst (rowFault (listCount v) p bad) bad
           named n q f = subst (λ (k : ℕ). IsFirst k bad) (sym q) f
 
+          form-decides : Decides (formWrongAt p bad) (FormAt bad)
+          form-decides = formWrong-decides (kindAt p bad) (aAt p bad) (bAt p bad) (cAt p bad)
+
+          list-decides : Decides (listWrong (listCount v) (rowAt p bad .kind)) (ListAt bad)
+          list-decides = listWrong-decides (listCount v) (rowAt p bad .kind)
+
           go : (f l t o : Bool) → formWrongAt p bad ≡ f → listWrong (listCount v) (rowAt p bad .kind) ≡ l → tooMany (standing p bad) (rowAt p bad .kind) ≡ t → orderWrong (standing p bad) (rowAt p bad .kind) ≡ o → IsFirst (rowFault (listCount v) p bad) bad
           go true l t o ef el et eo =
               named 10 (row-faulty (listCount v) p bad _ (step-form (listCount v) (standing p bad) p bad ef) .1)
-              (first-here 10 refl (wrongForm bad (found .0) (formWrong-decides (kindAt p bad) (aAt p bad) (bAt p bad) (cAt p bad) .yes ef)) (λ m w h. from-form m w h))
+              (first-here 10 refl (wrongForm bad (found .0) (form-decides .yes ef)) (not-below 10 (omega arith) (λ h. absurd (omega arith)) (λ h. absurd (omega arith)) (λ h. absurd (omega arith))))
           go false true t o ef el et eo =
               named 11 (row-faulty (listCount v) p bad _ (step-list (listCount v) (standing p bad) p bad ef el) .1)
-              (first-here 11 refl (wrongList bad (found .0) (listWrong-decides (listCount v) (rowAt p bad .kind) .yes el))
-              (λ m w h. from-list m w (formWrong-decides (kindAt p bad) (aAt p bad) (bAt p bad) (cAt p bad) .no ef) h))
+              (first-here 11 refl (wrongList bad (found .0) (list-decides .yes el)) (not-below 11 (omega arith) (λ h. form-decides .no ef) (λ h. absurd (omega arith)) (λ h. absurd (omega arith))))
           go false false true o ef el et eo =
               named 12 (row-faulty (listCount v) p bad _ (step-many (listCount v) (standing p bad) p bad ef el et) .1)
-              (first-here 12 refl (ninth bad (found .0) (many-decides bad before-bad .yes et))
-              (λ m w h. from-many m w (formWrong-decides (kindAt p bad) (aAt p bad) (bAt p bad) (cAt p bad) .no ef) (listWrong-decides (listCount v) (rowAt p bad .kind) .no el) h))
+              (first-here 12 refl (ninth bad (found .0) (many-decides bad before-bad .yes et)) (not-below 12 (omega arith) (λ h. form-decides .no ef) (λ h. list-decides .no el) (λ h. absurd (omega arith))))
           go false false false true ef el et eo =
               named 13 (row-faulty (listCount v) p bad _ (step-order (listCount v) (standing p bad) p bad ef el et eo) .1)
-              (first-here 13 refl (wrongOrder bad (found .0) (order-decides bad before-bad .yes eo))
-              (λ m w h. from-order m w (formWrong-decides (kindAt p bad) (aAt p bad) (bAt p bad) (cAt p bad) .no ef) (listWrong-decides (listCount v) (rowAt p bad .kind) .no el) (many-decides bad before-bad .no et) h))
+              (first-here 13 refl (wrongOrder bad (found .0) (order-decides bad before-bad .yes eo)) (not-below 13 (omega arith) (λ h. form-decides .no ef) (λ h. list-decides .no el) (λ h. many-decides bad before-bad .no et)))
           go false false false false ef el et eo =
               absurd (contrary (found .1) (row-stands (listCount v) p bad _ (step-stands (listCount v) (standing p bad) p bad ef el et eo)))
 

@@ -22,7 +22,7 @@ use Rattle.plan.specs.declared.standing.Standing.{Standing}
 use Rattle.plan.specs.Rows.{rowAt, isVoice, isCondition, isEnd}
 use Rattle.plan.specs.Standing.{outset, takes, after, standing, orderWrong}
 use Rattle.plan.specs.Counts.{countOf, behindEnd, spent, counted}
-use Rattle.plan.proofs.Laws.Standing.{standing-first, standing-next, operator-stands, takes-some}
+use Rattle.plan.proofs.Laws.Standing.{standing-first, standing-next, operator-stands, takes-two}
 
 -- one more row, counted where it is of the sort
 count-snoc : (sort : Kind → Bool) (xs : List Row) (r : Row) → countOf sort (xs ++ (r ∷ [])) ≡ countOf sort xs + cond (sort (r .kind)) 1 0
@@ -105,7 +105,7 @@ module _ (xs : List Row) (l : spentOf xs ≤ countOf isEnd xs) where
       let r : Row = record { kind = kind.Operator o } in
       let b = behind-snoc xs r refl in
       let w : takes o ≤ countOf isEnd xs - spentOf xs = operator-stands (counted xs) o e .1 in
-      let n = takes-some o in
+      let n = takes-two o in
       let less : countOf isEnd xs - (spentOf xs + (takes o - 1)) ≡ countOf isEnd xs - spentOf xs + 1 - takes o = omega arith in
       same _ _ _ _ _ _ _ _ _ _
       (ap (countOf isVoice) b ∙ count-snoc isVoice (behindEnd xs) r ∙ add-zero _)
@@ -124,7 +124,7 @@ module _ (xs : List Row) (l : spentOf xs ≤ countOf isEnd xs) where
       go kind.End q = omega arith
       go (kind.Operator o) q =
           let w : takes o ≤ countOf isEnd xs - spentOf xs = operator-stands (counted xs) o q .1 in
-          let n = takes-some o in
+          let n = takes-two o in
           omega arith
 
 -- no more answers have been spent than stacked, and counting gives a standing

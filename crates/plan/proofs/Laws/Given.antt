@@ -29,11 +29,11 @@ use Rattle.plan.proofs.Laws.Passed.{Passed}
 use Rattle.plan.proofs.Laws.Patterns.{patterns-length, patterns-vars, Passes, PassAll, fits-none, patterns-made, answers-length, Bound, bound-outset, bound-stand}
 
 module _ (p : List ℕ) where
-  pub patterns-are : length (patternsOf (rowsOf p)) ≡ standing p (rowCount p) .patterns
+  patterns-are : length (patternsOf (rowsOf p)) ≡ standing p (rowCount p) .patterns
   unfolding standing
   patterns-are = sym (patterns-length outset noRow (rowsOf p) ∙ zero-add (length (patternsOf (rowsOf p))))
 
-  pub vars-are : standing p (rowCount p) .vars ≡ 0 → total (λ (f : Pattern). length (f .vars)) (patternsOf (rowsOf p)) ≡ standing p (rowCount p) .total
+  vars-are : standing p (rowCount p) .vars ≡ 0 → total (λ (f : Pattern). length (f .vars)) (patternsOf (rowsOf p)) ≡ standing p (rowCount p) .total
   unfolding standing
   vars-are e = let w = patterns-vars outset noRow (rowsOf p) refl in omega arith
 

@@ -76,7 +76,7 @@ module _ (t : ℕ) (p : List ℕ) (ok : Passed t p) where
   piece-at : (k : ℕ) → k < patternCount p → Piece p (behind p k) (patternAt p k)
   piece-at k h = next-piece k h (left k (omega arith))
 
-  pub behind-le : (k : ℕ) → k ≤ patternCount p → behind p k ≤ rowCount p
+  behind-le : (k : ℕ) → k ≤ patternCount p → behind p k ≤ rowCount p
   behind-le k h = left k h .within
 
   pub span-within : (k : ℕ) → k < patternCount p → lastRow p k < rowCount p
@@ -88,11 +88,11 @@ module _ (t : ℕ) (p : List ℕ) (ok : Passed t p) where
       let b = found-ge p 6 (firstRow p k) in
       end-behind t p ok (firstRow p k) (omega arith) (found-at p 1 (behind p k) (omega arith))
 
-  pub idle-behind : (k : ℕ) → k ≤ patternCount p → standing p (behind p k) .vars ≡ 0
+  idle-behind : (k : ℕ) → k ≤ patternCount p → standing p (behind p k) .vars ≡ 0
   idle-behind k h = left k h .idle
 
   -- behind the last pattern there is no VOICE
-  pub last-opening : firstRow p (patternCount p) ≡ rowCount p
+  last-opening : firstRow p (patternCount p) ≡ rowCount p
   last-opening =
       let l = left (patternCount p) (omega arith) in
       let a = found-le p 1 (behind p (patternCount p)) (l .within) in

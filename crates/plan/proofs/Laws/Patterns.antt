@@ -31,7 +31,7 @@ use Rattle.plan.specs.Rows.{InRange}
 use Rattle.plan.specs.Standing.{outset, takes, after, stand, namesBelow, listWrong, tooMany, orderWrong}
 use Rattle.plan.specs.Patterns.{Pattern, noRow, openAfter, closed, patternsFrom, two, operate, answersAfter, answersFrom}
 use Rattle.plan.specs.Accepted.{WellMade}
-use Rattle.plan.proofs.Laws.Standing.{condition-stands, end-stands, operator-stands}
+use Rattle.plan.proofs.Laws.Standing.{condition-stands, end-stands, operator-stands, takes-two}
 use Rattle.seq.proofs.Laws.Lists.{length-snoc, Each, each-cons, each-snoc}
 
 -- a row closes as many patterns as it adds to those of the standing
@@ -210,12 +210,6 @@ pub record Bound (i : ℕ) (s : Standing) : Type 0 where
 
 pub bound-outset : Bound 0 outset
 bound-outset = record { rows = omega arith; few-vars = omega arith; some-vars = omega arith; open-vars = omega arith; few-patterns = omega arith; open-patterns = inl refl; few-answers = omega arith }
-
--- an operator takes two answers
-takes-two : (o : Operator) → takes o ≡ 2
-takes-two Both = refl
-takes-two Either = refl
-takes-two FirstNotSecond = refl
 
 bound-after : (t i : ℕ) (s : Standing) (k : Kind) → Passes t s k → Bound i s → Bound (i + 1) (after s k)
 bound-after t i s (kind.Voice list) p h =

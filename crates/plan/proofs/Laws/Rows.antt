@@ -157,7 +157,7 @@ row-ext p q i j k a b c = rw (k, a, b, c)
 
 module _ (p : List ℕ) where
   -- row i of the right form has the words that the plan has there
-  pub words-at : (i : ℕ) → formWrongAt p i ≡ false → wordsOf (rowAt p i .kind) ≡ kindAt p i ∷ aAt p i ∷ bAt p i ∷ cAt p i ∷ []
+  words-at : (i : ℕ) → formWrongAt p i ≡ false → wordsOf (rowAt p i .kind) ≡ kindAt p i ∷ aAt p i ∷ bAt p i ∷ cAt p i ∷ []
   unfolding rowAt
   words-at i e = words-of (kindAt p i) (aAt p i) (bAt p i) (cAt p i) e
 

@@ -4,7 +4,7 @@
 --     standing-most, most-le          in front of row i no number of a standing is above i, nor above a larger n
 --     condition-stands, end-stands, operator-stands     what a row that may stand there tells of the standing
 --     step-form .. step-stands        what a row does, by the first test that applies
---     step-moves                      where a row stands, the standing behind it
+--     step-right                      a row that stands passes every test, and the standing behind it
 --     listWrong-decides, tooMany-decides, orderWrong-decides     the tests decide document 01's sentences
 -- Assumes nothing.
 use Prim.Native.Nat.{ℕ, zero, suc, _+_, _<_, _≤_}
@@ -36,7 +36,7 @@ use Rattle.plan.specs.Check.{faulty}
 use Rattle.plan.specs.Standing.{outset, takes, after, stand, standing, namesBelow, listWrong, tooMany, orderWrong, step, AtMost}
 use Rattle.plan.specs.Refusals.{WrongList, Ninth, NamesMissing, WrongOrder}
 
-pub stand-append : (s : Standing) (xs ys : List Row) → stand s (xs ++ ys) ≡ stand (stand s xs) ys
+stand-append : (s : Standing) (xs ys : List Row) → stand s (xs ++ ys) ≡ stand (stand s xs) ys
 unfolding stand
 stand-append s [] ys = refl
 stand-append s (x ∷ xs) ys = stand-append (after s (x .kind)) xs ys
@@ -86,11 +86,11 @@ condition-stands s c e =
 pub end-stands : (s : Standing) → orderWrong s kind.End ≡ false → s .vars ≢ 0
 end-stands s e = eqb-false (s .vars) 0 e
 
--- an operator takes at least one answer
-pub takes-some : (o : Operator) → 1 ≤ takes o
-takes-some Both = omega arith
-takes-some Either = omega arith
-takes-some FirstNotSecond = omega arith
+-- an operator takes two answers
+pub takes-two : (o : Operator) → takes o ≡ 2
+takes-two Both = refl
+takes-two Either = refl
+takes-two FirstNotSecond = refl
 
 pub operator-stands : (s : Standing) (o : Operator) → orderWrong s (kind.Operator o) ≡ false → (s .vars ≡ 0) × (takes o ≤ s .answers)
 operator-stands s o e =
@@ -121,19 +121,20 @@ module _ (t : ℕ) (s : Standing) (p : List ℕ) (i : ℕ) where
         unfolding step
         step-stands e = rw (formed, listed, few, e)
 
-  pub step-moves : (s′ : Standing) → step t s p i ≡ Stands s′ → s′ ≡ after s (rowAt p i .kind)
+  -- a row that stands passes the four tests, and where it leads
+  pub step-right : (s′ : Standing) → step t s p i ≡ Stands s′ → (formWrongAt p i ≡ false) × (listWrong t (rowAt p i .kind) ≡ false) × (tooMany s (rowAt p i .kind) ≡ false) × (orderWrong s (rowAt p i .kind) ≡ false) × (s′ ≡ after s (rowAt p i .kind))
   unfolding step
-  step-moves s′ e = go (formWrongAt p i) (listWrong t (rowAt p i .kind)) (tooMany s (rowAt p i .kind)) (orderWrong s (rowAt p i .kind)) (after s (rowAt p i .kind)) e
+  step-right s′ e = go (formWrongAt p i) (listWrong t (rowAt p i .kind)) (tooMany s (rowAt p i .kind)) (orderWrong s (rowAt p i .kind)) (after s (rowAt p i .kind)) e
     where
-      not-faulty : (why : Fault) (x : Standing) → Faulty why ≡ Stands x → ⊥
-      not-faulty why x q = true≢false (ap faulty q)
+      not-faulty : (why : Fault) → Faulty why ≡ Stands s′ → ⊥
+      not-faulty why q = true≢false (ap faulty q)
 
-      go : (a b c d : Bool) (x : Standing) → cond a (Faulty fault.Form) (cond b (Faulty fault.List) (cond c (Faulty fault.TooMany) (cond d (Faulty fault.Order) (Stands x)))) ≡ Stands s′ → s′ ≡ x
-      go true b c d x q = absurd (not-faulty fault.Form s′ q)
-      go false true c d x q = absurd (not-faulty fault.List s′ q)
-      go false false true d x q = absurd (not-faulty fault.TooMany s′ q)
-      go false false false true x q = absurd (not-faulty fault.Order s′ q)
-      go false false false false x q = cc
+      go : (a b c d : Bool) (x : Standing) → cond a (Faulty fault.Form) (cond b (Faulty fault.List) (cond c (Faulty fault.TooMany) (cond d (Faulty fault.Order) (Stands x)))) ≡ Stands s′ → (a ≡ false) × (b ≡ false) × (c ≡ false) × (d ≡ false) × (s′ ≡ x)
+      go true b c d x q = absurd (not-faulty fault.Form q)
+      go false true c d x q = absurd (not-faulty fault.List q)
+      go false false true d x q = absurd (not-faulty fault.TooMany q)
+      go false false false true x q = absurd (not-faulty fault.Order q)
+      go false false false false x q = (refl, refl, refl, refl, cc)
 
 -- a test that is always false decides what never holds
 never : Decides false ⊥

@@ -18,7 +18,7 @@ use Rattle.seq.proofs.Laws.Refusals.{Sound, rung}
 use Rattle.seq.proofs.Laws.Ladder.{Clear}
 
 -- a number of the first groups has its stage there
-pub stage-front : (gs hs : List (List ℕ)) (n : ℕ) → stageIn gs n < length gs → stageIn (gs ++ hs) n ≡ stageIn gs n
+stage-front : (gs hs : List (List ℕ)) (n : ℕ) → stageIn gs n < length gs → stageIn (gs ++ hs) n ≡ stageIn gs n
 unfolding stageIn
 stage-front [] hs n h = absurd (let z : ⊥ = omega arith in z)
 stage-front (g ∷ gs) hs n h = go (elem n g) h (stage-front gs hs n)
@@ -39,7 +39,7 @@ module _ (gs hs : List (List ℕ)) (A B : ℕ → ℕ → Type 0) (o : Over gs h
   same m q a = stage-front gs hs m (o .early m q a)
 
   -- the first refusal of A is the first of B
-  pub over-first : (n p : ℕ) → First (stageIn gs) A n p → First (stageIn (gs ++ hs)) B n p
+  over-first : (n p : ℕ) → First (stageIn gs) A n p → First (stageIn (gs ++ hs)) B n p
   over-first n p f = record { applies = o .joins n p (f .applies); nothing-before = before }
     where
       here : stageIn (gs ++ hs) n ≡ stageIn gs n

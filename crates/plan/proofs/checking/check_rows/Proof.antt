@@ -13,7 +13,7 @@ use Rattle.plan.specs.Answers.{Sizes}
 use Rattle.plan.specs.Rows.{rowCount}
 use Rattle.plan.specs.Standing.{standing, step}
 use Rattle.plan.specs.Check.{rowWrong, badRow}
-use Rattle.plan.proofs.Laws.Standing.{standing-first, standing-next, standing-most, most-le, step-moves}
+use Rattle.plan.proofs.Laws.Standing.{standing-first, standing-next, standing-most, most-le, step-right}
 use Rattle.plan.proofs.Laws.Check.{row-stands, row-faulty, rows-fault, rows-open, rows-count, rows-answer}
 use Rattle.plan.proofs.Laws.Given.{sizes-are}
 use Rattle.plan.proofs.checking.check_rows.Statement.{statement}
@@ -80,7 +80,7 @@ loop-again c =
     let l = c .before .before .before .before .before .loop in
     let p = now (a .plan) in
     let e : step (a .lists) (standing p (l .i)) p (l .i) ≡ Stands _ = ap (λ (s : Standing). step (a .lists) s p (l .i)) (sym (l .inv .0)) ∙ sym (c .before .before .before .row-step .ensures) ∙ c .before .stepped2 .given .1 in (
-      step-moves (a .lists) (standing p (l .i)) p (l .i) _ e ∙ sym (standing-next p (l .i)),
+      step-right (a .lists) (standing p (l .i)) p (l .i) _ e .4 ∙ sym (standing-next p (l .i)),
       omega arith,
       sym (first-miss (rowWrong (a .lists) p) (l .i) (rowCount p) (c .before .before .before .before .loop-test .taken) (row-stands (a .lists) p (l .i) _ e)) ∙ l .inv .2,
     )
