@@ -2,6 +2,8 @@
 --     Tests      what a test's value tells
 --     Decides    a test decides a fact
 --     Lists      total, joined and lists that rise
+--     Totals     sums over a list
+--     Keep       the elements that pass a test
 --     Numbers    firstFrom, run and sumTo
 --     Runs       runs, sums and searches of lists
 --     Slices     parts of lists, as runs of their values
@@ -13,6 +15,8 @@
 pub mod Tests
 pub mod Decides
 pub mod Lists
+pub mod Totals
+pub mod Keep
 pub mod Numbers
 pub mod Runs
 pub mod Slices

@@ -1,8 +1,9 @@
--- Words for lists: the elements that pass a test, whether all do, sums and joins over a list, and lists that rise.
+-- Words for lists: the elements that pass a test, whether all do, sums and joins over a list, its first element, and lists that rise.
 -- Assumes nothing.
 use Prim.Native.Nat.{ℕ, _+_, _<_, _≤_}
 use mathlib.Core.Bool.{Bool, true, false, _&&_, _||_}
 use mathlib.Core.List.{List, [], _∷_, _++_}
+use mathlib.Core.Option.{Option, none, some}
 use lib.Dec.{eqb, ltb}
 use lib.ListN.{length, getD}
 
@@ -31,6 +32,11 @@ module _ {A : Type 0} where
   unfoldable pub joined : List (List A) → List A
   joined [] = []
   joined (xs ∷ xss) = xs ++ joined xss
+
+  -- the first element, if there is one
+  abbrev pub first : List A → Option A
+  first [] = none
+  first (x ∷ xs) = some x
 
 -- n is an element
 unfoldable pub elem : ℕ → List ℕ → Bool

@@ -1,5 +1,5 @@
 -- The laws of `specs/Answers.antt`: an answer is known from its number and values. No contract cites this file.
---     heardRefusal, heardChecked       the answer with a number and values
+--     heard, heardChecked              the answer with a number and values
 --     heard-refusal, heard-checked     what is heard is what was said
 --     one-to-one                       no two answers are said alike
 -- Assumes nothing.
@@ -22,7 +22,7 @@ use Rattle.plan.specs.Answers.{Sizes, saidRefusal, saidChecked}
 use Rattle.plan.specs.Demands.{OneToOne}
 
 -- the refusal with a number and a place: 9 to 14 by a list, and those of the volume
-abbrev heard : ℕ → ℕ → Refusal
+abbrev pub heard : ℕ → ℕ → Refusal
 heard n q = cond (leb 9 n) (getD (Length ∷ Row fault.Form q ∷ Row fault.List q ∷ Row fault.TooMany q ∷ Row fault.Order q ∷ []) (n - 9) Unfinished) (Volume (heardRefusal n q))
 
 abbrev heardSizes : Said Sizes → Refusal

@@ -175,7 +175,7 @@ two-length g [] l = absurd (omega arith)
 two-length g (second ∷ []) l = absurd (omega arith)
 two-length g (second ∷ (first ∷ answers)) l = omega arith
 
-operate-length : (o : Operator) (answers : List Bool) → takes o ≤ length answers → length (operate o answers) ≡ length answers + 1 - takes o
+pub operate-length : (o : Operator) (answers : List Bool) → takes o ≤ length answers → length (operate o answers) ≡ length answers + 1 - takes o
 operate-length Both answers l = two-length (λ first second. first && second) answers l
 operate-length Either answers l = two-length (λ first second. first || second) answers l
 operate-length FirstNotSecond answers l = two-length (λ first second. first && not second) answers l

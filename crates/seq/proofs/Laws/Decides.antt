@@ -3,12 +3,13 @@
 --     holds, fails                    the test from the fact
 --     decided, stable                 the fact holds or not; a fact that cannot fail holds
 --     eqb-decides, leb-decides, ltb-decides, not-decides, and-decides, or-decides, nand-decides, same-decides
+--     iff-decides                     a test that is true exactly if a fact holds decides it
 -- Assumes nothing.
 use Prim.Native.Nat.{ℕ, _<_, _≤_}
 use native.Mathlib.Omega.{arith}
 use mathlib.Core.Path.{_≡_}
 use mathlib.Core.Bool.{Bool, true, false, not, _&&_, _||_}
-use mathlib.Core.Logic.{_⊎_, inl, inr, ⊎-elim}
+use mathlib.Core.Logic.{_⊎_, inl, inr, ⊎-elim, _↔_}
 use lib.Dec.{ltb, leb, eqb}
 use borrow.Author.Tests.{ltb-true, ltb-false, leb-true, leb-false, eqb-true, eqb-false, not-true, not-false}
 use Rattle.seq.proofs.Laws.Tests.{both, both-true, neither, either, true-or, contrary}
@@ -70,3 +71,6 @@ module _ {P Q : Type 0} {s t : Bool} (d : Decides s P) (e : Decides t Q) where
 -- the same test decides each fact that says the same
 pub same-decides : {P Q : Type 0} {t : Bool} → Decides t P → (P → Q) → (Q → P) → Decides t Q
 same-decides d f g = record { yes = λ e. f (d .yes e); no = λ e q. d .no e (g q) }
+
+pub iff-decides : {P : Type 0} {t : Bool} → (t ≡ true) ↔ P → Decides t P
+iff-decides w = record { yes = w .0; no = λ e p. contrary (w .1 p) e }

@@ -4,15 +4,18 @@
 --     length-snoc                      the length of a list with one more at its end
 --     total-snoc, all-snoc, keep-snoc     a sum, a test of all, and a count, with one more at the end
 --     Each, each-cons, each-snoc       a fact of every element, of a list with one more in front, or at its end
+--     all-each                         a test of all passes exactly if it passes for each element
 -- Assumes nothing.
 use Prim.Native.Nat.{ℕ, zero, suc, _+_, _<_, _≤_}
 use native.Mathlib.Omega.{arith}
 use mathlib.Core.Path.{_≡_, refl, sym, ap, _∙_}
 use mathlib.Core.Bool.{Bool, true, false, cond, _&&_, and-assoc}
+use mathlib.Core.Logic.{_↔_}
 use mathlib.Core.List.{List, [], _∷_, _++_, append-assoc}
 use lib.ListN.{length, getD, length-append}
 use borrow.Author.Tests.{lt-ltb, le-ltb}
 use Rattle.seq.specs.Lists.{consIf, keep, all, total, joined, above}
+use Rattle.seq.proofs.Laws.Tests.{both, both-true}
 
 pub above-here : (a x : ℕ) (xs : List ℕ) → a < x → above a (x ∷ xs) ≡ above x xs
 unfolding above
@@ -75,3 +78,11 @@ module _ {A : Type 0} where
   pub each-snoc : (P : A → Type 0) (d x : A) (xs : List A) → Each P d xs → P x → Each P d (xs ++ (x ∷ []))
   each-snoc P d x [] h p = each-cons P d x [] p h
   each-snoc P d x (y ∷ ys) h p = each-cons P d y (ys ++ (x ∷ [])) (h 0 (omega arith)) (each-snoc P d x ys (λ i l. h (suc i) (omega arith)) p)
+
+  pub all-each : (test : A → Bool) (d : A) (xs : List A) → (all test xs ≡ true) ↔ Each (λ x. test x ≡ true) d xs
+  unfolding all
+  all-each test d [] = (λ e i l. absurd (omega arith), λ h. refl)
+  all-each test d (x ∷ xs) = let rest = all-each test d xs in (
+    λ e. let w = both (test x) (all test xs) e in each-cons (λ y. test y ≡ true) d x xs (w .0) (rest .0 (w .1)),
+    λ h. both-true (test x) (all test xs) (h 0 (omega arith)) (rest .1 (λ i l. h (suc i) (omega arith))),
+  )

@@ -1,5 +1,7 @@
 -- Lists and runs that rise: as a test, as a fact on neighbours, and step by step. No contract cites this file.
 --     rises-decides, falls-decides            `rises` decides Rising, and its negation NotRising
+--     above-le, rises-tail                    a list that rises from above b rises from above each a ≤ b; what is left of one that rises
+--     above-elem                              each element is above
 --     rises-none, rises-suc, rises-start      the first value of a run
 --     above-next, above-stop, above-done      the next value, in a walk that is at i and ends at e
 -- Assumes nothing.
@@ -12,10 +14,10 @@ use mathlib.Core.Bool.{Bool, true, false, not, _&&_}
 use mathlib.Core.List.{List, [], _∷_}
 use lib.ListN.{length, getD}
 use lib.Dec.{ltb}
-use borrow.Author.Tests.{ltb-true, ltb-false, not-true, not-false}
+use borrow.Author.Tests.{ltb-true, ltb-false, lt-ltb, not-true, not-false}
 use Rattle.seq.specs.Lists.{above, rises, Rising, NotRising}
 use Rattle.seq.specs.Numbers.{run}
-use Rattle.seq.proofs.Laws.Tests.{both}
+use Rattle.seq.proofs.Laws.Tests.{both, both-true}
 use Rattle.seq.proofs.Laws.Decides.{Decides}
 use Rattle.seq.proofs.Laws.Lists.{above-here, above-fall}
 use Rattle.seq.proofs.Laws.Numbers.{run-end, run-step}
@@ -64,6 +66,30 @@ falls-decides xs = record {
   yes = λ e. rises-falls xs (not-true (rises xs) e);
   no = λ e. not-both-ways xs (rises-rising xs (not-false (rises xs) e));
 }
+
+pub above-le : (a b : ℕ) (xs : List ℕ) → a ≤ b → above b xs ≡ true → above a xs ≡ true
+unfolding above
+above-le a b [] h e = refl
+above-le a b (x ∷ xs) h e =
+    let w = both (ltb b x) (above x xs) e in
+    let l : b < x = ltb-true b x (w .0) in
+    both-true (ltb a x) (above x xs) (lt-ltb a x (omega arith)) (w .1)
+
+pub rises-tail : (x : ℕ) (xs : List ℕ) → rises (x ∷ xs) ≡ true → rises xs ≡ true
+unfolding rises above
+rises-tail x [] e = refl
+rises-tail x (y ∷ xs) e = both (ltb x y) (above y xs) e .1
+
+-- each element of a list that rises from above a is above a
+pub above-elem : (a : ℕ) (xs : List ℕ) → above a xs ≡ true → (i : ℕ) → i < length xs → a < getD xs i 0
+unfolding above
+above-elem a [] e i l = absurd (omega arith)
+above-elem a (x ∷ xs) e zero l = ltb-true a x (both (ltb a x) (above x xs) e .0)
+above-elem a (x ∷ xs) e (suc i) l =
+    let w = both (ltb a x) (above x xs) e in
+    let h : a < x = ltb-true a x (w .0) in
+    let k : x < getD xs i 0 = above-elem x xs (w .1) i (omega arith) in
+    omega arith
 
 module _ (f : ℕ → ℕ) where
   pub rises-none : (k : ℕ) → rises (run f k 0) ≡ true

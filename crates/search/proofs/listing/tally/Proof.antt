@@ -1,0 +1,113 @@
+-- `listing::tally` meets its contract. The loop's invariant: `sum` is the postings of the first x variables (`Tallied`). The measure is what is left of
+-- the variables. Assumes nothing.
+use native.Mathlib.Omega.{arith}
+use Prim.Native.Nat.{_-_, _*_}
+use mathlib.Core.Path.{_≡_, ap}
+use lib.ListN.{getD}
+use denote.Ref.{now}
+use Rattle.plan.proofs.Laws.Accepted.{given}
+use Rattle.search.specs.declared.cursor.Cursor.{Cursor}
+use Rattle.search.specs.Cursors.{seekFrom}
+use Rattle.search.proofs.Laws.Tally.{Turn, turn, Tallied, tallied-first, tallied-next, tallied-done}
+use Rattle.search.proofs.listing.tally.Statement.{statement}
+use Rattle.search.proofs.listing.tally.Tie as tie
+
+abbrev Inv-loop : tie.InvT-loop
+Inv-loop volume plan vars start doc ats ends sum₀ x₀ sum x = Tallied volume plan start doc sum x
+
+abbrev μ-loop : tie.MeasureT-loop
+μ-loop volume plan vars start doc ats ends sum₀ x₀ sum x = vars - x
+
+-- what a turn knows of its variable
+turned : (c : tie.In-loop Inv-loop μ-loop) → Turn (now (c .before .before .before .before .before .before .args .volume)) (now (c .before .before .before .before .before .before .args .plan)) (c .before .before .before .before .before .before .args .start) (c .before .before .before .before .before .before .args .doc) (c .before .loop .x) (getD (now (c .before .before .before .before .before .before .args .ats)) (c .before .loop .x) 0) (getD (now (c .before .before .before .before .before .before .args .ends)) (c .before .loop .x) 0)
+turned c =
+    let s = c .before .before .before .before .before .before in
+    turn (now (s .args .volume)) (now (s .args .plan)) (s .pre .0) (s .args .start) (s .args .doc) (s .pre .1 .1 .0) (now (s .args .ats)) (now (s .args .ends)) (s .pre .1 .1 .1 .1 .1 .1) (c .before .loop .x) (omega arith)
+
+-- where its cursor comes to
+at-is : (c : tie.After-struct-known Inv-loop μ-loop) → c .before .before .seek .result .at ≡ seekFrom (now (c .before .before .before .before .before .before .before .before .before .before .before .args .volume)) (c .before .before .before .before .before .before .before .before .before .before .before .args .doc * 65536) (getD (now (c .before .before .before .before .before .before .before .before .before .before .before .args .ats)) (c .before .before .before .before .before .before .loop .x) 0) (getD (now (c .before .before .before .before .before .before .before .before .before .before .before .args .ends)) (c .before .before .before .before .before .before .loop .x) 0)
+at-is c = ap (λ (r : Cursor). r .at) (c .before .before .seek .ensures .0)
+
+loop-holds : tie.Need-loop-holds Inv-loop μ-loop
+loop-holds c =
+    let a = c .before .before .before .before .args in
+    tallied-first (now (a .volume)) (now (a .plan)) (a .start) (a .doc)
+
+mul-t13 : tie.Need-mul-t13 Inv-loop μ-loop
+mul-t13 c = omega arith
+
+shared-slice-read-t15 : tie.Need-shared-slice-read-t15 Inv-loop μ-loop
+shared-slice-read-t15 c = omega arith
+
+mul-sum : tie.Need-mul-sum Inv-loop μ-loop
+mul-sum c = omega arith
+
+shared-slice-read-sum : tie.Need-shared-slice-read-sum Inv-loop μ-loop
+shared-slice-read-sum c = omega arith
+
+seek-requires : tie.Need-seek-requires Inv-loop μ-loop
+seek-requires c κs = turned (c .before .before) .stretch
+
+mul-sum-2 : tie.Need-mul-sum-2 Inv-loop μ-loop
+mul-sum-2 c = omega arith
+
+shared-slice-read-sum-2 : tie.Need-shared-slice-read-sum-2 Inv-loop μ-loop
+shared-slice-read-sum-2 c = omega arith
+
+sub-sum : tie.Need-sub-sum Inv-loop μ-loop
+sub-sum c =
+    let t = turned (c .before .before .before .before .before) in
+    let e = at-is c in
+    omega arith
+
+add-sum : tie.Need-add-sum Inv-loop μ-loop
+add-sum c =
+    let t = turned (c .before .before .before .before .before) in
+    let e = at-is c in
+    let g = given _ _ (c .before .before .before .before .before .before .before .before .before .before .before .pre .0) .most-vars in
+    omega arith
+
+add-x : tie.Need-add-x Inv-loop μ-loop
+add-x c = omega arith
+
+loop-less : tie.Need-loop-less Inv-loop μ-loop
+loop-less c = omega arith
+
+loop-again : tie.Need-loop-again Inv-loop μ-loop
+loop-again c =
+    let l = c .before .before .before .before .before .before .loop in
+    let a = c .before .before .before .before .before .before .before .before .before .before .before .args in
+    tallied-next (now (a .volume)) (now (a .plan)) (a .start) (a .doc) (getD (now (a .ats)) (l .x) 0) (getD (now (a .ends)) (l .x) 0) (l .sum) (l .x) (c .before .before .seek .result .at) (l .inv) (omega arith) (turned (c .before .before .before .before .before)) (at-is c)
+
+cast-result : tie.Need-cast-result Inv-loop μ-loop
+cast-result c =
+    let g = given _ _ (c .before .before .before .before .before .before .pre .0) .most-vars in
+    omega arith
+
+returns : tie.Need-returns Inv-loop μ-loop
+returns c =
+    let l = c .before .loop in
+    let a = c .before .before .before .before .before .before .args in
+    tallied-done (now (a .volume)) (now (a .plan)) (a .start) (a .doc) (l .sum) (l .x) (l .inv) (omega arith)
+
+pub tally-spec : {M : Type 1} → statement M
+tally-spec =
+    tie.close
+    (tie.spec
+    Inv-loop
+    μ-loop
+    loop-holds
+    mul-t13
+    shared-slice-read-t15
+    mul-sum
+    shared-slice-read-sum
+    seek-requires
+    mul-sum-2
+    shared-slice-read-sum-2
+    sub-sum
+    add-sum
+    add-x
+    loop-less
+    loop-again
+    cast-result
+    returns)

@@ -1,0 +1,24 @@
+-- What a list of postings holds of a document. Assumes nothing.
+use Prim.Native.Nat.{ℕ}
+use mathlib.Core.Bool.{_&&_}
+use mathlib.Core.List.{List, [], map}
+use lib.ListN.{length, getD}
+use lib.Dec.{eqb, leb, ltb}
+use Rattle.seq.specs.Lists.{keep}
+use Rattle.volume.specs.Posting.{docOf, posOf}
+
+-- one past the last document, and one past the last position
+abbrev pub limit : ℕ
+limit = 65536
+
+-- list number l of a volume's lists
+abbrev pub listOf : List (List ℕ) → ℕ → List ℕ
+listOf lists l = getD lists l []
+
+-- the positions of document d in a list
+unfoldable pub positionsIn : ℕ → List ℕ → List ℕ
+positionsIn d l = map (λ p. posOf p) (keep (λ p. eqb (docOf p) d) l)
+
+-- how many postings a list has from document a up to document b, b not counted
+unfoldable pub countIn : ℕ → ℕ → List ℕ → ℕ
+countIn a b l = length (keep (λ p. leb a (docOf p) && ltb (docOf p) b) l)

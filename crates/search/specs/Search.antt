@@ -1,0 +1,114 @@
+-- A search: a list of listing calls as they were made, each with the buffer lent, the answer, and the buffer as it returned. Assumes nothing.
+use Prim.Native.Nat.{ℕ, _+_, _*_, _/_, _≤_, _<_, max}
+use mathlib.Core.Path.{_≡_}
+use mathlib.Core.Logic.{_↔_}
+use mathlib.Core.List.{List, [], _∷_, _++_}
+use lib.ListN.{length, getD, take}
+use lib.Dec.{leb}
+use Rattle.seq.specs.Lists.{keep}
+use Rattle.seq.specs.Refusals.{Said, refused, answered}
+use Rattle.search.specs.Positions.{limit}
+use Rattle.search.specs.Documents.{Work}
+use Rattle.search.specs.Answers.{Next, done, more, Page}
+use Rattle.search.specs.Listing.{docsIn, rowsOfDocs, work, listAnswer, listOut}
+
+-- one listing call
+pub record Call : Type 0 where
+  pub lent : List ℕ
+  pub says : Said Page
+  pub back : List ℕ
+
+-- what `search::list` promises of a call from document `start` on
+abbrev pub Kept : List ℕ → List ℕ → ℕ → Call → Type 0
+Kept v p start c = (c .says ≡ listAnswer v p start (length (c .lent))) × (c .back ≡ listOut v p start (c .lent))
+
+-- what must hold of the calls behind one that started at s: after a refusal they start at s too, after DONE there is none, after MORE they
+-- start at the document that it names
+abbrev pub Onward : Next → (ℕ → Type 0) → Type 0 → Type 0
+Onward done from none = none
+Onward (more s) from none = from s
+
+abbrev pub Then : ℕ → Said Page → (ℕ → Type 0) → Type 0 → Type 0
+Then s (refused n q) from none = from s
+Then s (answered page) from none = Onward (page .next) from none
+
+-- calls are a search from document s on
+abbrev pub IsSearch : List ℕ → List ℕ → ℕ → List Call → Type 0
+IsSearch v p s [] = Unit
+IsSearch v p s (c ∷ cs) = Kept v p s c × Then s (c .says) (λ next. IsSearch v p next cs) (cs ≡ [])
+
+-- what a search has come to: the document reached (01: scene reached), 65,536 after DONE; the rows, joined in the order of the calls; the sum of
+-- the tallies
+pub record Outcome : Type 0 where
+  pub reached : ℕ
+  pub rows : List ℕ
+  pub tally : ℕ
+
+-- nothing more: the document reached is s
+abbrev pub stopped : ℕ → Outcome
+stopped s = record { reached = s; rows = []; tally = 0 }
+
+-- a call's rows and tally, and then what the calls behind it come to
+abbrev pub andThen : List ℕ → ℕ → Outcome → Outcome
+andThen rows tally o = record { reached = o .reached; rows = rows ++ o .rows; tally = tally + o .tally }
+
+abbrev pub onward : Next → (ℕ → Outcome) → Outcome
+onward done rest = stopped limit
+onward (more s) rest = rest s
+
+-- a call that started at s and what comes behind it. A call's rows are taken from its buffer as it returned, as many as its answer gives; a
+-- refused call adds nothing
+abbrev pub follow : ℕ → ℕ → Said Page → List ℕ → (ℕ → Outcome) → Outcome
+follow width s (refused n q) back rest = rest s
+follow width s (answered page) back rest = andThen (take (page .rows * width) back) (page .tally) (onward (page .next) rest)
+
+-- what calls from document s on come to, by their answers and buffers alone; a row has so many words
+abbrev pub outcomeFrom : ℕ → ℕ → List Call → Outcome
+outcomeFrom width s [] = stopped s
+outcomeFrom width s (c ∷ cs) = follow width s (c .says) (c .back) (λ next. outcomeFrom width next cs)
+
+abbrev pub outcome : List ℕ → List ℕ → List Call → Outcome
+outcome v p calls = outcomeFrom (work v p .width) 0 calls
+
+-- how many rows fit a call's buffer
+abbrev pub room : Work → Call → ℕ
+room w c = length (c .lent) / w .width
+
+-- a call says that nothing is left, or that document t is next
+abbrev pub SaysDone : Call → Type 0
+SaysDone c = (n t : ℕ) × (c .says ≡ answered (record { rows = n; tally = t; next = done }))
+
+abbrev pub SaysMore : Call → ℕ → Type 0
+SaysMore c s = (n t : ℕ) × (c .says ≡ answered (record { rows = n; tally = t; next = more s }))
+
+-- a call of a search, from document s on, over a plan and a volume
+pub record Answers (w : Work) (s : ℕ) (c : Call) : Type 0 where
+  -- it starts at a document
+  pub starts : s < limit
+  -- it is refused exactly if its buffer is shorter than a row, always with 16, and then its buffer is as it was
+  pub short : ((n q : ℕ) × (c .says ≡ refused n q)) ↔ (length (c .lent) < w .width)
+  pub sixteen : (n q : ℕ) → c .says ≡ refused n q → (n ≡ 16) × ((q ≡ 0) × (c .back ≡ c .lent))
+  -- it says MORE t exactly if more true documents remain than rows fit, and t is the lowest of them behind those that fit
+  pub says-more : (t : ℕ) → SaysMore c t ↔ ((w .width ≤ length (c .lent)) × ((room w c < length (docsIn w s limit)) × (getD (docsIn w s limit) (room w c) 0 ≡ t)))
+  -- it says DONE exactly if no more remain than fit
+  pub says-done : SaysDone c ↔ ((w .width ≤ length (c .lent)) × (length (docsIn w s limit) ≤ room w c))
+
+-- so for each call of a search from document s on
+abbrev pub EachAnswers : Work → ℕ → List Call → Type 0
+EachAnswers w s [] = Unit
+EachAnswers w s (c ∷ cs) = Answers w s c × Then s (c .says) (λ next. EachAnswers w next cs) (cs ≡ [])
+
+-- the calls that are not refused: a row fits their buffers
+abbrev pub unrefused : Work → List Call → List Call
+unrefused w calls = keep (λ (c : Call). leb (w .width) (length (c .lent))) calls
+
+-- what holds of a search that comes to an outcome
+pub record Searched (w : Work) (calls : List Call) (o : Outcome) : Type 0 where
+  -- the rows are those of all true documents below the one reached, each once, rising; after DONE, of all true documents
+  pub rows : o .rows ≡ rowsOfDocs w (docsIn w 0 (o .reached))
+  -- the tallies add up to the postings below the document reached; after DONE, to all
+  pub tally : o .tally ≡ w .postings 0 (o .reached)
+  -- each call answers as it must
+  pub answers : EachAnswers w 0 calls
+  -- with k true documents, the k-th call that is not refused, or the first where k is 0, says DONE if no earlier one did
+  pub closes : max 1 (length (docsIn w 0 limit)) ≤ length (unrefused w calls) → o .reached ≡ limit

@@ -1,0 +1,71 @@
+-- The walk over the documents: where the cursors of a pattern stand, and what is known of the documents that they have passed. Assumes nothing.
+use Prim.Native.Nat.{ℕ, _+_, _*_, _<_, _≤_}
+use mathlib.Core.Path.{_≡_}
+use mathlib.Core.Bool.{Bool, true, false}
+use mathlib.Core.Logic.{_⊎_}
+use mathlib.Core.List.{List}
+use lib.ListN.{length, getD}
+use Rattle.volume.specs.Posting.{docOf}
+use Rattle.volume.specs.Layout.{word, listsOf}
+use Rattle.plan.specs.Check.{Accepted, sizes}
+use Rattle.plan.specs.Accepted.{patternAt}
+use Rattle.search.specs.Positions.{limit}
+use Rattle.search.specs.Documents.{found}
+use Rattle.search.specs.Cursors.{listEnd, Stands}
+use Rattle.search.specs.Tables.{varsBefore, Tabled, varAt}
+
+-- x is one of n variables from `first` on
+abbrev pub Among : ℕ → ℕ → ℕ → Type 0
+Among first n x = (first ≤ x) × (x < first + n)
+
+-- from i up to e there is a posting of document d
+abbrev pub Has : List ℕ → ℕ → ℕ → ℕ → Type 0
+Has v i e d = (j : ℕ) × (i ≤ j) × (j < e) × (docOf (word v j) ≡ d)
+
+-- a cursor that stood at i stands at j, in front of e, and has passed postings of documents below d alone
+pub record Moved (v : List ℕ) (d i j e : ℕ) : Type 0 where
+  pub forward : i ≤ j
+  pub to : j ≤ e
+  pub passed : (a : ℕ) → i ≤ a → a < j → word v a < d * 65536
+
+-- n variables' cursors, which stood at olds, stand at ats in document r: the first from document d on in which each of them has a posting;
+-- r is 65,536 where there is none
+pub record Aligned (v ends olds : List ℕ) (first n d r : ℕ) (ats : List ℕ) : Type 0 where
+  pub from : d ≤ r
+  pub to : r ≤ limit
+  pub same-length : length ats ≡ length olds
+  pub others : (x : ℕ) → (Among first n x → ⊥) → getD ats x 0 ≡ getD olds x 0
+  pub moved : (x : ℕ) → Among first n x → Moved v r (getD olds x 0) (getD ats x 0) (getD ends x 0)
+  pub here : r < limit → (x : ℕ) → Among first n x → (getD ats x 0 < getD ends x 0) × (docOf (word v (getD ats x 0)) ≡ r)
+  pub missing : (e : ℕ) → d ≤ e → e < r → (x : ℕ) × (Among first n x × (Has v (getD olds x 0) (getD ends x 0) e → ⊥))
+
+-- pattern k can be found in document r and in none from document d up to r; its cursors stand there. r is 65,536 where no document is left
+pub record Candidate (v p ats ends : List ℕ) (k d r : ℕ) : Type 0 where
+  pub from : d ≤ r
+  pub to : r ≤ limit
+  pub absent : (e : ℕ) → d ≤ e → e < r → found (listsOf v) e (patternAt p k) ≡ false
+  pub stands : (x : ℕ) → Among (varsBefore p k) (length (patternAt p k .vars)) x → Stands v (varAt p x) r (getD ats x 0) × (getD ends x 0 ≡ listEnd v (varAt p x))
+  pub here : r < limit → (x : ℕ) → Among (varsBefore p k) (length (patternAt p k .vars)) x → (getD ats x 0 < getD ends x 0) × (docOf (word v (getD ats x 0)) ≡ r)
+
+-- the cursors of pattern k have passed documents below d alone
+abbrev pub Stood : List ℕ → List ℕ → List ℕ → List ℕ → ℕ → ℕ → Type 0
+Stood v p ats ends k d = (x : ℕ) → Among (varsBefore p k) (length (patternAt p k .vars)) x → Stands v (varAt p x) d (getD ats x 0) × (getD ends x 0 ≡ listEnd v (varAt p x))
+
+-- pattern k before it is brought to document d: its cursors have passed documents below d alone, where it has no document yet or one below d;
+-- else it stands where it can be found next
+pub record Pending (v p ats ends : List ℕ) (k d r : ℕ) (fresh : Bool) : Type 0 where
+  pub due : (fresh ≡ true) ⊎ (r < d) → Stood v p ats ends k d
+  pub ahead : fresh ≡ false → d ≤ r → Candidate v p ats ends k d r
+
+-- the least of the first n documents, or 65,536
+pub record LeastDoc (docs : List ℕ) (n r : ℕ) : Type 0 where
+  pub most : r ≤ limit
+  pub least : (k : ℕ) → k < n → r ≤ getD docs k 0
+  pub one : r < limit → (k : ℕ) × ((k < n) × (getD docs k 0 ≡ r))
+
+-- an accepted volume and plan, with the plan's table and the ends of its variables' lists
+pub record Walks (v p table ends : List ℕ) : Type 0 where
+  pub accepted : Accepted v p
+  pub tabled : Tabled p table
+  pub table-room : 4 * sizes p .patterns ≤ length table
+  pub ends-room : sizes p .vars ≤ length ends

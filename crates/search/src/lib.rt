@@ -1,0 +1,25 @@
+// Searching a volume by a plan: testing given positions of a pattern, and listing the true
+// documents.
+//
+// `test` and `list` have no `requires`; what each one answers, and each word that `list` leaves in
+// the lent buffer, is an equation with a definition of `specs/`. That every search by `list` is
+// right as a whole is demand 3 in `specs/Demands.antt`.
+//
+// `list` is one forward pass: `setup` lays out the plan, `walk` brings each pattern to the next
+// document in which it can be found (`align`) and fills the row there (`settle`, by `predicates`),
+// `answering` gives the plan's answer.
+mod align;
+mod answering;
+mod answers;
+mod cursor;
+mod listing;
+mod predicates;
+mod settle;
+mod setup;
+mod testing;
+mod walk;
+
+pub use answers::Listed;
+pub use answers::Tested;
+pub use listing::list;
+pub use testing::test;
