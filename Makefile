@@ -31,12 +31,12 @@ test:
 	$(CC) -std=c99 $(WARNINGS) -fsyntax-only -x c $(HEADER)
 	if $(CC) -fsyntax-only -x c++ /dev/null; then $(CC) $(WARNINGS) -fsyntax-only -x c++ $(HEADER); fi
 	$(CARGO) test --release $(PACKAGE)
-	$(CARGO) test --release $(PACKAGE) --bench volume
+	$(CARGO) test --release $(PACKAGE) --bench volume --bench search
 	@tail -n 1 $(GATE_LOG)
 
 bench:
 	rt staticlib lihambozy
-	$(CARGO) bench $(PACKAGE) --bench volume
+	$(CARGO) bench --no-fail-fast $(PACKAGE) --bench volume --bench search
 
 clean:
 	rm -rf target build rust/target

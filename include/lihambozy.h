@@ -1,4 +1,5 @@
-/* lihambozy.h: reading and writing the volumes of a surtitle archive, and checking plans over them.
+/* lihambozy.h: reading and writing the volumes of a surtitle archive, checking plans over them, and
+ * listing the documents that match.
  *
  * A volume is an inverted index as one piece of bytes. It holds T posting lists, 1 to 1,024. A
  * posting is a 32-bit number, document * 65,536 + position, both 0 to 65,535 (document 01 says
@@ -20,7 +21,8 @@
  *    2  NEAR              a predicate (01: condition): the positions of variables a and b differ by
  *                         at most c + 1; c is 0 to 65,535
  *    3  BEFORE            a predicate: the position of variable a is less than that of variable b
- *    4  SAME TITLE        a predicate: variables a and b stand in one title
+ *    4  SAME TITLE        a predicate: variables a and b stand in one title, that is, no start s of
+ *                         the document has smaller position < s <= larger position
  *    5  SPAN              a predicate: the largest and smallest position of the pattern's variables
  *                         differ by at most c - 1; c is 1 to 65,536
  *    6  END               closes the pattern; its answer is stacked
@@ -31,6 +33,14 @@
  * In a pattern all variables stand before the predicates. A pattern has 1 to 8 variables, a plan 1
  * to 8 patterns, numbered from 0 in the order in which they open. At the end no pattern is open and
  * one answer is left.
+ *
+ * A tuple of positions (01: choice), one for each variable of a pattern, passes in a document if
+ * each position is in its variable's list for that document and all predicates hold. Two variables
+ * may take one position, and a predicate may name one variable twice. A pattern is found in a
+ * document if some tuple passes there; END stacks yes exactly then. A pattern that is found has its
+ * least positions (01: earliest places): they pass, and each tuple that passes in that document has
+ * in every variable a position at least as large. A document matches (01: is true) if the one
+ * answer left at the end is yes for it.
  *
  * What every call here has in common:
  *
@@ -67,6 +77,8 @@ extern "C" {
 #define LHZ_MAX_ROWS 64        /* rows of a plan, at most; 1 at least */
 #define LHZ_MAX_PATTERNS 8     /* patterns of a plan, at most; 1 at least */
 #define LHZ_MAX_VARS 8         /* variables of a pattern, at most; 1 at least */
+
+#define LHZ_DONE 65536         /* what lhz_list tells as `next` where no document is left */
 
 /* The kinds of a plan's rows. */
 #define LHZ_VOICE 1
@@ -193,6 +205,68 @@ typedef struct lhz_pattern_rows_answer {
  */
 lhz_pattern_rows_answer lhz_pattern_rows(const uint8_t *volume, size_t len, const uint32_t *plan,
                                          size_t plan_len, uint32_t pattern);
+
+/* The answer of lhz_test_positions. */
+typedef struct lhz_test_positions_answer {
+    uint32_t refusal;
+    uint32_t at;
+    uint32_t passes; /* 1 if the positions pass, 0 if they do not */
+} lhz_test_positions_answer;
+
+/* Tests whether given positions pass, for one pattern in one document.
+ *
+ * Lent for reading: volume, len bytes; plan, plan_len words; positions, positions_len words, one
+ * for each variable of the pattern, in the order of its variables. `pattern` is the pattern's
+ * number, from 0; `doc` is the document. Nothing is written. In a document without postings no
+ * positions pass.
+ *
+ * Refusals, the first that applies:
+ *    1 to 14  the volume or the plan is refused, as by lhz_check_plan, with the same place
+ *   17        `pattern` is not below F, positions_len is not the number of that pattern's
+ *             variables, or `doc` or a position is over 65,535
+ */
+lhz_test_positions_answer lhz_test_positions(const uint8_t *volume, size_t len,
+                                             const uint32_t *plan, size_t plan_len,
+                                             uint32_t pattern, uint32_t doc,
+                                             const uint32_t *positions, size_t positions_len);
+
+/* The answer of lhz_list. */
+typedef struct lhz_list_answer {
+    uint32_t refusal;
+    uint32_t at;
+    uint32_t rows;  /* the rows written */
+    uint32_t tally; /* the postings of the variables' lists from `start` up to `next` */
+    uint32_t next;  /* MORE: the least matching document not written. DONE: LHZ_DONE */
+} lhz_list_answer;
+
+/* Lists the documents that match, rising, from a document on.
+ *
+ * Lent for reading: volume, len bytes; plan, plan_len words. `start` is the document to start from.
+ * Lent for writing: out, out_len words.
+ *
+ * A row is 1 + F + V words, 59 at most: the document; then for each pattern 1 and its least
+ * positions or, where it is not found in that document, 0 and a 0 for each of its variables. The
+ * rows of the matching documents from `start` on are written back to back at the front of out, as
+ * many as there are or as whole rows fit; the words behind them stay as they were. Where more
+ * documents match than rows fit, `next` is the least one that is not written (MORE); otherwise it
+ * is LHZ_DONE.
+ *
+ * `tally` sums, over all variables of the plan, the postings of the variable's list in the
+ * documents from `start` up to `next`, which is not counted. A list counts once for each of its
+ * variables.
+ *
+ * A search starts at 0 and goes on with a call from each `next` until that is LHZ_DONE, with the
+ * same volume and plan and with buffers of any length. Its rows are those of all documents that
+ * match, each once, and its tallies sum to the whole counts of the variables' lists. A call that is
+ * refused with 16 may be made again with a longer buffer.
+ *
+ * Refusals, the first that applies:
+ *    1 to 14  the volume or the plan is refused, as by lhz_check_plan, with the same place
+ *   15        `start` is over 65,535
+ *   16        out_len is less than a row, even where no document matches
+ */
+lhz_list_answer lhz_list(const uint8_t *volume, size_t len, const uint32_t *plan, size_t plan_len,
+                         uint32_t start, uint32_t *out, size_t out_len);
 
 #ifdef __cplusplus
 }

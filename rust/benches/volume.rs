@@ -3,10 +3,11 @@
 //! all of them. Run as a test, it makes one round, to compare the results, and prints no times.
 
 mod late;
+mod support;
 
 use lihambozy::{check_plan, check_volume, kind, volume_len, write_volume};
 use std::hint::black_box;
-use std::time::{Duration, Instant};
+use support::{Rng, Times};
 
 const SEED: u64 = 1;
 const ROUNDS: usize = 101;
@@ -15,29 +16,21 @@ const WORDS: usize = lihambozy::MAX_WORDS;
 
 /// Lists that fill the largest volume: their counts, and their postings back to back.
 fn lists() -> (Vec<u32>, Vec<u32>) {
-    // SplitMix64
-    let mut state = SEED;
-    let mut random = move |end: u64| {
-        state = state.wrapping_add(0x9e37_79b9_7f4a_7c15);
-        let mut z = state;
-        z = (z ^ (z >> 30)).wrapping_mul(0xbf58_476d_1ce4_e5b9);
-        z = (z ^ (z >> 27)).wrapping_mul(0x94d0_49bb_1331_11eb);
-        (z ^ (z >> 31)) % end
-    };
+    let mut rng = Rng::new(SEED);
     let mut left = WORDS - 2 - LISTS;
     let mut counts = Vec::new();
     let mut postings = Vec::new();
     for behind in (0..LISTS).rev() {
         let count = match behind {
             0 => left,
-            _ => random(2 * left as u64 / (behind as u64 + 1)) as usize,
+            _ => rng.below(2 * left as u64 / (behind as u64 + 1)) as usize,
         };
         left -= count;
         counts.push(count as u32);
         let gap = u64::from(u32::MAX) / (count as u64 + 1);
         let mut posting = 0;
         postings.extend((0..count).map(|_| {
-            posting += 1 + random(gap);
+            posting += 1 + rng.below(gap);
             posting as u32
         }));
     }
@@ -53,31 +46,6 @@ fn plan() -> Vec<u32> {
     }
     rows.extend([[kind::EITHER, 0, 0, 0]; 6]);
     rows.concat()
-}
-
-/// A shape: its name and its times.
-struct Shape {
-    name: &'static str,
-    times: Vec<Duration>,
-}
-
-impl Shape {
-    fn new(name: &'static str) -> Shape {
-        Shape { name, times: Vec::new() }
-    }
-
-    fn time<R>(&mut self, run: impl FnOnce() -> R) {
-        let start = Instant::now();
-        black_box(run());
-        self.times.push(start.elapsed());
-    }
-
-    /// Median and minimum, in milliseconds.
-    fn figures(&self) -> [f64; 2] {
-        let mut times = self.times.clone();
-        times.sort();
-        [times[times.len() / 2], times[0]].map(|time| time.as_secs_f64() * 1e3)
-    }
 }
 
 fn main() {
@@ -103,15 +71,15 @@ fn main() {
     let checked = check_plan(&volume, &plan).map(|checked| (checked.patterns, checked.vars));
     assert_eq!((plan.len(), checked), (256, Ok((7, 51))));
 
-    let mut shapes = [
+    let names = [
         "copy",
         "check, library",
         "check, plain Rust",
         "write, library",
         "write, plain Rust",
         "check of a plan, library",
-    ]
-    .map(Shape::new);
+    ];
+    let mut shapes = names.map(|_| Times::default());
     let [copied, check, plain_check, write, plain_write, check_rows] = &mut shapes;
     for _ in 0..rounds {
         copied.time(|| {
@@ -139,9 +107,8 @@ fn main() {
     println!();
     println!("| | median ms | minimum ms |");
     println!("|---|---|---|");
-    for shape in &shapes {
-        let [median, minimum] = shape.figures();
-        println!("| {} | {median:.3} | {minimum:.3} |", shape.name);
+    for (name, times) in names.iter().zip(&shapes) {
+        println!("| {name} | {:.3} | {:.3} |", times.median(), times.minimum());
     }
     println!("\n| ratio | of medians | of minima | target | |");
     println!("|---|---|---|---|---|");
@@ -152,8 +119,9 @@ fn main() {
         ("write / plain write", 3, 4, 1.25),
         ("check of a plan / check", 5, 1, 1.25),
     ] {
-        let (over, under) = (shapes[over].figures(), shapes[under].figures());
-        let (medians, minima) = (over[0] / under[0], over[1] / under[1]);
+        let (over, under) = (&shapes[over], &shapes[under]);
+        let medians = over.median() / under.median();
+        let minima = over.minimum() / under.minimum();
         let verdict = if medians <= target { "met" } else { "MISSED" };
         missed |= medians > target;
         println!("| {name} | {medians:.2} | {minima:.2} | {target:.2} | {verdict} |");

@@ -7,6 +7,9 @@
 //! that is lent. No function keeps a pointer, and none has any other condition: whatever the
 //! content and the lengths, it returns.
 
+/// What `lhz_list` tells as `next` where no document is left.
+pub(crate) const DONE: u32 = 65_536;
+
 /// An answer of `lhz_check_volume`.
 #[repr(C)]
 pub(crate) struct CheckVolumeAnswer {
@@ -48,6 +51,24 @@ pub(crate) struct PatternRowsAnswer {
     pub len: u32,
 }
 
+/// An answer of `lhz_test_positions`.
+#[repr(C)]
+pub(crate) struct TestPositionsAnswer {
+    pub refusal: u32,
+    pub at: u32,
+    pub passes: u32,
+}
+
+/// An answer of `lhz_list`.
+#[repr(C)]
+pub(crate) struct ListAnswer {
+    pub refusal: u32,
+    pub at: u32,
+    pub rows: u32,
+    pub tally: u32,
+    pub next: u32,
+}
+
 extern "C" {
     fn lhz_check_volume(volume: *const u8, len: usize) -> CheckVolumeAnswer;
 
@@ -82,6 +103,27 @@ extern "C" {
         plan_len: usize,
         pattern: u32,
     ) -> PatternRowsAnswer;
+
+    fn lhz_test_positions(
+        volume: *const u8,
+        len: usize,
+        plan: *const u32,
+        plan_len: usize,
+        pattern: u32,
+        doc: u32,
+        positions: *const u32,
+        positions_len: usize,
+    ) -> TestPositionsAnswer;
+
+    fn lhz_list(
+        volume: *const u8,
+        len: usize,
+        plan: *const u32,
+        plan_len: usize,
+        start: u32,
+        out: *mut u32,
+        out_len: usize,
+    ) -> ListAnswer;
 }
 
 pub(crate) fn check_volume(volume: &[u8]) -> CheckVolumeAnswer {
@@ -118,6 +160,45 @@ pub(crate) fn check_plan(volume: &[u8], plan: &[u32]) -> CheckPlanAnswer {
 pub(crate) fn pattern_rows(volume: &[u8], plan: &[u32], pattern: u32) -> PatternRowsAnswer {
     // SAFETY: `volume` and `plan` are read only, and each length is that of its slice, in elements.
     unsafe { lhz_pattern_rows(volume.as_ptr(), volume.len(), plan.as_ptr(), plan.len(), pattern) }
+}
+
+pub(crate) fn test_positions(
+    volume: &[u8],
+    plan: &[u32],
+    pattern: u32,
+    doc: u32,
+    positions: &[u32],
+) -> TestPositionsAnswer {
+    // SAFETY: `volume`, `plan` and `positions` are read only and may overlap each other, and each
+    // length is that of its slice, in elements.
+    unsafe {
+        lhz_test_positions(
+            volume.as_ptr(),
+            volume.len(),
+            plan.as_ptr(),
+            plan.len(),
+            pattern,
+            doc,
+            positions.as_ptr(),
+            positions.len(),
+        )
+    }
+}
+
+pub(crate) fn list(volume: &[u8], plan: &[u32], start: u32, out: &mut [u32]) -> ListAnswer {
+    // SAFETY: `volume` and `plan` are read only; `out` is borrowed mutably, so it overlaps neither,
+    // and each length is that of its slice, in elements.
+    unsafe {
+        lhz_list(
+            volume.as_ptr(),
+            volume.len(),
+            plan.as_ptr(),
+            plan.len(),
+            start,
+            out.as_mut_ptr(),
+            out.len(),
+        )
+    }
 }
 
 #[cfg(test)]
@@ -190,6 +271,7 @@ mod tests {
         assert_eq!(fields(&[1_032_190], &rising, 512), [19, 0, 0]);
         assert_eq!(fields(&COUNTS, &POSTINGS, 511), [20, 0, 0]);
     }
+
     /// A pattern of one variable, a pattern of two, and EITHER.
     const PLAN: [u32; 24] = [
         1, 1, 0, 0, // VOICE 1
@@ -252,6 +334,63 @@ mod tests {
         for (volume, plan, refused) in refused_plans() {
             for pattern in [0, 1, 2] {
                 assert_eq!(fields(&volume, &plan, pattern), [0, 0], "{refused:?}");
+            }
+        }
+    }
+
+    /// In the one document of `volume_with` list 1 has the positions 4 and 5.
+    #[test]
+    fn test_positions_fields() {
+        let fields = |volume: &[u8], plan: &[u32], pattern: u32, doc: u32, positions: &[u32]| {
+            let answer = test_positions(volume, plan, pattern, doc, positions);
+            [answer.refusal, answer.at, answer.passes]
+        };
+        let volume = volume_with(&[]);
+        assert_eq!(fields(&volume, &PLAN, 0, 0, &[4]), [0, 0, 1]);
+        assert_eq!(fields(&volume, &PLAN, 0, 0, &[3]), [0, 0, 0]);
+        assert_eq!(fields(&volume, &PLAN, 0, 1, &[4]), [0, 0, 0]);
+        assert_eq!(fields(&volume, &PLAN, 1, 0, &[5, 4]), [0, 0, 1]);
+        assert_eq!(fields(&volume, &PLAN, 1, 0, &[5, 9]), [0, 0, 0]);
+        let refused = [17, 0, 0];
+        assert_eq!(fields(&volume, &PLAN, 2, 0, &[4]), refused, "pattern");
+        assert_eq!(fields(&volume, &PLAN, 0, 0, &[]), refused, "no position");
+        assert_eq!(fields(&volume, &PLAN, 0, 0, &[4, 4]), refused, "a position more");
+        assert_eq!(fields(&volume, &PLAN, 1, 0, &[4]), refused, "a position less");
+        assert_eq!(fields(&volume, &PLAN, 0, 65_536, &[4]), refused, "document");
+        assert_eq!(fields(&volume, &PLAN, 1, 0, &[4, 65_536]), refused, "position");
+        for (volume, plan, [number, at]) in refused_plans() {
+            for (pattern, positions) in [(0, &[4][..]), (9, &[])] {
+                let answer = fields(&volume, &plan, pattern, 0, positions);
+                assert_eq!(answer, [number, at, 0], "pattern {pattern}");
+            }
+        }
+    }
+
+    #[test]
+    fn list_fields() {
+        let fields = |volume: &[u8], plan: &[u32], start: u32, room: usize| {
+            let answer = list(volume, plan, start, &mut vec![0; room]);
+            [answer.refusal, answer.at, answer.rows, answer.tally, answer.next]
+        };
+        let volume = volume_with(&[]);
+        assert_eq!(fields(&volume, &PLAN, 0, 6), [0, 0, 1, 6, 65_536]);
+        assert_eq!(fields(&volume, &PLAN, 1, 6), [0, 0, 0, 0, 65_536]);
+        assert_eq!(fields(&volume, &PLAN, 65_535, 60), [0, 0, 0, 0, 65_536]);
+        // List 1 has one posting in document 0, one in document 3.
+        let two = volume_with(&[(6, 3 * 65_536)]);
+        assert_eq!(fields(&two, &PLAN, 0, 6), [0, 0, 1, 3, 3]);
+        assert_eq!(fields(&two, &PLAN, 3, 6), [0, 0, 1, 3, 65_536]);
+        assert_eq!(fields(&two, &PLAN, 0, 12), [0, 0, 2, 6, 65_536]);
+        for room in [0, 5, 6, 60] {
+            assert_eq!(fields(&volume, &PLAN, 65_536, room), [15, 0, 0, 0, 0], "room {room}");
+        }
+        for (start, room) in [(0, 5), (0, 0), (1, 5), (65_535, 5)] {
+            assert_eq!(fields(&volume, &PLAN, start, room), [16, 0, 0, 0, 0], "start {start}");
+        }
+        for (volume, plan, [number, at]) in refused_plans() {
+            for (start, room) in [(0, 60), (65_536, 60), (0, 0), (u32::MAX, 0)] {
+                let answer = fields(&volume, &plan, start, room);
+                assert_eq!(answer, [number, at, 0, 0, 0], "start {start}, room {room}");
             }
         }
     }

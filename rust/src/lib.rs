@@ -1,4 +1,5 @@
-//! Reads and writes the volumes of a surtitle archive, and checks plans over them.
+//! Reads and writes the volumes of a surtitle archive, checks plans over them, and lists the
+//! documents that match.
 //!
 //! A volume is an inverted index as one piece of bytes: 1 to 1,024 posting lists in blocks of 512
 //! bytes, each block numbered and under a checksum. A posting is a document (01: scene) and a
@@ -10,12 +11,18 @@
 //! that it uses. Its patterns (01: figures) are made of variables (01: voices) and predicates on
 //! their positions (01: conditions); operators join the answers of the patterns into one.
 //!
+//! A tuple of positions (01: choice), one for each variable of a pattern, passes in a document if
+//! each is in its variable's list there and all predicates hold. A pattern is found where some
+//! tuple passes, and then has its least positions (01: earliest places), which are smallest in
+//! every variable together. A document matches (01: is true) if the one answer left at the end is
+//! yes for it.
+//!
 //! The work is done by the proved library behind `include/lihambozy.h`; this crate lends it
 //! slices. Every call takes any input. One that does not fit is answered by a [`Refusal`], or in
 //! [`pattern_rows`] by an empty part, and what was lent for writing then is exactly as it was.
 //!
 //! ```
-//! use lihambozy::{check_plan, kind, pattern_rows};
+//! use lihambozy::{check_plan, kind, list, pattern_rows, test_positions, Next};
 //! use lihambozy::{check_volume, posting, read_list, volume_len, write_volume};
 //!
 //! // List 0: titles start at document 1, positions 0 and 6. List 1: a word, at three places.
@@ -28,11 +35,11 @@
 //! let checked = check_volume(&volume)?;
 //! assert_eq!((checked.lists, checked.postings), (2, 5));
 //!
-//! let mut list = [0; 3];
-//! assert_eq!(read_list(&volume, 1, &mut list)?.count, 3);
-//! assert_eq!(list, postings[2..]);
+//! let mut word = [0; 3];
+//! assert_eq!(read_list(&volume, 1, &mut word)?.count, 3);
+//! assert_eq!(word, postings[2..]);
 //!
-//! let refusal = read_list(&volume, 2, &mut list).unwrap_err();
+//! let refusal = read_list(&volume, 2, &mut word).unwrap_err();
 //! assert_eq!((refusal.number, refusal.at), (17, 0));
 //!
 //! // A pattern: list 1 at two positions, the first of them before the second.
@@ -46,6 +53,14 @@
 //! let checked = check_plan(&volume, &plan)?;
 //! assert_eq!((checked.patterns, checked.vars), (1, 2));
 //! assert_eq!(pattern_rows(&volume, &plan, 0), plan);
+//!
+//! // It is found in document 1 alone, at positions 2 and 8.
+//! assert!(test_positions(&volume, &plan, 0, 1, &[2, 8])?);
+//! assert!(!test_positions(&volume, &plan, 0, 1, &[8, 2])?);
+//! let mut rows = vec![0; 10 * checked.row_width()];
+//! let listing = list(&volume, &plan, 0, &mut rows)?;
+//! assert_eq!((listing.rows, listing.next), (1, Next::Done));
+//! assert_eq!(rows[..checked.row_width()], [1, 1, 2, 8]);
 //! # Ok::<(), lihambozy::Refusal>(())
 //! ```
 
@@ -90,7 +105,8 @@ pub mod kind {
     pub const NEAR: u32 = 2;
     /// The position of variable `a` is less than that of variable `b`.
     pub const BEFORE: u32 = 3;
-    /// Variables `a` and `b` stand in one title.
+    /// Variables `a` and `b` stand in one title: no title starts behind the smaller position and at
+    /// or before the larger.
     pub const SAME_TITLE: u32 = 4;
     /// The largest and smallest position of the pattern's variables differ by at most `c` - 1; `c`
     /// is 1 to 65,536.
@@ -150,8 +166,13 @@ impl fmt::Display for Refusal {
                  not have"
             ),
             14 => write!(f, "the plan ends with a pattern open, or not with one answer"),
-            16 => write!(f, "the buffer is shorter than the list"),
-            17 => write!(f, "the volume has no list of that number"),
+            15 => write!(f, "the document to start from is over 65,535"),
+            16 => write!(f, "the buffer is shorter than the list, or than one row of the listing"),
+            17 => write!(
+                f,
+                "there is no list or pattern of that number, the number of positions is not that \
+                 of the pattern's variables, or a document or position is over 65,535"
+            ),
             18 => write!(f, "the counts do not sum to the number of postings"),
             19 => write!(f, "the volume would have over 1,032,192 words"),
             20 => write!(f, "the output is shorter than the volume"),
@@ -193,6 +214,42 @@ pub struct CheckedPlan {
     pub patterns: u32,
     /// The number of variables of all patterns together (01: V).
     pub vars: u32,
+}
+
+impl CheckedPlan {
+    /// Words of a row that [`list`] writes: the document, and for each pattern one word and its
+    /// positions. A buffer that is shorter is refused.
+    ///
+    /// ```
+    /// let checked = lihambozy::CheckedPlan { patterns: 2, vars: 4 };
+    /// assert_eq!(checked.row_width(), 7);
+    /// ```
+    pub const fn row_width(self) -> usize {
+        1 + self.patterns as usize + self.vars as usize
+    }
+}
+
+/// What [`list`] has done.
+#[derive(Clone, Copy, Debug, PartialEq, Eq)]
+pub struct Listing {
+    /// The rows written, of [`CheckedPlan::row_width`] words each.
+    pub rows: u32,
+    /// The sum, over all variables of the plan, of the postings of the variable's list in the
+    /// documents from the start up to the one that `next` names, which is not counted, or to the
+    /// end.
+    pub tally: u32,
+    /// Whether a matching document is left.
+    pub next: Next,
+}
+
+/// Whether a listing has left a matching document unwritten.
+#[derive(Clone, Copy, Debug, PartialEq, Eq)]
+pub enum Next {
+    /// None is left (01: DONE).
+    Done,
+    /// No further row fits, and this is the least document left (01: MORE). A call that starts at
+    /// it goes on with the listing.
+    More(u32),
 }
 
 /// The posting of a document and a position in it.
@@ -311,6 +368,86 @@ pub fn pattern_rows<'a>(volume: &[u8], plan: &'a [u32], pattern: u32) -> &'a [u3
     &plan[answer.start as usize..][..answer.len as usize]
 }
 
+/// Tests whether positions pass: one for each variable of the pattern, in their order, in the
+/// document `doc`. Patterns are numbered from 0 in the order in which they open.
+///
+/// Refused with 1 to 14 as by [`check_plan`], then with 17 (no pattern of that number, not as many
+/// positions as it has variables, or a document or position over 65,535).
+///
+/// ```
+/// use lihambozy::{kind, posting, test_positions, write_volume};
+///
+/// // A title starts at position 6 of document 1; a word stands on both sides of it.
+/// let mut volume = [0; 512];
+/// write_volume(&[1, 2], &[posting(1, 6), posting(1, 2), posting(1, 8)], &mut volume)?;
+///
+/// let [voice, end] = [[kind::VOICE, 1, 0, 0], [kind::END, 0, 0, 0]];
+/// let plan = [voice, voice, [kind::SAME_TITLE, 0, 1, 0], end].concat();
+/// assert!(test_positions(&volume, &plan, 0, 1, &[8, 8])?);
+/// assert!(!test_positions(&volume, &plan, 0, 1, &[2, 8])?, "two titles");
+/// assert!(!test_positions(&volume, &plan, 0, 1, &[2, 3])?, "the word is not at 3");
+/// assert!(!test_positions(&volume, &plan, 0, 2, &[8, 8])?, "nor in document 2");
+///
+/// let refusal = test_positions(&volume, &plan, 0, 1, &[8]).unwrap_err();
+/// assert_eq!((refusal.number, refusal.at), (17, 0));
+/// # Ok::<(), lihambozy::Refusal>(())
+/// ```
+pub fn test_positions(
+    volume: &[u8],
+    plan: &[u32],
+    pattern: u32,
+    doc: u32,
+    positions: &[u32],
+) -> Result<bool, Refusal> {
+    let answer = ffi::test_positions(volume, plan, pattern, doc, positions);
+    accepted(answer.refusal, answer.at)?;
+    Ok(answer.passes != 0)
+}
+
+/// Lists the matching documents from `start` on, rising, as rows at the front of `out`; the words
+/// behind the rows stay as they were.
+///
+/// A row has [`CheckedPlan::row_width`] words, 59 at most: the document, then for each pattern 1
+/// and its least positions, or 0 and zeros where it is not found in that document. As many rows are
+/// written as there are or as fit whole. Calls that start at 0 and then at each [`Next::More`]
+/// until [`Next::Done`] give every matching document once, and their tallies sum to the counts of
+/// the variables' lists.
+///
+/// Refused with 1 to 14 as by [`check_plan`], then with 15 (`start` is over 65,535), then with 16
+/// (`out` is shorter than one row).
+///
+/// ```
+/// use lihambozy::{kind, list, posting, write_volume, Listing, Next};
+///
+/// let mut volume = [0; 512];
+/// let word = [posting(1, 2), posting(1, 8), posting(2, 4)];
+/// write_volume(&[0, 3], &word, &mut volume)?;
+///
+/// // One variable: a row is the document, 1, and the variable's least position.
+/// let plan = [kind::VOICE, 1, 0, 0, kind::END, 0, 0, 0];
+/// let mut out = [7; 5];
+/// let first = list(&volume, &plan, 0, &mut out)?;
+/// assert_eq!(first, Listing { rows: 1, tally: 2, next: Next::More(2) });
+/// assert_eq!(out, [1, 1, 2, 7, 7]);
+///
+/// let second = list(&volume, &plan, 2, &mut out)?;
+/// assert_eq!(second, Listing { rows: 1, tally: 1, next: Next::Done });
+/// assert_eq!(out, [2, 1, 4, 7, 7]);
+///
+/// let refusal = list(&volume, &plan, 0, &mut out[..2]).unwrap_err();
+/// assert_eq!((refusal.number, refusal.at), (16, 0));
+/// # Ok::<(), lihambozy::Refusal>(())
+/// ```
+pub fn list(volume: &[u8], plan: &[u32], start: u32, out: &mut [u32]) -> Result<Listing, Refusal> {
+    let answer = ffi::list(volume, plan, start, out);
+    accepted(answer.refusal, answer.at)?;
+    let next = match answer.next {
+        ffi::DONE => Next::Done,
+        doc => Next::More(doc),
+    };
+    Ok(Listing { rows: answer.rows, tally: answer.tally, next })
+}
+
 /// Splits the two fields that an answer starts with: number 0 means that the call is answered.
 fn accepted(number: u32, at: u32) -> Result<(), Refusal> {
     match number {
@@ -337,13 +474,19 @@ mod tests {
                  (refused 11 3)",
             ),
             (14, 0, "the plan ends with a pattern open, or not with one answer (refused 14 0)"),
-            (16, 0, "the buffer is shorter than the list (refused 16 0)"),
+            (15, 0, "the document to start from is over 65,535 (refused 15 0)"),
+            (
+                16,
+                0,
+                "the buffer is shorter than the list, or than one row of the listing \
+                 (refused 16 0)",
+            ),
         ];
         for (number, at, sentence) in rows {
             assert_eq!(Refusal { number, at }.to_string(), sentence);
         }
         let unknown = Refusal { number: 0, at: 0 }.to_string();
-        for number in (1..=14).chain(16..=20) {
+        for number in 1..=20 {
             let told = Refusal { number, at: 0 }.to_string();
             assert!(told.ends_with(&format!(" (refused {number} 0)")), "{told}");
             assert_ne!(

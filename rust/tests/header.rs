@@ -79,3 +79,53 @@ nine variables: 12 8 0 0
 ";
     assert_eq!(printed("plan"), expected);
 }
+
+#[test]
+fn searches() {
+    let expected = "\
+test answer 12: 0 4 8
+list answer 20: 0 4 8 12 16
+DONE 65536
+list 9 0 0 0 0
+test 9 0 0
+list 14 0 0 0 0
+sample, 4 words
+list 0 0 1 4 2: 1 1 2 5
+list 0 0 1 2 65536: 2 1 4 9
+done 2 6
+sample, 7 words
+list 0 0 1 4 2: 1 1 2 5
+list 0 0 1 2 65536: 2 1 4 9
+done 2 6
+sample, 8 words
+list 0 0 2 6 65536: 1 1 2 5: 2 1 4 9
+done 2 6
+sample, 3 words
+list 16 0 0 0 0
+list 0 0 1 2 65536: 2 1 4 9
+list 0 0 0 0 65536
+list 0 0 0 0 65536
+list 15 0 0 0 0
+list 15 0 0 0 0
+test 0 0 1
+test 0 0 0
+test 0 0 1
+test 0 0 0
+test 17 0 0
+test 17 0 0
+test 17 0 0
+test 17 0 0
+FIRST NOT SECOND, 7 words
+list 0 0 1 12 65536: 2 1 4 9 0 0 0
+done 1 12
+EITHER, 7 words
+list 0 0 1 8 2: 1 1 2 5 1 7 8
+list 0 0 1 4 65536: 2 1 4 9 0 0 0
+done 2 12
+test 0 0 1
+list 10 9 0 0 0
+list 3 0 0 0 0
+test 3 0 0
+";
+    assert_eq!(printed("search"), expected);
+}

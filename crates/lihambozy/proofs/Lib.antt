@@ -1,1 +1,3 @@
--- The proofs of the crate's functions need no laws of their own.
+-- `Demands` proves the statement of `specs/Demands.antt`; `Laws` has the laws of `specs/`.
+pub mod Demands
+pub mod Laws

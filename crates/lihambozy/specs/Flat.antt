@@ -1,14 +1,18 @@
 -- What the C functions answer: refusal 0 and the values, or a refusal's number, its place, and zeros. Assumes nothing.
 use Prim.Native.Nat.{ℕ}
+use mathlib.Core.Bool.{Bool, cond}
 use Rattle.seq.specs.Refusals.{Said, refused, answered}
 use Rattle.volume.specs.Answers.{Sizes}
 use Rattle.plan.specs.Answers as plan
 use Rattle.plan.specs.declared.showing.Span.{Span}
+use Rattle.search.specs.Answers.{Next, done, more, Page}
 use Rattle.lihambozy.specs.declared.VolumeSizes.{VolumeSizes}
 use Rattle.lihambozy.specs.declared.ListLength.{ListLength}
 use Rattle.lihambozy.specs.declared.VolumeLength.{VolumeLength}
 use Rattle.lihambozy.specs.declared.PlanSizes.{PlanSizes}
 use Rattle.lihambozy.specs.declared.PatternSpan.{PatternSpan}
+use Rattle.lihambozy.specs.declared.Passing.{Passing}
+use Rattle.lihambozy.specs.declared.Listing.{Listing}
 
 -- the answer of checking a volume
 abbrev pub flatSizes : Said Sizes → VolumeSizes
@@ -33,3 +37,18 @@ flatPlan (answered s) = record { refusal = 0; at = 0; patterns = s .patterns; va
 -- where the rows of a pattern lie
 abbrev pub flatSpan : Span → PatternSpan
 flatSpan s = record { start = s .start; len = s .len }
+
+-- the answer of testing positions
+abbrev pub flatTest : Said Bool → Passing
+flatTest (refused n p) = record { refusal = n; at = p; passes = 0 }
+flatTest (answered b) = record { refusal = 0; at = 0; passes = cond b 1 0 }
+
+-- the document to go on from, or 65,536
+abbrev pub flatNext : Next → ℕ
+flatNext done = 65536
+flatNext (more s) = s
+
+-- the answer of listing
+abbrev pub flatListing : Said Page → Listing
+flatListing (refused n p) = record { refusal = n; at = p; rows = 0; tally = 0; next = 0 }
+flatListing (answered page) = record { refusal = 0; at = 0; rows = page .rows; tally = page .tally; next = flatNext (page .next) }

@@ -4,6 +4,7 @@
 // refusal 0 and then the values, or the number of a refusal and its place and zeros. No call has a
 // `requires`; each promise is that of the call below it, told as a struct.
 ghost use mathlib.Core.Path.{_≡_};
+ghost use mathlib.Core.Bool.{cond};
 ghost use lib.ListN.{length};
 ghost use Rattle.volume.specs.Answers.{codeOf, atOf};
 ghost use Rattle.volume.specs.Check.{verdict};
@@ -12,10 +13,14 @@ ghost use Rattle.volume.specs.Write.{writeAnswer, writeOut};
 ghost use Rattle.plan.specs.Answers as plans;
 ghost use Rattle.plan.specs.Check as planned;
 ghost use Rattle.plan.specs.Parts.{spanOf};
-ghost use Rattle.lihambozy.specs.Flat.{flatSizes, flatList, flatVolume, flatPlan, flatSpan};
+ghost use Rattle.search.specs.Testing.{testAnswer};
+ghost use Rattle.lihambozy.specs.Flat.{flatSizes, flatList, flatVolume, flatPlan, flatSpan, flatTest};
+ghost use Rattle.lihambozy.specs.Search.{Kept};
 use plan::Checked as PlanChecked;
 use plan::Fault;
 use plan::Refusal as PlanRefusal;
+use search::Listed;
+use search::Tested;
 use volume::Checked;
 use volume::ListRead;
 use volume::Refusal;
@@ -70,6 +75,25 @@ pub struct PatternSpan {
     pub len: u32,
 }
 
+// What `lhz_test_positions` answers: 1 where the positions match (01: pass), and 0 where they do not.
+#[repr(C)]
+pub struct Passing {
+    pub refusal: u32,
+    pub at: u32,
+    pub passes: u32,
+}
+
+// What `lhz_list` answers: the number of rows at the front of the buffer, the tally, and the document
+// to go on from (01: MORE); 65,536 where none is left (01: DONE).
+#[repr(C)]
+pub struct Listing {
+    pub refusal: u32,
+    pub at: u32,
+    pub rows: u32,
+    pub tally: u32,
+    pub next: u32,
+}
+
 fn code_of(why: Refusal) -> Code
     ensures { λ r. ⌜ (r .refusal ≡ codeOf why) × (r .at ≡ atOf why) ⌝ }
 {
@@ -120,6 +144,16 @@ fn plan_code(why: PlanRefusal) -> Code
         },
         PlanRefusal::Unfinished => Code { refusal: 14, at: 0 },
     }
+}
+
+// 1 for yes, 0 for no.
+fn flag_of(yes: bool) -> u32
+    ensures { λ r. ⌜ r ≡ cond yes 1 0 ⌝ }
+{
+    if yes {
+        return 1;
+    }
+    0
 }
 
 // Checks a volume.
@@ -254,4 +288,86 @@ pub extern "C" fn lhz_pattern_rows(volume: &[u8], plan: &[u32], pattern: u32) ->
     let start = span.start as u32;
     let len = span.len as u32;
     PatternSpan { start, len }
+}
+
+// Whether positions match a pattern of a plan in a document.
+#[no_mangle]
+pub extern "C" fn lhz_test_positions(
+    volume: &[u8],
+    plan: &[u32],
+    pattern: u32,
+    doc: u32,
+    positions: &[u32],
+) -> Passing
+    ensures { λ r. ⌜ r ≡ flatTest (testAnswer (now (volume .entry)) (now (plan .entry)) pattern doc (now (positions .entry))) ⌝ }
+{
+    let tested = search::test(volume, plan, pattern, doc, positions);
+    match tested {
+        Tested::Answer(yes) => Passing {
+            refusal: 0,
+            at: 0,
+            passes: flag_of(yes),
+        },
+        Tested::Refused(why) => {
+            let code = plan_code(why);
+            Passing {
+                refusal: code.refusal,
+                at: code.at,
+                passes: 0,
+            }
+        }
+        Tested::OutOfRange => Passing {
+            refusal: 17,
+            at: 0,
+            passes: 0,
+        },
+    }
+}
+
+// Writes the rows of the true documents from document `start` on to the front of out, as many as fit.
+#[no_mangle]
+pub extern "C" fn lhz_list(volume: &[u8], plan: &[u32], start: u32, out: &mut [u32]) -> Listing
+    ensures { λ r. ⌜ Kept (now (volume .entry)) (now (plan .entry)) start (record { lent = now (out .entry); says = r; back = now (out .exit) }) ⌝ }
+{
+    let listed = search::list(volume, plan, start, out);
+    match listed {
+        Listed::Done(rows, tally) => Listing {
+            refusal: 0,
+            at: 0,
+            rows,
+            tally,
+            next: 65536,
+        },
+        Listed::More(next, rows, tally) => Listing {
+            refusal: 0,
+            at: 0,
+            rows,
+            tally,
+            next,
+        },
+        Listed::Refused(why) => {
+            let code = plan_code(why);
+            Listing {
+                refusal: code.refusal,
+                at: code.at,
+                rows: 0,
+                tally: 0,
+                next: 0,
+            }
+        }
+        Listed::Start => Listing {
+            refusal: 15,
+            at: 0,
+            rows: 0,
+            tally: 0,
+            next: 0,
+        },
+        Listed::Short => Listing {
+            refusal: 16,
+            at: 0,
+            rows: 0,
+            tally: 0,
+            next: 0,
+        },
+    }
 }

@@ -12,12 +12,12 @@ const BLOCK_WORDS: usize = 126;
 const MAX_BLOCKS: usize = 8_192;
 const MAX_LISTS: usize = 1_024;
 
-fn read_u32(bytes: &[u8]) -> u32 {
+pub fn read_u32(bytes: &[u8]) -> u32 {
     u32::from_le_bytes(bytes.try_into().unwrap())
 }
 
 /// The bytes of the stream words from `start` to `end`, a range for each block that they lie in.
-fn ranges(start: usize, end: usize) -> impl Iterator<Item = Range<usize>> {
+pub fn ranges(start: usize, end: usize) -> impl Iterator<Item = Range<usize>> {
     let mut at = start;
     std::iter::from_fn(move || {
         (at < end).then(|| {
@@ -31,7 +31,7 @@ fn ranges(start: usize, end: usize) -> impl Iterator<Item = Range<usize>> {
 }
 
 /// The stream words from `start` to `end`.
-fn words(volume: &[u8], start: usize, end: usize) -> impl Iterator<Item = u32> + '_ {
+pub fn words(volume: &[u8], start: usize, end: usize) -> impl Iterator<Item = u32> + '_ {
     ranges(start, end).flat_map(|range| volume[range].chunks_exact(4).map(read_u32))
 }
 

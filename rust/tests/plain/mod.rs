@@ -1,10 +1,12 @@
 //! A plain reader and writer of volumes, straight from document 01 ("Volume", "Calls" and "Who can
 //! cause which refusal"). It shares nothing with the library or its wrappers: a remainder for each
-//! byte, a look at the whole input for each refusal, sums in 64 bits. `plan` reads plans.
+//! byte, a look at the whole input for each refusal, sums in 64 bits. `plan` reads plans, `search`
+//! lists documents.
 
 #![allow(dead_code)]
 
 pub mod plan;
+pub mod search;
 
 /// A refusal: its number and its place.
 pub type Refused = (u32, u32);

@@ -8,15 +8,15 @@ use std::ops::Range;
 /// A row: kind, a, b and c.
 pub type Row = [u32; 4];
 
-const VOICE: u32 = 1;
-const NEAR: u32 = 2;
-const BEFORE: u32 = 3;
-const SAME_TITLE: u32 = 4;
-const SPAN: u32 = 5;
-const END: u32 = 6;
-const BOTH: u32 = 7;
-const EITHER: u32 = 8;
-const FIRST_NOT_SECOND: u32 = 9;
+pub const VOICE: u32 = 1;
+pub const NEAR: u32 = 2;
+pub const BEFORE: u32 = 3;
+pub const SAME_TITLE: u32 = 4;
+pub const SPAN: u32 = 5;
+pub const END: u32 = 6;
+pub const BOTH: u32 = 7;
+pub const EITHER: u32 = 8;
+pub const FIRST_NOT_SECOND: u32 = 9;
 
 /// The predicates (01: conditions).
 const PREDICATES: [u32; 4] = [NEAR, BEFORE, SAME_TITLE, SPAN];

@@ -1,9 +1,11 @@
 //! What the tests share: a seeded generator, lists and damage made with it, plans (in `plans`), and
-//! the comparison of the library with the plain reader and writer, call by call.
+//! the comparison of the library with the plain reader and writer, call by call. `searches` has the
+//! same for listing documents and testing positions, and whole searches.
 
 #![allow(dead_code)]
 
 pub mod plans;
+pub mod searches;
 
 use crate::plain::{self, Refused};
 use lihambozy::Refusal;
@@ -301,6 +303,8 @@ pub enum Call {
     Read,
     Write,
     Plan,
+    List,
+    Test,
 }
 
 /// Makes calls of the library and of the plain reader and writer, compares them in the answer and
@@ -423,6 +427,12 @@ impl Trial {
     fn count<T>(&mut self, call: Call, answer: &Result<T, Refused>) {
         let (number, at) = answer.as_ref().err().copied().unwrap_or((0, 0));
         *self.met.entry((call, number)).or_default().entry(at).or_default() += 1;
+    }
+
+    /// How often the call was made and compared.
+    pub fn made(&self, call: Call) -> usize {
+        let of_call = self.met.iter().filter(|((of, _), _)| *of == call);
+        of_call.flat_map(|(_, places)| places.values()).sum()
     }
 
     /// The call gave each of these numbers at least so often, and no other; 0 stands for an answer

@@ -1,0 +1,5 @@
+-- The laws of `specs/`. No contract cites these files.
+--     Heard      a struct tells the answer that it was made from
+--     Search     every search by the C functions, from the theorem of the crate `search`
+mod Heard
+pub mod Search

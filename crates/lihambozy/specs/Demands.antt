@@ -1,0 +1,27 @@
+-- The statement that the crate is held to. `proofs/Demands.antt` proves it in a line. Assumes nothing.
+--     Demand3     demand 3: every search by the C functions, whole
+use Prim.Native.Nat.{ℕ}
+use mathlib.Core.Path.{_≡_}
+use mathlib.Core.List.{List}
+use Rattle.seq.specs.Lists.{total}
+use Rattle.volume.specs.Bytes.{IsBytes}
+use Rattle.volume.specs.Layout.{count}
+use Rattle.volume.specs.Check as volume
+use Rattle.plan.specs.Rows.{rowsOf}
+use Rattle.plan.specs.Check as plan
+use Rattle.search.specs.Positions.{limit}
+use Rattle.search.specs.Documents.{varsOf}
+use Rattle.search.specs.Listing.{work}
+use Rattle.lihambozy.specs.Flat.{flatSizes, flatPlan}
+use Rattle.lihambozy.specs.Search.{Call, IsSearch, outcome, Searched}
+
+-- what demand 3 says of a volume and a plan
+pub record Holds3 (v p : List ℕ) : Type 0 where
+  -- every search: rows, tallies, the document reached, each answer, the end
+  pub searched : (calls : List Call) → IsSearch v p 0 calls → Searched (work v p) calls (outcome v p calls)
+  -- after DONE the tallies are the counts of the variables' lists
+  pub whole : work v p .postings 0 limit ≡ total (λ l. count v l) (varsOf (rowsOf p))
+
+-- Demand 3: over every volume and plan that `lhz_check_volume` and `lhz_check_plan` accept, with refusal 0
+unfoldable pub Demand3 : Type 0
+Demand3 = (v p : List ℕ) → IsBytes v → flatSizes (volume.verdict v) .refusal ≡ 0 → flatPlan (plan.verdict v p) .refusal ≡ 0 → Holds3 v p

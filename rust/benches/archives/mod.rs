@@ -1,0 +1,274 @@
+//! The made-up archives of the benchmarks, and the plans that they run over them.
+
+use super::late;
+use super::support::Rng;
+use lihambozy::{kind, posting, volume_len};
+
+/// Posting lists as the writer takes them: how long each one is, and all of them back to back.
+pub struct Lists {
+    pub counts: Vec<u32>,
+    pub postings: Vec<u32>,
+}
+
+impl Lists {
+    fn new(lists: &[Vec<u32>]) -> Lists {
+        Lists {
+            counts: lists.iter().map(|list| list.len() as u32).collect(),
+            postings: lists.concat(),
+        }
+    }
+
+    /// The volume of the lists.
+    pub fn volume(&self) -> Vec<u8> {
+        let length = volume_len(self.counts.len(), self.postings.len());
+        let mut volume = vec![0; length.expect("the lists fit a volume")];
+        late::write_volume(&self.counts, &self.postings, &mut volume).expect("each list rises");
+        volume
+    }
+
+    /// As many lists, of which all but the given ones are empty.
+    pub fn only(&self, numbers: &[u32]) -> Lists {
+        let mut rest = &self.postings[..];
+        let lists: Vec<Vec<u32>> = (0..)
+            .zip(&self.counts)
+            .map(|(number, &count)| {
+                let (list, behind) = rest.split_at(count as usize);
+                rest = behind;
+                if numbers.contains(&number) {
+                    list.to_vec()
+                } else {
+                    vec![]
+                }
+            })
+            .collect();
+        Lists::new(&lists)
+    }
+
+    /// The documents that have a posting.
+    pub fn docs(&self) -> usize {
+        let mut docs: Vec<u32> = self.postings.iter().map(|posting| posting >> 16).collect();
+        docs.sort_unstable();
+        docs.dedup();
+        docs.len()
+    }
+}
+
+/// Document 02's made-up season (N12): for each posting the state grows by 2,654,435,769, wrapping,
+/// and the gap to the posting before is 1 + state / 1,048,576.
+pub fn season(seed: u32, list_count: usize, length: usize) -> Lists {
+    let mut state = seed;
+    let mut list = || {
+        let mut posting = 0;
+        let mut next = || {
+            state = state.wrapping_add(2_654_435_769);
+            posting += 1 + state / 1_048_576;
+            posting
+        };
+        (0..length).map(|_| next()).collect()
+    };
+    let lists: Vec<Vec<u32>> = (0..list_count).map(|_| list()).collect();
+    Lists::new(&lists)
+}
+
+/// An archive like one of real titles. Documents lie one to five apart; each has 2 to 10 titles, one
+/// in forty ten times as many, of 2 to 9 words each. Two words out of three are drawn from all lists,
+/// the n-th of them with a weight of 1 / (n + 1); the third is drawn from four neighbouring lists,
+/// the same throughout the document. One word in fifty stands in a second list too, and one in eight
+/// is followed by a position that no list has.
+pub fn repertory(seed: u64, list_count: usize, posting_count: usize) -> Lists {
+    let mut rng = Rng::new(seed);
+    let words = list_count as u64 - 1;
+    // The sums of the weights up to each list, in parts of 2^32.
+    let sums: Vec<u64> = (1..=words)
+        .scan(0, |sum, n| {
+            *sum += (1 << 32) / (n + 1);
+            Some(*sum)
+        })
+        .collect();
+    let mut lists = vec![vec![]; list_count];
+    let mut left = posting_count;
+    let mut doc = 0;
+    while left > 0 {
+        doc += 1 + rng.below(5) as u16;
+        let topic = 1 + 4 * rng.below(words / 4);
+        let titles = (2 + rng.below(9)) * if rng.below(40) == 0 { 10 } else { 1 };
+        let mut pos = rng.below(4) as u16;
+        for _ in 0..titles {
+            let mut put = |list: u64, pos: u16| {
+                let list: &mut Vec<u32> = &mut lists[list as usize];
+                if left > 0 && list.last() != Some(&posting(doc, pos)) {
+                    list.push(posting(doc, pos));
+                    left -= 1;
+                }
+            };
+            put(0, pos);
+            for _ in 0..2 + rng.below(8) {
+                for _ in 0..if rng.below(50) == 0 { 2 } else { 1 } {
+                    let list = if rng.below(3) == 0 {
+                        topic + rng.below(4)
+                    } else {
+                        let weight = rng.below(sums[words as usize - 1]);
+                        1 + sums.partition_point(|&sum| sum <= weight) as u64
+                    };
+                    put(list, pos);
+                }
+                pos += if rng.below(8) == 0 { 2 } else { 1 };
+            }
+        }
+    }
+    Lists::new(&lists)
+}
+
+/// One document, in which each of eight lists has all positions below `positions`, and titles start
+/// at regular distances.
+pub fn one_document(positions: u32, starts: u32) -> Lists {
+    let doc = 20_000 << 16;
+    let starts = (0..starts).map(|i| doc + i * positions / starts).collect();
+    let mut lists = vec![starts];
+    lists.resize(9, (doc..doc + positions).collect());
+    Lists::new(&lists)
+}
+
+/// A row of a plan: kind, a, b and c.
+pub type Row = [u32; 4];
+
+/// A plan with a name.
+pub struct Plan {
+    pub name: &'static str,
+    pub rows: Vec<Row>,
+}
+
+impl Plan {
+    /// The lists that the plan uses, and list 0.
+    pub fn lists(&self) -> Vec<u32> {
+        let voices = self.rows.iter().filter(|row| row[0] == kind::VOICE);
+        let mut lists: Vec<u32> = voices.map(|row| row[1]).collect();
+        lists.push(0);
+        lists
+    }
+
+    /// The rows as document 01 names them.
+    pub fn text(&self) -> String {
+        let rows = self.rows.iter().map(|&[kind, a, b, c]| match kind {
+            kind::VOICE => format!("VOICE {a}"),
+            kind::NEAR => format!("NEAR {a} {b} {c}"),
+            kind::BEFORE => format!("BEFORE {a} {b}"),
+            kind::SAME_TITLE => format!("SAME TITLE {a} {b}"),
+            kind::SPAN => format!("SPAN {c}"),
+            kind::END => "END".to_string(),
+            kind::BOTH => "BOTH".to_string(),
+            kind::EITHER => "EITHER".to_string(),
+            _ => "FIRST NOT SECOND".to_string(),
+        });
+        rows.collect::<Vec<String>>().join(", ")
+    }
+}
+
+fn near(a: u32, b: u32, c: u32) -> Row {
+    [kind::NEAR, a, b, c]
+}
+
+fn before(a: u32, b: u32) -> Row {
+    [kind::BEFORE, a, b, 0]
+}
+
+fn same_title(a: u32, b: u32) -> Row {
+    [kind::SAME_TITLE, a, b, 0]
+}
+
+fn span(c: u32) -> Row {
+    [kind::SPAN, 0, 0, c]
+}
+
+const BOTH: Row = [kind::BOTH, 0, 0, 0];
+const EITHER: Row = [kind::EITHER, 0, 0, 0];
+const FIRST_NOT_SECOND: Row = [kind::FIRST_NOT_SECOND, 0, 0, 0];
+
+/// The rows of a pattern, VOICE to END.
+fn pattern(lists: &[u32], predicates: &[Row]) -> Vec<Row> {
+    let voices = lists.iter().map(|&list| [kind::VOICE, list, 0, 0]);
+    voices.chain(predicates.iter().copied()).chain([[kind::END, 0, 0, 0]]).collect()
+}
+
+/// The lists and limits with which the ten plans run over an archive.
+pub struct Filling {
+    /// The lists of most plans.
+    pub lists: [u32; 8],
+    /// A list that is rare, where the archive has one.
+    pub rare: u32,
+    /// The limit of NEAR.
+    pub near: u32,
+    /// The limit of SPAN for three variables. Eight have four times as much.
+    pub span: u32,
+}
+
+/// Ten plans, from one variable to six patterns.
+pub fn ten_plans(filling: &Filling) -> [Plan; 10] {
+    let &Filling { lists: [a, b, c, d, e, f, g, h], rare, near: n, span: s } = filling;
+    let plan = |name, parts: &[Vec<Row>]| Plan { name, rows: parts.concat() };
+    [
+        plan("one variable", &[pattern(&[a], &[])]),
+        plan("NEAR", &[pattern(&[a, b], &[near(0, 1, n)])]),
+        plan("BEFORE and SAME TITLE", &[pattern(&[a, b], &[before(0, 1), same_title(0, 1)])]),
+        plan("SPAN of three", &[pattern(&[a, b, c], &[span(s)])]),
+        plan(
+            "EITHER of two NEAR",
+            &[pattern(&[a, b], &[near(0, 1, n)]), pattern(&[c, d], &[near(0, 1, n)]), vec![EITHER]],
+        ),
+        plan(
+            "BOTH",
+            &[
+                pattern(&[a, b], &[before(1, 0), near(0, 1, n)]),
+                pattern(&[c, d], &[same_title(0, 1)]),
+                vec![BOTH],
+            ],
+        ),
+        plan(
+            "FIRST NOT SECOND",
+            &[
+                pattern(&[a, b], &[before(0, 1)]),
+                pattern(&[a, b], &[near(0, 1, n)]),
+                vec![FIRST_NOT_SECOND],
+            ],
+        ),
+        plan(
+            "eight variables",
+            &[pattern(
+                &[a, b, c, d, e, f, g, h],
+                &[before(0, 1), near(2, 3, 4 * n), same_title(4, 5), span(4 * s)],
+            )],
+        ),
+        plan(
+            "six patterns",
+            &[
+                pattern(&[a, b], &[near(0, 1, n), before(0, 1)]),
+                pattern(&[c, d, e], &[span(s)]),
+                vec![EITHER],
+                pattern(&[f], &[]),
+                pattern(&[g, h], &[same_title(0, 1)]),
+                vec![EITHER, BOTH],
+                pattern(&[a, h], &[near(0, 1, n)]),
+                pattern(&[b, a, b], &[before(0, 1), before(1, 2)]),
+                vec![BOTH, FIRST_NOT_SECOND],
+            ],
+        ),
+        plan("rare and frequent", &[pattern(&[rare, a], &[near(0, 1, n)])]),
+    ]
+}
+
+/// Plans that no document makes true, over `one_document`: each kind of predicate leaves variables
+/// short until one of them has passed all its positions.
+pub fn endless_plans() -> [Plan; 4] {
+    let plan = |name, predicates: Vec<Row>| Plan {
+        name,
+        rows: pattern(&[1, 2, 3, 4, 5, 6, 7, 8], &predicates),
+    };
+    // Two variables of which each is to stand before the other move on by turns.
+    let turns = [before(0, 1), before(1, 0)];
+    [
+        plan("NEAR", (1..8).map(|var| near(0, var, 0)).chain(turns).collect()),
+        plan("BEFORE", (0..8).map(|var| before(var, (var + 1) % 8)).collect()),
+        plan("SPAN", vec![span(1), before(0, 1)]),
+        plan("SAME TITLE", (1..8).map(|var| same_title(0, var)).chain(turns).collect()),
+    ]
+}

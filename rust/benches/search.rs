@@ -1,0 +1,350 @@
+//! Times the library's listing beside a searcher in plain Rust: ten plans over each of two made-up
+//! archives, and how the time grows with the positions of one document. The results are compared
+//! before anything is timed. Run as a test, it makes one round and prints no times.
+//!
+//! A listing checks its volume; what it does beyond that is its walk. Only whole calls of the
+//! library can be timed, so on both sides a walk's time is that of a listing less that of a check
+//! right before it in the same round. Where the check takes far longer than the walk, such a
+//! difference is noise. So each plan runs also over the volume of its own lists, in which the
+//! archive's other lists are empty: the same walk after a short check.
+
+mod archives;
+mod late;
+mod support;
+mod walk;
+
+use archives::{endless_plans, one_document, repertory, season, ten_plans, Filling, Lists, Plan};
+use lihambozy::{check_plan, check_volume, list, Next, BLOCK_BYTES};
+use std::hint::black_box;
+use support::Times;
+
+const SEED: u32 = 1;
+
+/// A listing's time, as a part of the plain one's, at most.
+const LISTING_TARGET: f64 = 0.8;
+/// A walk's time, as a part of the plain one's, at most.
+const WALK_TARGET: f64 = 1.3;
+/// The standard error of a ratio, as a part of it, above which the ratio is noise.
+const NOISE: f64 = 0.05;
+
+/// The positions of one document, and how many titles start in it.
+const SIZES: [(u32, u32); 5] =
+    [(4_096, 500), (8_192, 1_000), (16_384, 2_000), (32_768, 4_000), (65_536, 8_000)];
+const GROWTH_ROUNDS: usize = 21;
+/// How many times as long a listing takes for twice the positions, at most. For a time that grows
+/// with the postings it is 2, and a little more for searches among twice the starts and for memory
+/// that is further away; for one that grows with a product of them it is 4.
+const DOUBLING_TARGET: f64 = 2.6;
+
+/// A made-up archive.
+struct Archive {
+    name: &'static str,
+    lists: Lists,
+    filling: Filling,
+    rounds: usize,
+    /// The rounds over the plans' own lists.
+    own_rounds: usize,
+}
+
+fn archives() -> [Archive; 2] {
+    [
+        Archive {
+            name: "a season, made up by the rule of document 02, N12",
+            lists: season(SEED, 512, 1_000),
+            filling: Filling {
+                lists: [17, 100, 201, 302, 403, 444, 480, 511],
+                rare: 250,
+                near: 20,
+                span: 400,
+            },
+            rounds: 101,
+            own_rounds: 1_001,
+        },
+        Archive {
+            name: "a repertory, with lists of every length",
+            lists: repertory(SEED.into(), 1_000, 1_000_000),
+            filling: Filling { lists: [1, 2, 3, 4, 5, 6, 7, 8], rare: 801, near: 1, span: 6 },
+            rounds: 51,
+            own_rounds: 51,
+        },
+    ]
+}
+
+fn main() {
+    // cargo passes --bench to a benchmark that it runs as one, and nothing where it tests it.
+    let timed = std::env::args().any(|word| word == "--bench");
+    let mut missed = false;
+    for archive in archives() {
+        missed |= time_plans(&archive, timed);
+    }
+    missed |= time_growth(timed);
+    if !timed {
+        println!("the library and plain Rust agree on every listing");
+    }
+    if missed {
+        std::process::exit(1);
+    }
+}
+
+/// A plan over a volume, with a buffer that holds every row.
+struct Listing<'a> {
+    volume: &'a [u8],
+    plan: Vec<u32>,
+    out: Vec<u32>,
+    rows: u32,
+    tally: u32,
+    check: Times,
+    list: Times,
+    plain_check: Times,
+    plain_list: Times,
+    plain_walk: Times,
+}
+
+impl<'a> Listing<'a> {
+    /// Lists to DONE in one call on both sides, and compares the answers and every word of the
+    /// buffers, those behind the rows too.
+    fn new(volume: &'a [u8], docs: usize, plan: &Plan) -> Listing<'a> {
+        let words = plan.rows.concat();
+        let width = check_plan(volume, &words).expect("the plan is accepted").row_width();
+        let mut out: Vec<u32> = (0..(docs + 1) * width).map(|i| !(i as u32)).collect();
+        let mut plain_out = out.clone();
+        let library = list(volume, &words, 0, &mut out).expect("a row fits");
+        let plain = walk::list(volume, &words, 0, &mut plain_out).expect("a row fits");
+        assert_eq!((library.next, plain.next), (Next::Done, None), "{}", plan.name);
+        assert_eq!(library.rows, plain.rows, "{}: rows", plan.name);
+        assert_eq!(library.tally, plain.tally, "{}: tally", plan.name);
+        assert!(out == plain_out, "{}: the buffers differ", plan.name);
+        Listing {
+            volume,
+            plan: words,
+            out,
+            rows: library.rows,
+            tally: library.tally,
+            check: Times::default(),
+            list: Times::default(),
+            plain_check: Times::default(),
+            plain_list: Times::default(),
+            plain_walk: Times::default(),
+        }
+    }
+
+    /// Times a check and a listing on each side, in odd rounds plain Rust first. The check before
+    /// them, which is not timed, brings the volume near.
+    fn time(&mut self, round: usize) {
+        let (volume, plan, out) = (black_box(self.volume), black_box(&self.plan), &mut self.out);
+        for side in [round, round + 1] {
+            let _ = black_box(check_volume(volume));
+            if side % 2 == 0 {
+                self.check.time(|| check_volume(volume));
+                self.list.time(|| list(volume, plan, 0, out));
+            } else {
+                self.plain_check.time(|| late::check_volume(volume));
+                self.plain_list.time(|| walk::list(volume, plan, 0, out));
+            }
+        }
+    }
+
+    /// Times the walk of plain Rust without its check.
+    fn time_plain_walk(&mut self) {
+        let (volume, plan, out) = (black_box(self.volume), black_box(&self.plan), &mut self.out);
+        let _ = black_box(check_volume(volume));
+        self.plain_walk.time(|| walk::walk(volume, plan, 0, out));
+    }
+
+    /// The walk's time, and that of plain Rust.
+    fn walks(&self) -> [Times; 2] {
+        [self.list.less(&self.check), self.plain_list.less(&self.plain_check)]
+    }
+
+    /// The same as differences of minima.
+    fn least_walks(&self) -> [f64; 2] {
+        [(&self.list, &self.check), (&self.plain_list, &self.plain_check)]
+            .map(|(list, check)| list.minimum() - check.minimum())
+    }
+}
+
+/// Times the listings, so many rounds. The walks of plain Rust alone come behind all of them: a walk
+/// between two listings would make the second one faster.
+fn time_listings(listings: &mut [Listing], rounds: usize) {
+    for round in 0..rounds {
+        listings.iter_mut().for_each(|listing| listing.time(round));
+    }
+    for _ in 0..rounds {
+        listings.iter_mut().for_each(Listing::time_plain_walk);
+    }
+}
+
+fn verdict(missed: bool) -> &'static str {
+    if missed {
+        "MISSED"
+    } else {
+        "met"
+    }
+}
+
+/// Runs the ten plans over an archive: whether a target is missed.
+fn time_plans(archive: &Archive, timed: bool) -> bool {
+    let (lists, docs) = (&archive.lists, archive.lists.docs());
+    let plans = ten_plans(&archive.filling);
+    let volume = lists.volume();
+    let own_volumes = plans.each_ref().map(|plan| lists.only(&plan.lists()).volume());
+
+    let mut whole: Vec<Listing> =
+        plans.iter().map(|plan| Listing::new(&volume, docs, plan)).collect();
+    let mut own: Vec<Listing> =
+        plans.iter().zip(&own_volumes).map(|(plan, own)| Listing::new(own, docs, plan)).collect();
+    for ((plan, whole), own) in plans.iter().zip(&whole).zip(&own) {
+        assert!(whole.out == own.out, "{}: other rows from the plan's own lists", plan.name);
+    }
+    let listed = whole.iter().filter(|listing| listing.rows > 0).count();
+    assert!(listed >= 5, "{listed} plans have true documents");
+
+    time_listings(&mut whole, if timed { archive.rounds } else { 1 });
+    time_listings(&mut own, if timed { archive.own_rounds } else { 1 });
+    if !timed {
+        return false;
+    }
+    println!("\n# Over {}\n", archive.name);
+    println!(
+        "{} blocks, {} lists, {} postings in {docs} documents, seed {SEED}.",
+        volume.len() / BLOCK_BYTES,
+        lists.counts.len(),
+        lists.postings.len()
+    );
+    println!(
+        "Release build, {} rounds ({} over own lists), every call once a round; buffers not \
+         cleared before.\n",
+        archive.rounds, archive.own_rounds
+    );
+    for (i, plan) in (1..).zip(&plans) {
+        println!("{i}. {}: {}", plan.name, plan.text());
+    }
+    let listing_missed = print_listings(&plans, &whole);
+    let walk_missed = print_walks(&plans, &whole, &own);
+    listing_missed || walk_missed
+}
+
+/// Prints the times of the listings: whether the target is missed.
+fn print_listings(plans: &[Plan], listings: &[Listing]) -> bool {
+    println!(
+        "\n| listing | rows | tally | library ms | plain Rust ms | ratio of medians | of minima \
+         | target | |"
+    );
+    println!("|---|---|---|---|---|---|---|---|---|");
+    let mut missed = false;
+    for (plan, listing) in plans.iter().zip(listings) {
+        let Listing { list, plain_list, .. } = listing;
+        let ratio = list.over(plain_list);
+        missed |= ratio > LISTING_TARGET;
+        println!(
+            "| {} | {} | {} | {:.3} | {:.3} | {ratio:.2} | {:.2} | {LISTING_TARGET:.2} | {} |",
+            plan.name,
+            listing.rows,
+            listing.tally,
+            list.median(),
+            plain_list.median(),
+            list.minimum() / plain_list.minimum(),
+            verdict(ratio > LISTING_TARGET)
+        );
+    }
+    let Listing { check, plain_check, .. } = &listings[0];
+    println!(
+        "| the check alone | | | {:.3} | {:.3} | {:.2} | {:.2} | | |",
+        check.median(),
+        plain_check.median(),
+        check.over(plain_check),
+        check.minimum() / plain_check.minimum()
+    );
+    missed
+}
+
+/// Prints the times of the walks: whether the target is missed.
+fn print_walks(plans: &[Plan], whole: &[Listing], own: &[Listing]) -> bool {
+    println!("\nWalks in microseconds. *Alone*: timed directly, without a check.\n");
+    println!(
+        "| walk | library | plain Rust | alone | 1: ratio of medians | own lists: library \
+         | plain Rust | alone | 2: ratio of medians | 3: of minima | target | |"
+    );
+    println!("|---|---|---|---|---|---|---|---|---|---|---|---|");
+    let mut missed = false;
+    for ((plan, whole), own) in plans.iter().zip(whole).zip(own) {
+        print!("| {} |", plan.name);
+        let mut clear = Vec::new();
+        for (place, listing) in (1..).zip([whole, own]) {
+            let [walk, plain_walk] = listing.walks();
+            for times in [&walk, &plain_walk, &listing.plain_walk] {
+                print!(" {:.1} |", times.median() * 1e3);
+            }
+            let (ratio, error) = (walk.over(&plain_walk), walk.error_over(&plain_walk));
+            print!(" {ratio:.2} ± {error:.2} |");
+            if error <= NOISE * ratio {
+                clear.push((place, ratio));
+            }
+        }
+        let [walk, plain_walk] = own.least_walks();
+        let minima = walk / plain_walk;
+        let (place, ratio) = clear.first().copied().unwrap_or((3, minima));
+        missed |= ratio > WALK_TARGET;
+        let told = verdict(ratio > WALK_TARGET);
+        println!(" {minima:.2} | {WALK_TARGET:.2} | {told} by {place} |");
+    }
+    println!(
+        "\nJudged is the first ratio whose standard error is at most {NOISE} of it, or else the \
+         third."
+    );
+    missed
+}
+
+/// Runs plans that pass all positions of one document: whether a target is missed.
+fn time_growth(timed: bool) -> bool {
+    let plans = endless_plans();
+    let volumes = SIZES.map(|(positions, starts)| one_document(positions, starts).volume());
+    let mut listings: Vec<Listing> = plans
+        .iter()
+        .flat_map(|plan| volumes.iter().map(move |volume| Listing::new(volume, 1, plan)))
+        .collect();
+    time_listings(&mut listings, if timed { GROWTH_ROUNDS } else { 1 });
+    for (listing, (positions, _)) in listings.iter().zip(SIZES.iter().cycle()) {
+        assert_eq!((listing.rows, listing.tally), (0, 8 * positions));
+    }
+    if !timed {
+        return false;
+    }
+
+    println!("\n# Growth: one document, eight variables, no match\n");
+    println!(
+        "{GROWTH_ROUNDS} rounds, minima, since what else runs on the machine only adds to a time.\n"
+    );
+    for plan in &plans {
+        println!("- {}: {}", plan.name, plan.text());
+    }
+    println!(
+        "\n| predicate | positions of each | starts | library ms | ns a posting | of the row above \
+         | target | | plain Rust ns a posting | of the row above |"
+    );
+    println!("|---|---|---|---|---|---|---|---|---|---|");
+    let mut missed = false;
+    for (plan, listings) in plans.iter().zip(listings.chunks(SIZES.len())) {
+        let mut above: Option<[f64; 2]> = None;
+        for (listing, (positions, starts)) in listings.iter().zip(SIZES) {
+            let times = [listing.list.minimum(), listing.plain_list.minimum()];
+            let [each, plain_each] = times.map(|time| time * 1e6 / f64::from(listing.tally));
+            print!("| {} | {positions} | {starts} | {:.3} | {each:.2} |", plan.name, times[0]);
+            match above {
+                None => println!(" | | | {plain_each:.2} | |"),
+                Some(above) => {
+                    let growth = [times[0] / above[0], times[1] / above[1]];
+                    missed |= growth[0] > DOUBLING_TARGET;
+                    println!(
+                        " {:.2} | {DOUBLING_TARGET:.2} | {} | {plain_each:.2} | {:.2} |",
+                        growth[0],
+                        verdict(growth[0] > DOUBLING_TARGET),
+                        growth[1]
+                    );
+                }
+            }
+            above = Some(times);
+        }
+    }
+    missed
+}

@@ -1,0 +1,385 @@
+//! Searching for the tests: volumes and plans that are made to be searched, the comparison of the
+//! library with the naive searcher, call by call, and whole searches.
+
+use super::plans::*;
+use super::{amid, pair, Call, Fill, Lists, Rng, Trial, AMID};
+use crate::plain::search::{Listed, Searcher};
+use crate::plain::Refused;
+use lihambozy::{Listing, Next};
+use std::collections::BTreeSet;
+use std::ops::Range;
+
+/// A volume and a plan in the middle of other elements, and the naive searcher over them, or why it
+/// refuses them.
+pub struct Subject {
+    bytes: Vec<u8>,
+    words: Vec<u32>,
+    kept: (Vec<u8>, Vec<u32>),
+    pub naive: Result<Searcher, Refused>,
+}
+
+impl Subject {
+    pub fn new(volume: &[u8], plan: &[u32]) -> Subject {
+        let (bytes, words) = (amid(volume), amid(plan));
+        let kept = (bytes.clone(), words.clone());
+        Subject { bytes, words, kept, naive: Searcher::new(volume, plan) }
+    }
+
+    /// A plan over lists that are told by document and position.
+    pub fn over(lists: &[&[(u32, u32)]], rows: &[Row]) -> Subject {
+        let posting = |&(doc, pos): &(u32, u32)| doc * 65_536 + pos;
+        let lists: Vec<Vec<u32>> =
+            lists.iter().map(|list| list.iter().map(posting).collect()).collect();
+        Subject::new(&Lists::new(&lists).volume(), &rows.concat())
+    }
+
+    pub fn volume(&self) -> &[u8] {
+        &self.bytes[AMID..self.bytes.len() - AMID]
+    }
+
+    pub fn plan(&self) -> &[u32] {
+        &self.words[AMID..self.words.len() - AMID]
+    }
+
+    /// The naive searcher of a volume and a plan that are accepted.
+    #[track_caller]
+    pub fn searcher(&self) -> &Searcher {
+        self.naive.as_ref().unwrap_or_else(|refused| panic!("refused {refused:?}"))
+    }
+
+    /// Nothing is written in volume or plan, nor beside them.
+    #[track_caller]
+    fn assert_kept(&self, case: &str) {
+        assert!(self.bytes == self.kept.0, "{case}: written in the volume or beside it");
+        assert!(self.words == self.kept.1, "{case}: written in the plan or beside it");
+    }
+}
+
+/// Words before and behind a buffer of so many words, and where it lies.
+pub fn memory_for(room: usize) -> (Vec<u32>, Range<usize>) {
+    const SIDE: usize = 70;
+    ((0..SIDE + room + SIDE).map(u32::fill).collect(), SIDE..SIDE + room)
+}
+
+impl Trial {
+    /// Lists into a part of the memory. All of it afterwards is as the naive searcher leaves it.
+    #[track_caller]
+    pub fn list(
+        &mut self,
+        subject: &Subject,
+        start: u32,
+        memory: &mut [u32],
+        lent: Range<usize>,
+    ) -> Result<Listed, Refused> {
+        let case = format!("{}: list from {start} into {} words", self.case, lent.len());
+        let mut expected = memory.to_vec();
+        let naive = match &subject.naive {
+            Ok(searcher) => searcher.list(start, &mut expected[lent.clone()]),
+            Err(refused) => Err(*refused),
+        };
+        let answer =
+            lihambozy::list(subject.volume(), subject.plan(), start, &mut memory[lent.clone()])
+                .map(listed)
+                .map_err(pair);
+        assert_eq!(answer, naive, "{case}");
+        if let Some(word) = (0..memory.len()).find(|&word| memory[word] != expected[word]) {
+            let (lent, got) = (&expected[lent.clone()], &memory[lent]);
+            panic!("{case}: word {word} of the memory is wrong; {got:?}, not {lent:?}");
+        }
+        subject.assert_kept(&case);
+        self.count(Call::List, &answer);
+        answer
+    }
+
+    /// Lists into so many words: the words of all rows written, and the answer.
+    #[track_caller]
+    pub fn list_rows(
+        &mut self,
+        subject: &Subject,
+        start: u32,
+        room: usize,
+    ) -> Result<(Vec<u32>, Listed), Refused> {
+        let (mut memory, lent) = memory_for(room);
+        let answer = self.list(subject, start, &mut memory, lent.clone())?;
+        let words = answer.rows as usize * subject.searcher().width();
+        Ok((memory[lent][..words].to_vec(), answer))
+    }
+
+    /// Tests positions of a pattern in a document.
+    #[track_caller]
+    pub fn test(
+        &mut self,
+        subject: &Subject,
+        pattern: u32,
+        doc: u32,
+        positions: &[u32],
+    ) -> Result<bool, Refused> {
+        let case = format!("{}: test {positions:?} of {pattern} in {doc}", self.case);
+        let lent = amid(positions);
+        let (volume, plan) = (subject.volume(), subject.plan());
+        let positions = &lent[AMID..lent.len() - AMID];
+        let answer = lihambozy::test_positions(volume, plan, pattern, doc, positions).map_err(pair);
+        let naive = match &subject.naive {
+            Ok(searcher) => searcher.test(pattern, doc, positions),
+            Err(refused) => Err(*refused),
+        };
+        assert_eq!(answer, naive, "{case}");
+        assert!(lent == amid(positions), "{case}: written in the positions or beside them");
+        subject.assert_kept(&case);
+        self.count(Call::Test, &answer);
+        answer
+    }
+
+    /// A whole search through buffers of one length: the words of all rows, and the sum of the
+    /// tallies.
+    #[track_caller]
+    pub fn search(&mut self, subject: &Subject, room: usize) -> (Vec<u32>, u32) {
+        let mut search = Search::new(subject);
+        while !search.done {
+            let (mut memory, lent) = memory_for(room);
+            search.call(self, &mut memory, lent).expect("a row fits");
+        }
+        search.assert_whole(&self.case);
+        (search.words, search.tally)
+    }
+
+    /// All rows and the sum of the tallies, the same in one call, row by row, and by three rows and
+    /// a word.
+    #[track_caller]
+    pub fn listing(&mut self, subject: &Subject) -> (Vec<u32>, u32) {
+        let width = subject.searcher().width();
+        let all = self.search(subject, 1_000 * width);
+        for room in [width, 3 * width + 1] {
+            assert_eq!(self.search(subject, room), all, "{}: {room} words", self.case);
+        }
+        all
+    }
+}
+
+fn listed(listing: Listing) -> Listed {
+    let more = match listing.next {
+        Next::Done => None,
+        Next::More(doc) => Some(doc),
+    };
+    Listed { rows: listing.rows, tally: listing.tally, more }
+}
+
+/// A search as document 01 has it: listing calls, each from the document reached.
+pub struct Search<'a> {
+    subject: &'a Subject,
+    /// The document reached (01: scene reached).
+    pub reached: u32,
+    /// Whether a call has said DONE.
+    pub done: bool,
+    /// The calls that were not refused.
+    pub answered: usize,
+    /// The rows of all calls, joined.
+    pub words: Vec<u32>,
+    /// The sum of the tallies.
+    pub tally: u32,
+}
+
+impl<'a> Search<'a> {
+    pub fn new(subject: &'a Subject) -> Search<'a> {
+        Search { subject, reached: 0, done: false, answered: 0, words: vec![], tally: 0 }
+    }
+
+    /// The next call, into a part of the memory.
+    #[track_caller]
+    pub fn call(
+        &mut self,
+        trial: &mut Trial,
+        memory: &mut [u32],
+        lent: Range<usize>,
+    ) -> Result<Listed, Refused> {
+        assert!(!self.done, "DONE closes a search");
+        let width = self.subject.searcher().width();
+        let answer = trial.list(self.subject, self.reached, memory, lent.clone());
+        match answer {
+            Err(refused) => {
+                assert!(refused == (16, 0) && lent.len() < width, "{}: {refused:?}", trial.case);
+            }
+            Ok(listed) => {
+                assert!(lent.len() >= width, "{}: no row fits", trial.case);
+                self.answered += 1;
+                self.words.extend(&memory[lent][..listed.rows as usize * width]);
+                self.tally += listed.tally;
+                match listed.more {
+                    Some(doc) => self.reached = doc,
+                    None => self.done = true,
+                }
+            }
+        }
+        answer
+    }
+
+    /// What document 01 says of a search as a whole, whatever its calls were.
+    #[track_caller]
+    pub fn assert_whole(&self, case: &str) {
+        let searcher = self.subject.searcher();
+        let end = if self.done { 65_536 } else { self.reached };
+        let below = searcher.rows.iter().filter(|row| row[0] < end);
+        let words: Vec<u32> = below.flatten().copied().collect();
+        assert_eq!(self.words, words, "{case}");
+        assert_eq!(self.tally, searcher.tally(0, end), "{case}");
+        if self.done {
+            let lists = searcher.patterns.iter().flat_map(|pattern| &pattern.lists);
+            let counts = lists.map(|&list| searcher.lists[list].len() as u32);
+            assert_eq!(self.tally, counts.sum::<u32>(), "{case}");
+        }
+        // With k true documents the k-th call, or the first where k is 0, says DONE at the latest.
+        let last = searcher.rows.len().max(1);
+        assert!(self.answered <= last, "{case}: {} calls", self.answered);
+        assert!(self.done || self.answered < last, "{case}: no DONE in {last} calls");
+    }
+}
+
+/// Lists made to be searched.
+pub struct Archive {
+    pub lists: Lists,
+    /// The lists that a plan is to name. The others lie between them.
+    pub named: Vec<u32>,
+}
+
+/// A rising list with up to `most` positions in each of the documents, none in some of them.
+pub fn random_positions(rng: &mut Rng, docs: &[u32], window: &[u32], most: usize) -> Vec<u32> {
+    let often = rng.pick(&[1, 2, 3, 4, 4, 4]);
+    let mut list = BTreeSet::new();
+    for &doc in docs {
+        if rng.below(4) < often {
+            let any = 1 + rng.below(most);
+            let count = rng.pick(&[1, most.min(2), any]);
+            list.extend((0..count).map(|_| doc * 65_536 + rng.pick(window)));
+        }
+    }
+    list.into_iter().collect()
+}
+
+/// The documents of an archive: neighbours or far apart, often at an end.
+fn random_docs(rng: &mut Rng) -> Vec<u32> {
+    let any = 1 + rng.below(14);
+    let count = rng.pick(&[1, 5, any]);
+    let first = rng.below(65_537 - count);
+    let docs: BTreeSet<u32> = match rng.below(5) {
+        0 => (0..count as u32).collect(),
+        1 => (65_536 - count as u32..65_536).collect(),
+        2 => (first as u32..(first + count) as u32).collect(),
+        3 => (0..count).map(|_| rng.word() % 65_536).collect(),
+        _ => (0..count).map(|_| rng.pick(&[0, 1, 2, 255, 256, 257, 65_534, 65_535])).collect(),
+    };
+    docs.into_iter().collect()
+}
+
+/// The positions that an archive uses: a few neighbours, at an end or both ends, or far apart.
+fn random_window(rng: &mut Rng) -> Vec<u32> {
+    let width = rng.pick(&[2, 9, 20, 20, 60, 200]);
+    let first = rng.word() % (65_536 - width);
+    match rng.below(6) {
+        0 => (0..width).collect(),
+        1 => (65_536 - width..65_536).collect(),
+        2 | 3 => (first..first + width).collect(),
+        4 => (0..width).chain(65_536 - width..65_536).collect(),
+        _ => (0..width).map(|_| rng.word() % 65_536).chain([0, 65_535]).collect(),
+    }
+}
+
+/// An archive of few documents, with up to `most` positions of a list in each.
+pub fn random_archive(rng: &mut Rng, most: usize) -> Archive {
+    let (docs, window) = (random_docs(rng), random_window(rng));
+    let often = rng.pick(&[0, 1, 3, 10, 30]);
+    let mut starts = BTreeSet::new();
+    for &doc in &docs {
+        starts.extend((0..often).map(|_| doc * 65_536 + rng.pick(&window)));
+    }
+    let mut lists = vec![starts.into_iter().collect()];
+    let mut named = Vec::new();
+    for _ in 0..rng.pick(&[1, 2, 3, 4, 5, 6]) {
+        // A list that no plan names moves the others on, over the edges of the blocks.
+        if rng.below(3) == 0 {
+            let between = rng.pick(&[1, 30, 130]);
+            let all: Vec<u32> = (0..65_536).step_by(97).collect();
+            lists.push(random_positions(rng, &docs, &all, between));
+        }
+        named.push(lists.len() as u32);
+        lists.push(match rng.below(12) {
+            0 => vec![],
+            _ => random_positions(rng, &docs, &window, most),
+        });
+    }
+    Archive { lists: Lists::new(&lists), named }
+}
+
+/// How many positions a list may have in a document, so that a pattern of so many variables has few
+/// choices, or a good deal more.
+pub fn most_positions(rng: &mut Rng, vars: usize) -> usize {
+    let few = [8, 8, 8, 5, 4, 3, 3, 2, 2];
+    let many = [99, 99, 40, 12, 7, 5, 4, 3, 3];
+    rng.pick(&[few, few, few, few, few, many])[vars]
+}
+
+/// A predicate that some positions meet and some do not: most limits are small.
+fn small_predicate(rng: &mut Rng, vars: usize) -> Row {
+    let a = rng.below(vars);
+    let other = (a + rng.below(vars)) % vars;
+    let b = rng.pick(&[(a + 1) % vars, other, other]);
+    let (a, b) = (a as u32, b as u32);
+    let small = rng.below(5) as u32;
+    let any = rng.word() % 65_536;
+    match rng.below(4) {
+        0 => near(a, b, rng.pick(&[0, 0, small, small, small, any, 65_534, 65_535])),
+        1 => before(a, b),
+        2 => same_title(a, b),
+        _ => span(rng.pick(&[1, 1 + small, 1 + small, 3 + 3 * small, 1 + any, 65_535, 65_536])),
+    }
+}
+
+/// A plan of few predicates, so that its patterns are often found: the rows, and the variables of
+/// its largest pattern.
+pub fn random_query(rng: &mut Rng) -> (Vec<Row>, usize) {
+    let any = 1 + rng.below(8);
+    let count = rng.pick(&[1, 1, 1, 2, 2, 3, 3, 4, any]);
+    let most_vars = rng.pick(&[1, 2, 2, 3, 3, 4, 8]);
+    let (mut rows, mut largest, mut answers) = (vec![], 0, 0);
+    for i in 0..count {
+        // All rows together, operators too, are 63 at most.
+        let vars = (1 + rng.below(most_vars)).min(48 / count - 1).min(8);
+        let predicates = rng.pick(&[0, 1, 1, 1, 2, 3]).min(56 / count - 1 - vars);
+        largest = largest.max(vars);
+        rows.extend((0..vars).map(|_| voice(0)));
+        rows.extend((0..predicates).map(|_| small_predicate(rng, vars)));
+        rows.push(END);
+        answers += 1;
+        while answers > 1 && (i + 1 == count || rng.below(2) == 0) {
+            rows.push(rng.pick(&[BOTH, EITHER, EITHER, FIRST_NOT_SECOND]));
+            answers -= 1;
+        }
+    }
+    (rows, largest)
+}
+
+/// An archive and a plan over it.
+pub fn random_subject(rng: &mut Rng) -> Subject {
+    let (mut rows, largest) = random_query(rng);
+    let most = most_positions(rng, largest);
+    let archive = random_archive(rng, most);
+    // The variables go round the lists, or take any, or mostly one.
+    let (mut next, way) = (rng.below(archive.named.len()), rng.below(4));
+    let one = rng.pick(&archive.named);
+    for row in rows.iter_mut().filter(|row| row[0] == lihambozy::kind::VOICE) {
+        let any = rng.pick(&archive.named);
+        next += 1;
+        row[1] = match way {
+            0 => any,
+            1 => rng.pick(&[one, one, any]),
+            _ => archive.named[next % archive.named.len()],
+        };
+    }
+    Subject::new(&archive.lists.volume(), &rows.concat())
+}
+
+/// A number of words for a buffer: too few for a row, or as many as some rows have or nearly so.
+pub fn random_room(rng: &mut Rng, width: usize) -> usize {
+    let rows = width * (1 + rng.below(9));
+    let short = rng.below(width);
+    rng.pick(&[short, width, width, width + 1, 2 * width - 1, 2 * width, rows, rows + short])
+}
