@@ -3,7 +3,7 @@ use Prim.Native.Nat.{ℕ, _+_, _-_, _*_, _/_, _%_, _<_, _≤_}
 use mathlib.Core.Path.{_≡_}
 use mathlib.Core.Bool.{Bool, true, false, not, cond}
 use mathlib.Core.List.{List, [], _∷_}
-use lib.Dec.{eqb}
+use lib.Dec.{eqb, ltb}
 use lib.ListN.{length, getD, take}
 use Rattle.seq.specs.Lists.{total}
 use Rattle.seq.specs.Numbers.{firstFrom}
@@ -57,6 +57,11 @@ pub record Placed (v p : List ℕ) (d x at end : ℕ) : Type 0 where
 
 abbrev pub Cursors : List ℕ → List ℕ → ℕ → List ℕ → List ℕ → Type 0
 Cursors v p d ats ends = (x : ℕ) → x < sizes p .vars → Placed v p d x (getD ats x 0) (getD ends x 0)
+
+-- a plan has a SAME TITLE row
+unfoldable pub hasSamepara : List ℕ → Bool
+unfolding firstFrom
+hasSamepara p = ltb (firstFrom (λ i. eqb (kindAt p i) 4) 0 (rowCount p)) (rowCount p)
 
 -- 1 for yes, 0 for no
 abbrev pub flagOf : Bool → ℕ

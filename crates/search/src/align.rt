@@ -31,7 +31,10 @@ pub fn align(
             return 65536;
         }
         let here = volume::word_at(volume, at) / 65536;
-        if here == d {
+        if i == 0 {
+            d = here;
+            i = 1;
+        } else if here == d {
             i += 1;
         } else {
             d = here;

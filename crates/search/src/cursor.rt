@@ -30,13 +30,13 @@ fn lower_bound(volume: &[u8], from: usize, end: usize, target: u64) -> usize
     low
 }
 
-// The same, in steps that double from `from` on, so that a near index is found at once.
-pub fn gallop(volume: &[u8], from: usize, end: usize, target: u64) -> usize
-    requires { ⌜ Stretch (now volume) from end ⌝ }
+// The same, in steps that double from `first` on.
+fn leap(volume: &[u8], from: usize, end: usize, first: usize, target: u64) -> usize
+    requires { ⌜ Stretch (now volume) from end × (1 ≤ first) ⌝ }
     ensures { λ r. ⌜ r ≡ seekFrom (now (volume .entry)) target from end ⌝ }
 {
     let mut low = from;
-    let mut step: usize = 1;
+    let mut step = first;
     while step <= end - low {
         let probe = low + step - 1;
         if target <= volume::word_at(volume, probe) as u64 {
@@ -46,6 +46,22 @@ pub fn gallop(volume: &[u8], from: usize, end: usize, target: u64) -> usize
         step = step * 2;
     }
     lower_bound(volume, low, end, target)
+}
+
+// The same. Where the next eight words are of the list and of one block, those below target are
+// counted first, without a branch: most moves are short.
+pub fn gallop(volume: &[u8], from: usize, end: usize, target: u64) -> usize
+    requires { ⌜ Stretch (now volume) from end ⌝ }
+    ensures { λ r. ⌜ r ≡ seekFrom (now (volume .entry)) target from end ⌝ }
+{
+    if 8 <= end - from && from % 126 <= 118 && target < 4294967296 {
+        let passed = volume::below_in_window(volume, from, target as u32);
+        if passed < 8 {
+            return from + passed;
+        }
+        return leap(volume, from + 8, end, 8, target);
+    }
+    leap(volume, from, end, 1, target)
 }
 
 impl Cursor {

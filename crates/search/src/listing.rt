@@ -14,9 +14,11 @@ ghost use Rattle.search.specs.Walk.{LeastDoc, Walks};
 use super::answering::answer_of;
 use super::answers::Listed;
 use super::cursor::Cursor;
+use super::setup::has_samepara;
 use super::setup::lay_out;
 use super::setup::set_cursors;
 use super::setup::starts_of;
+use super::walk::bring_starts;
 use super::walk::fill_row;
 use super::walk::next_docs;
 use plan::Checked;
@@ -98,6 +100,7 @@ fn list_docs(
     let width = 1 + patterns + vars;
     let room = out.len() / width;
     let mut starts = starts_of(volume);
+    let paras = has_samepara(plan);
     let mut docs: [u32; 8] = [0; 8];
     let mut flags: [u32; 8] = [0; 8];
     let mut row: [u32; 64] = [0; 64];
@@ -121,7 +124,7 @@ fn list_docs(
             let passed = tally(volume, plan, vars, start, doc, firsts, ends);
             return Listed::Done(rows as u32, passed);
         }
-        starts = starts.seek(volume, doc);
+        starts = bring_starts(volume, starts, paras, doc);
         fill_row(
             volume,
             plan,

@@ -7,7 +7,7 @@ ghost use Rattle.volume.specs.Layout.{listCount};
 ghost use Rattle.volume.specs.Check as volumes;
 ghost use Rattle.plan.specs.Check.{Accepted, sizes};
 ghost use Rattle.search.specs.Cursors.{listCursor};
-ghost use Rattle.search.specs.Tables.{behindVoices, Tabled, cursorOn, Cursors};
+ghost use Rattle.search.specs.Tables.{behindVoices, Tabled, cursorOn, Cursors, hasSamepara};
 use super::cursor::Cursor;
 
 // The first row from row `from` on that is no VOICE; where there is none, the number of rows, or
@@ -105,4 +105,19 @@ pub fn starts_of(volume: &[u8]) -> Cursor
         at: span.start,
         end,
     }
+}
+
+// Whether a plan has a SAME TITLE row.
+pub fn has_samepara(plan: &[u32]) -> bool
+    ensures { λ r. ⌜ r ≡ hasSamepara (now (plan .entry)) ⌝ }
+{
+    let n = plan.len() / 4;
+    let mut i: usize = 0;
+    while i < n {
+        if plan[4 * i] == 4 {
+            return true;
+        }
+        i += 1;
+    }
+    false
 }

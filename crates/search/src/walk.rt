@@ -9,6 +9,7 @@ ghost use Rattle.plan.specs.Rows.{rowsOf};
 ghost use Rattle.plan.specs.Check.{sizes};
 ghost use Rattle.plan.specs.Accepted.{patternAt};
 ghost use Rattle.search.specs.Documents.{found, shownIn, rowIn};
+ghost use Rattle.search.specs.Cursors.{Stretch, listEnd, Stands};
 ghost use Rattle.search.specs.Tables.{flagOf, Flags};
 ghost use Rattle.search.specs.Settling.{Ready};
 ghost use Rattle.search.specs.Walk.{Candidate, Pending, Walks};
@@ -46,6 +47,17 @@ pub fn next_docs(
         docs[k] = align(volume, ats, ends, first, n, doc);
         k += 1;
     }
+}
+
+// A cursor on list 0 that has not passed a document, brought there if it is needed.
+pub fn bring_starts(volume: &[u8], starts: Cursor, needed: bool, doc: u32) -> Cursor
+    requires { ⌜ Stands (now volume) 0 doc (starts .at) × ((starts .end ≡ listEnd (now volume) 0) × Stretch (now volume) (starts .at) (starts .end)) ⌝ }
+    ensures { λ r. ⌜ Stands (now (volume .entry)) 0 doc (r .at) × (r .end ≡ listEnd (now (volume .entry)) 0) ⌝ }
+{
+    if !needed {
+        return starts;
+    }
+    starts.seek(volume, doc)
 }
 
 // What a row shows of pattern k in a document, from `to` on; `next` is the first document from there

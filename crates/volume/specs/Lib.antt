@@ -11,6 +11,7 @@
 --     Demands     the statements that the crate is held to
 --     Sums        the sums of a block by columns of eight bytes, for the contracts inside `src/checksum.rt`
 --     Falls       the falls of the stream, for the contracts inside `src/order.rt`
+--     Below       how many words of the stream are below a number, for the contract of `stream::below_in_window`
 pub mod Posting
 pub mod Bytes
 pub mod Checksum
@@ -23,3 +24,4 @@ pub mod Refusals
 pub mod Demands
 pub mod Sums
 pub mod Falls
+pub mod Below

@@ -2,8 +2,8 @@
 // `read_list` copies a list out of it, and `write` makes the volume of given lists.
 //
 // None of the three has a `requires`. What each one answers, and what it leaves in a lent buffer, is
-// an equation with a definition of `specs/`. `word_at` and `list_span` serve the crates above, on a
-// volume that they have checked.
+// an equation with a definition of `specs/`. `word_at`, `below_in_window` and `list_span` serve the
+// crates above, on a volume that they have checked.
 mod answers;
 mod block;
 mod bytes;
@@ -24,5 +24,6 @@ pub use posting::Posting;
 pub use reading::Span;
 pub use reading::list_span;
 pub use reading::read_list;
+pub use stream::below_in_window;
 pub use stream::word_at;
 pub use writing::write;

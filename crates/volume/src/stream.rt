@@ -1,9 +1,10 @@
 // The stream of a volume's words.
 ghost use mathlib.Core.Path.{_≡_};
-ghost use Prim.Native.Nat.{_+_, _*_, _-_, _<_, _≤_};
+ghost use Prim.Native.Nat.{_+_, _*_, _%_, _-_, _<_, _≤_};
 ghost use Rattle.seq.specs.Numbers.{firstFrom, sumTo};
 ghost use Rattle.volume.specs.Layout.{word, count, streamLength};
 ghost use Rattle.volume.specs.Check.{paddingWrong};
+ghost use Rattle.volume.specs.Below.{belowOf, belowCount};
 use super::bytes::read32;
 
 // Stream word i.
@@ -11,7 +12,29 @@ pub fn word_at(volume: &[u8], i: usize) -> u32
     requires { ⌜ i < streamLength (now volume) ⌝ }
     ensures { λ r. ⌜ r ≡ word (now (volume .entry)) i ⌝ }
 {
-    read32(volume, 512 * (i / 126) + 4 + 4 * (i % 126))
+    read32(volume, 4 * i + 8 * (i / 126) + 4)
+}
+
+// 1 where x is below y.
+fn below(x: u32, y: u32) -> usize
+    ensures { λ r. ⌜ (r ≡ belowOf x y) × (r ≤ 1) ⌝ }
+{
+    if x < y { 1 } else { 0 }
+}
+
+// How many of the eight words from stream index i on, all in one block, are below target.
+pub fn below_in_window(volume: &[u8], i: usize, target: u32) -> usize
+    requires { ⌜ (i % 126 ≤ 118) × (i + 8 ≤ streamLength (now volume)) ⌝ }
+    ensures { λ r. ⌜ (r ≡ belowCount (now (volume .entry)) target i 8) × (r ≤ 8) ⌝ }
+{
+    let from = 4 * i + 8 * (i / 126) + 4;
+    let mut n: usize = 0;
+    let mut j: usize = 0;
+    while j < 8 {
+        n += below(read32(volume, from + 4 * j), target);
+        j += 1;
+    }
+    n
 }
 
 // The sum of the first n counts.

@@ -3,11 +3,12 @@
 --     leap-first               before the first leap
 --     leap-stretch             the words that the next cursor seeks in
 --     leap-out, leap-here, leap-on     that cursor has leapt behind its list; into document d; into a later one
+--     leap-zero                the first cursor sets the document
 --     leap-done                all cursors are in the document
 -- Assumes nothing.
 use Prim.Native.Nat.{ℕ, _+_, _*_, _<_, _≤_}
 use native.Mathlib.Omega.{arith}
-use mathlib.Core.Path.{_≡_, refl, ap, _∙_}
+use mathlib.Core.Path.{_≡_, refl, ap, subst, _∙_}
 use mathlib.Core.Logic.{_⊎_, ⊎-elim, _≢_}
 use mathlib.Core.List.{List}
 use lib.ListN.{length, getD, set, length-set}
@@ -174,3 +175,19 @@ module _ (v ends olds : List ℕ) (first n doc : ℕ) where
         let late = leap-late a in
         let k : d < r = omega arith in
         (k, on-of ready d i (set ats (first + i) at) (leap-sought ready d i ats l h room at is) h r (rw same a) (rw same e) k b)
+
+    -- the first cursor sets the document
+    pub leap-zero : (r : ℕ) → i ≡ 0 → at < getD ends (first + i) 0 → docOf (word v at) ≡ r → r ≤ limit → (d ≤ r) × Leaping r 1 (set ats (first + i) at)
+    leap-zero r z a e b = ⊎-elim near far (same-or r d)
+      where
+        near : r ≡ d → (d ≤ r) × Leaping r 1 (set ats (first + i) at)
+        near q = let j : i + 1 ≡ 1 = omega arith in (omega arith, rw q (subst (λ (k : ℕ). Leaping d k (set ats (first + i) at)) j (leap-here a (e ∙ q))))
+
+        far : r ≢ d → (d ≤ r) × Leaping r 1 (set ats (first + i) at)
+        far q =
+            let o = leap-on r a e q b in
+            let k = o .0 in
+            let j : first + i ≡ first + 0 = omega arith in
+            let inside : getD (set ats (first + i) at) (first + 0) 0 < getD ends (first + 0) 0 = rw (← j, same) a in
+            let document : docOf (word v (getD (set ats (first + i) at) (first + 0) 0)) ≡ r = rw (← j, same) e in
+            (omega arith, here-of ready r 0 (set ats (first + i) at) (o .1) (omega arith) inside document)

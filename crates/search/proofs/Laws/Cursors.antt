@@ -3,17 +3,21 @@
 --     seek-at, seek-below        the word there is not below the target; those passed are
 --     seek-is                    the only such index
 --     Narrowed                   what a search by halves knows
+--     Galloped                   what a search in doubling steps knows
+--     window-hit, window-all     what the number of words below the target tells
 -- Assumes nothing.
-use Prim.Native.Nat.{ℕ, _+_, _-_, _<_, _≤_}
+use Prim.Native.Nat.{ℕ, zero, suc, _+_, _-_, _<_, _≤_}
 use native.Mathlib.Omega.{arith}
 use mathlib.Core.Path.{_≡_, refl, ap}
 use mathlib.Core.List.{List}
 use mathlib.Core.Logic.{_⊎_, ⊎-elim}
 use lib.Dec.{leb}
-use borrow.Author.Tests.{leb-true, leb-false}
+use borrow.Author.Tests.{leb-true, leb-false, lt-ltb, le-ltb}
+use Rattle.seq.specs.Numbers.{sumTo}
 use Rattle.seq.proofs.Laws.Numbers.{first-ge, first-le, first-at, first-before}
 use Rattle.seq.proofs.Laws.Tests.{below-or}
 use Rattle.volume.specs.Layout.{word}
+use Rattle.volume.specs.Below.{belowOf, belowCount}
 use Rattle.search.specs.declared.cursor.Cursor.{Cursor}
 use Rattle.search.specs.Cursors.{seekFrom, Stretch, sought, Forward}
 
@@ -109,6 +113,56 @@ module _ (v : List ℕ) (target i e : ℕ) (s : Stretch v i e) where
       let r = seekFrom v target low e in
       let q : seekFrom v target i e ≡ r = seek-is v target i e r (let f = g .from in let x = seek-ge v target low e in omega arith) (seek-le v target low e (g .to)) (λ j x y. ⊎-elim (λ (c : j < low). g .below j x c) (λ (c : low ≤ j). seek-below v target low e j c y) (below-or j low)) (λ l. seek-at v target low e (g .to) l) in
       omega arith
+
+-- numbers of which the first k are 1 and the rest 0
+sum-flags : (f : ℕ → ℕ) (k m : ℕ) → k ≤ m → ((j : ℕ) → j < k → f j ≡ 1) → ((j : ℕ) → k ≤ j → j < m → f j ≡ 0) → sumTo f m ≡ k
+unfolding sumTo
+sum-flags f k zero h ones zeros = omega arith
+sum-flags f k (suc m) h ones zeros = ⊎-elim
+    (λ (l : m < k).
+    let e = sum-flags f m m (omega arith) (λ j a. ones j (omega arith)) (λ j a b. absurd (let z : ⊥ = omega arith in z)) in
+    let o = ones m l in
+    omega arith)
+    (λ (l : k ≤ m).
+    let e = sum-flags f k m l ones (λ j a b. zeros j a (omega arith)) in
+    let z = zeros m l (omega arith) in
+    omega arith)
+    (below-or m k)
+
+-- the words below the target, of m that rise, are those in front of the sought index
+module _ (v : List ℕ) (target i e m : ℕ) (s : Stretch v i e) (h : i + m ≤ e) where
+  below-count : i + belowCount v target i m ≡ seekFrom v target i (i + m)
+  below-count =
+      let k = seekFrom v target i (i + m) - i in
+      let g = seek-ge v target i (i + m) in
+      let l = seek-le v target i (i + m) (omega arith) in
+      let q : belowCount v target i m ≡ k = sum-flags (λ (j : ℕ). belowOf (word v (i + j)) target) k m (omega arith) in-front behind in
+      omega arith
+    where
+      in-front : (j : ℕ) → j < seekFrom v target i (i + m) - i → belowOf (word v (i + j)) target ≡ 1
+      in-front j a = let w = seek-below v target i (i + m) (i + j) (omega arith) (omega arith) in rw (lt-ltb (word v (i + j)) target w)
+
+      behind : (j : ℕ) → seekFrom v target i (i + m) - i ≤ j → j < m → belowOf (word v (i + j)) target ≡ 0
+      behind j a b =
+          let k = seekFrom v target i (i + m) in
+          let g = seek-ge v target i (i + m) in
+          let w = seek-at v target i (i + m) (omega arith) (omega arith) in
+          let above : target ≤ word v (i + j) = ⊎-elim (λ (c : k < i + j). let r = s .rising k (i + j) g c (omega arith) in omega arith) (λ (c : i + j ≤ k). let d : i + j ≡ k = omega arith in rw d w) (below-or k (i + j)) in
+          rw (le-ltb (word v (i + j)) target above)
+
+  -- not all are below the target
+  pub window-hit : belowCount v target i m < m → i + belowCount v target i m ≡ seekFrom v target i e
+  window-hit a =
+      let c = below-count in
+      let k = seekFrom v target i (i + m) in
+      let q : seekFrom v target i e ≡ k = seek-is v target i e k (seek-ge v target i (i + m)) (omega arith) (seek-below v target i (i + m)) (λ l. seek-at v target i (i + m) (omega arith) (omega arith)) in
+      omega arith
+
+  -- all are
+  pub window-all : m ≤ belowCount v target i m → Galloped v target i e (i + m)
+  window-all a =
+      let c = below-count in
+      record { from = omega arith; to = h; below = λ j x y. seek-below v target i (i + m) j x (omega arith) }
 
 -- a cursor set to a sought index is the sought cursor, and has moved forward only
 pub sought-is : (v : List ℕ) (target : ℕ) (c : Cursor) (i : ℕ) → i ≡ seekFrom v target (c .at) (c .end) → (record { at = i; end = c .end } ≡ sought v target c) × Forward c (record { at = i; end = c .end })

@@ -254,3 +254,7 @@ visit-room v p table ends w start out₀ out d rows a b x y g less =
 -- the words of the rows are few
 pub visit-words : (n w : ℕ) → n ≤ 65536 → w ≤ 59 → n * w ≤ 3866624
 visit-words n w h l = let a = mul-le-mul-right w h in let b = mul-le-mul-left 65536 l in omega arith
+
+-- a cursor that has passed documents below one alone has passed those below a later one alone
+pub visit-later : (v : List ℕ) (l from doc i : ℕ) → from ≤ doc → Stands v l from i → Stands v l doc i
+visit-later v l from doc i h s = record { from = s .from; to = s .to; behind = λ j a b. let t = s .behind j a b in omega arith }

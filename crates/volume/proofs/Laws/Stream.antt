@@ -1,8 +1,9 @@
 -- Where the words of the stream stand, and what stands behind them. No contract cites this file.
 --     offset-in-block, word-in-block    word i of block k
+--     offset-is, word-near              word i by one division, and the words behind it in its block
 --     word-behind                       behind the last block stand zeros
 -- Assumes nothing.
-use Prim.Native.Nat.{ℕ, _+_, _*_, _<_, _≤_}
+use Prim.Native.Nat.{ℕ, _+_, _*_, _/_, _%_, _<_, _≤_}
 use native.Mathlib.Omega.{arith}
 use mathlib.Core.Path.{_≡_, ap}
 use mathlib.Core.List.{List}
@@ -18,6 +19,14 @@ offset-in-block k i h = omega arith
 pub word-in-block : (v : List ℕ) (k i : ℕ) → i < 126 → word v (126 * k + i) ≡ le32 v (512 * k + 4 + 4 * i)
 unfolding word
 word-in-block v k i h = ap (le32 v) (offset-in-block k i h)
+
+pub offset-is : (i : ℕ) → offset i ≡ 4 * i + 8 * (i / 126) + 4
+unfolding offset
+offset-is i = omega arith
+
+pub word-near : (v : List ℕ) (i j : ℕ) → i % 126 + j < 126 → word v (i + j) ≡ le32 v (4 * i + 8 * (i / 126) + 4 + 4 * j)
+unfolding word
+word-near v i j h = let e = offset-is (i + j) in let q : offset (i + j) ≡ 4 * i + 8 * (i / 126) + 4 + 4 * j = omega arith in ap (le32 v) q
 
 offset-behind : (n i : ℕ) → 126 * n ≤ i → 512 * n ≤ offset i
 unfolding offset

@@ -8,7 +8,7 @@ use lib.ListN.{getD, length-set}
 use denote.Ref.{now}
 use Rattle.search.specs.declared.cursor.Cursor.{Cursor}
 use Rattle.search.specs.Cursors.{seekFrom}
-use Rattle.search.proofs.Laws.Align.{Leaping, leap-first, leap-stretch, leap-out, leap-here, leap-on, leap-done}
+use Rattle.search.proofs.Laws.Align.{Leaping, leap-first, leap-stretch, leap-out, leap-here, leap-on, leap-zero, leap-done}
 
 abbrev Inv-loop : tie.InvT-loop
 Inv-loop volume ats₀ ends first n doc d₀ i₀ ats d i = Leaping volume ends ats₀ first n doc d i ats
@@ -21,100 +21,96 @@ at-is : (c : tie.After-seek Inv-loop μ-loop)
     → c .seek .result .at ≡ seekFrom (now (c .before .before .before .before .before .before .before .before .args .volume)) (c .before .before .before .before .loop .d * 65536) (getD (c .before .before .before .before .loop .ats) (c .before .before .before .before .before .before .before .before .args .first + c .before .before .before .before .loop .i) 0) (getD (now (c .before .before .before .before .before .before .before .before .args .ends)) (c .before .before .before .before .before .before .before .before .args .first + c .before .before .before .before .loop .i) 0)
 at-is c = ap (λ (r : Cursor). r .at) (c .seek .ensures .0)
 
--- src/align.rt:16:5
+-- src/align.rt:23:5
 loop-holds : tie.Need-loop-holds Inv-loop μ-loop
 loop-holds c = let p = c .before .before .before .pre .1 .1 .1 .1 in leap-first _ _ _ _ _ _ (omega arith) (p .1)
 
--- src/align.rt:17:17
+-- src/align.rt:24:17
 add-x : tie.Need-add-x Inv-loop μ-loop
 add-x c = omega arith
 
--- src/align.rt:18:19
+-- src/align.rt:25:19
 mul-end : tie.Need-mul-end Inv-loop μ-loop
 mul-end c = omega arith
 
--- src/align.rt:18:19
+-- src/align.rt:25:19
 shared-slice-read-end : tie.Need-shared-slice-read-end Inv-loop μ-loop
 shared-slice-read-end c = omega arith
 
--- src/align.rt:19:35
+-- src/align.rt:26:35
 mul-t16 : tie.Need-mul-t16 Inv-loop μ-loop
 mul-t16 c = omega arith
 
--- src/align.rt:19:35
+-- src/align.rt:26:35
 slice-read-t18 : tie.Need-slice-read-t18 Inv-loop μ-loop
 slice-read-t18 c = let l = c .before .before .before .loop .inv .same-length in omega arith
 
--- src/align.rt:20:13
+-- src/align.rt:27:13
 seek-requires : tie.Need-seek-requires Inv-loop μ-loop
-seek-requires c κs = let a = c .before .before .before .before .before .before .before in
-    let l = c .before .before .before .loop in
-    let s = l .inv .same-length in
-    leap-stretch _ _ _ _ _ _ (a .pre .1 .1 .1 .1 .1) (l .d) (l .i) (l .ats) (l .inv) (c .before .before .loop-test .taken) (omega arith)
+seek-requires c κs = let s = c .before .before .before .loop .inv .same-length in leap-stretch _ _ _ _ _ _ (c .before .before .before .before .before .before .before .pre .1 .1 .1 .1 .1) (c .before .before .before .loop .d) (c .before .before .before .loop .i) (c .before .before .before .loop .ats) (c .before .before .before .loop .inv) (c .before .before .loop-test .taken) (omega arith)
 
--- src/align.rt:22:9
+-- src/align.rt:29:9
 mul-ats : tie.Need-mul-ats Inv-loop μ-loop
 mul-ats c = omega arith
 
--- src/align.rt:22:9
+-- src/align.rt:29:9
 slice-write-ats : tie.Need-slice-write-ats Inv-loop μ-loop
 slice-write-ats c = let l = c .before .before .before .before .loop .inv .same-length in omega arith
 
--- src/align.rt:24:13
+-- src/align.rt:31:13
 same-length : tie.Need-same-length Inv-loop μ-loop
 same-length c = length-set (c .before .before .before .before .before .loop .ats) _ _ ∙ c .before .before .before .before .before .loop .inv .same-length
 
--- src/align.rt:24:13
+-- src/align.rt:31:13
 returns : tie.Need-returns Inv-loop μ-loop
-returns c = let a = c .before .before .before .before .before .before .before .before .before in
-    let l = c .before .before .before .before .before .loop in
-    let s = l .inv .same-length in
-    leap-out _ _ _ _ _ _ (a .pre .1 .1 .1 .1 .1) (l .d) (l .i) (l .ats) (l .inv) (c .before .before .before .before .loop-test .taken) (omega arith) (c .before .seek .result .at) (at-is (c .before)) (c .if1 .taken)
+returns c = let s = c .before .before .before .before .before .loop .inv .same-length in leap-out _ _ _ _ _ _ (c .before .before .before .before .before .before .before .before .before .pre .1 .1 .1 .1 .1) (c .before .before .before .before .before .loop .d) (c .before .before .before .before .before .loop .i) (c .before .before .before .before .before .loop .ats) (c .before .before .before .before .before .loop .inv) (c .before .before .before .before .loop-test .taken) (omega arith) (c .before .seek .result .at) (at-is (c .before)) (c .if1 .taken)
 
--- src/align.rt:26:20
+-- src/align.rt:33:20
 word-at-requires : tie.Need-word-at-requires Inv-loop μ-loop
-word-at-requires c κs = let a = c .before .before .before .before .before .before .before .before .before in
-    let l = c .before .before .before .before .before .loop in
-    let s = l .inv .same-length in
-    let w = leap-stretch _ _ _ _ _ _ (a .pre .1 .1 .1 .1 .1) (l .d) (l .i) (l .ats) (l .inv) (c .before .before .before .before .loop-test .taken) (omega arith) in
-    let b = w .within in
+word-at-requires c κs = let s = c .before .before .before .before .before .loop .inv .same-length in
+    let b = leap-stretch _ _ _ _ _ _ (c .before .before .before .before .before .before .before .before .before .pre .1 .1 .1 .1 .1) (c .before .before .before .before .before .loop .d) (c .before .before .before .before .before .loop .i) (c .before .before .before .before .before .loop .ats) (c .before .before .before .before .before .loop .inv) (c .before .before .before .before .loop-test .taken) (omega arith) .within in
     let i = c .if1 .left in
     omega arith
 
--- src/align.rt:28:13
+-- src/align.rt:23:5
+loop-less : tie.Need-loop-less Inv-loop μ-loop
+loop-less c = let s = c .before .before .before .before .before .before .before .loop .inv .same-length in
+    let w = c .before .word-at .ensures in
+    let k = leap-zero _ _ _ _ _ _ (c .before .before .before .before .before .before .before .before .before .before .before .pre .1 .1 .1 .1 .1) (c .before .before .before .before .before .before .before .loop .d) (c .before .before .before .before .before .before .before .loop .i) (c .before .before .before .before .before .before .before .loop .ats) (c .before .before .before .before .before .before .before .loop .inv) (c .before .before .before .before .before .before .loop-test .taken) (omega arith) (c .before .before .before .seek .result .at) (at-is (c .before .before .before)) (c .before .word-at .result / 65536) (c .if2 .taken) (c .before .before .if1 .left) (omega arith) (omega arith) .0 in
+    omega arith
+
+-- src/align.rt:23:5
+loop-again : tie.Need-loop-again Inv-loop μ-loop
+loop-again c = let s = c .before .before .before .before .before .before .before .loop .inv .same-length in
+    let w = c .before .word-at .ensures in
+    leap-zero _ _ _ _ _ _ (c .before .before .before .before .before .before .before .before .before .before .before .pre .1 .1 .1 .1 .1) (c .before .before .before .before .before .before .before .loop .d) (c .before .before .before .before .before .before .before .loop .i) (c .before .before .before .before .before .before .before .loop .ats) (c .before .before .before .before .before .before .before .loop .inv) (c .before .before .before .before .before .before .loop-test .taken) (omega arith) (c .before .before .before .seek .result .at) (at-is (c .before .before .before)) (c .before .word-at .result / 65536) (c .if2 .taken) (c .before .before .if1 .left) (omega arith) (omega arith) .1
+
+-- src/align.rt:38:13
 add-i : tie.Need-add-i Inv-loop μ-loop
 add-i c = omega arith
 
--- src/align.rt:16:5
-loop-less : tie.Need-loop-less Inv-loop μ-loop
-loop-less c = omega arith
-
--- src/align.rt:16:5
-loop-again : tie.Need-loop-again Inv-loop μ-loop
-loop-again c = let a = c .before .before .before .before .before .before .before .before .before .before .before in
-    let l = c .before .before .before .before .before .before .before .loop in
-    let s = l .inv .same-length in
-    let w = c .before .word-at .ensures in
-    leap-here _ _ _ _ _ _ (a .pre .1 .1 .1 .1 .1) (l .d) (l .i) (l .ats) (l .inv) (c .before .before .before .before .before .before .loop-test .taken) (omega arith) (c .before .before .before .seek .result .at) (at-is (c .before .before .before)) (c .before .before .if1 .left) (omega arith)
-
--- src/align.rt:16:5
+-- src/align.rt:23:5
 loop-less-2 : tie.Need-loop-less-2 Inv-loop μ-loop
-loop-less-2 c = let a = c .before .before .before .before .before .before .before .before .before .before .before in
-    let l = c .before .before .before .before .before .before .before .loop in
-    let s = l .inv .same-length in
-    let w = c .before .word-at .ensures in
-    let o = leap-on _ _ _ _ _ _ (a .pre .1 .1 .1 .1 .1) (l .d) (l .i) (l .ats) (l .inv) (c .before .before .before .before .before .before .loop-test .taken) (omega arith) (c .before .before .before .seek .result .at) (at-is (c .before .before .before)) (c .before .word-at .result / 65536) (c .before .before .if1 .left) (omega arith) (c .if2 .left) (omega arith) in
-    let k = o .0 in
+loop-less-2 c = omega arith
+
+-- src/align.rt:23:5
+loop-again-2 : tie.Need-loop-again-2 Inv-loop μ-loop
+loop-again-2 c = let s = c .before .before .before .before .before .before .before .before .loop .inv .same-length in
+    let w = c .before .before .word-at .ensures in
+    leap-here _ _ _ _ _ _ (c .before .before .before .before .before .before .before .before .before .before .before .before .pre .1 .1 .1 .1 .1) (c .before .before .before .before .before .before .before .before .loop .d) (c .before .before .before .before .before .before .before .before .loop .i) (c .before .before .before .before .before .before .before .before .loop .ats) (c .before .before .before .before .before .before .before .before .loop .inv) (c .before .before .before .before .before .before .before .loop-test .taken) (omega arith) (c .before .before .before .before .seek .result .at) (at-is (c .before .before .before .before)) (c .before .before .before .if1 .left) (omega arith)
+
+-- src/align.rt:23:5
+loop-less-3 : tie.Need-loop-less-3 Inv-loop μ-loop
+loop-less-3 c = let s = c .before .before .before .before .before .before .before .before .loop .inv .same-length in
+    let w = c .before .before .word-at .ensures in
+    let k = leap-on _ _ _ _ _ _ (c .before .before .before .before .before .before .before .before .before .before .before .before .pre .1 .1 .1 .1 .1) (c .before .before .before .before .before .before .before .before .loop .d) (c .before .before .before .before .before .before .before .before .loop .i) (c .before .before .before .before .before .before .before .before .loop .ats) (c .before .before .before .before .before .before .before .before .loop .inv) (c .before .before .before .before .before .before .before .loop-test .taken) (omega arith) (c .before .before .before .before .seek .result .at) (at-is (c .before .before .before .before)) (c .before .before .word-at .result / 65536) (c .before .before .before .if1 .left) (omega arith) (c .if3 .left) (omega arith) .0 in
     omega arith
 
--- src/align.rt:16:5
-loop-again-2 : tie.Need-loop-again-2 Inv-loop μ-loop
-loop-again-2 c = let a = c .before .before .before .before .before .before .before .before .before .before .before in
-    let l = c .before .before .before .before .before .before .before .loop in
-    let s = l .inv .same-length in
-    let w = c .before .word-at .ensures in
-    let o = leap-on _ _ _ _ _ _ (a .pre .1 .1 .1 .1 .1) (l .d) (l .i) (l .ats) (l .inv) (c .before .before .before .before .before .before .loop-test .taken) (omega arith) (c .before .before .before .seek .result .at) (at-is (c .before .before .before)) (c .before .word-at .result / 65536) (c .before .before .if1 .left) (omega arith) (c .if2 .left) (omega arith) in
-    o .1
+-- src/align.rt:23:5
+loop-again-3 : tie.Need-loop-again-3 Inv-loop μ-loop
+loop-again-3 c = let s = c .before .before .before .before .before .before .before .before .loop .inv .same-length in
+    let w = c .before .before .word-at .ensures in
+    leap-on _ _ _ _ _ _ (c .before .before .before .before .before .before .before .before .before .before .before .before .pre .1 .1 .1 .1 .1) (c .before .before .before .before .before .before .before .before .loop .d) (c .before .before .before .before .before .before .before .before .loop .i) (c .before .before .before .before .before .before .before .before .loop .ats) (c .before .before .before .before .before .before .before .before .loop .inv) (c .before .before .before .before .before .before .before .loop-test .taken) (omega arith) (c .before .before .before .before .seek .result .at) (at-is (c .before .before .before .before)) (c .before .before .word-at .result / 65536) (c .before .before .before .if1 .left) (omega arith) (c .if3 .left) (omega arith) .1
 
 -- src/align.rt:10:1
 same-length-2 : tie.Need-same-length-2 Inv-loop μ-loop
@@ -122,11 +118,11 @@ same-length-2 c = c .before .loop .inv .same-length
 
 -- src/align.rt:10:1
 returns-2 : tie.Need-returns-2 Inv-loop μ-loop
-returns-2 c = let a = c .before .before .before .before .before in
+returns-2 c = let a = c .before .before .before .before .before .args in
     let l = c .before .loop in
     let m = l .inv .most in
-    let e : l .i ≡ a .args .n = omega arith in
-    leap-done _ _ _ _ _ _ (l .d) (l .ats) (subst (λ (j : ℕ). Leaping (now (a .args .volume)) (now (a .args .ends)) (now (a .args .ats)) (a .args .first) (a .args .n) (a .args .doc) (l .d) j (l .ats)) e (l .inv))
+    let e : l .i ≡ a .n = omega arith in
+    leap-done _ _ _ _ _ _ (l .d) (l .ats) (subst (λ (j : ℕ). Leaping (now (a .volume)) (now (a .ends)) (now (a .ats)) (a .first) (a .n) (a .doc) (l .d) j (l .ats)) e (l .inv))
 
 pub align-spec : {M : Type 1} → statement M
 align-spec =
@@ -146,10 +142,12 @@ align-spec =
     same-length
     returns
     word-at-requires
-    add-i
     loop-less
     loop-again
+    add-i
     loop-less-2
     loop-again-2
+    loop-less-3
+    loop-again-3
     same-length-2
     returns-2)

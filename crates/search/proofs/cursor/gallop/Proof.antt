@@ -1,95 +1,66 @@
--- The search in doubling steps: words in front of `low` are below the target. The measure is what lies behind `low`.
+-- The window: those of the next eight words that are below the target are counted; where all eight are, the search goes on behind them.
 use Rattle.search.proofs.cursor.gallop.Statement.{statement}
 use Rattle.search.proofs.cursor.gallop.Tie as tie
-use Prim.Native.Nat.{_-_, _≤_}
+use Prim.Native.Nat.{_+_, _<_, _≤_}
 use native.Mathlib.Omega.{arith}
-use mathlib.Core.Path.{_∙_}
-use Rattle.search.proofs.Laws.Cursors.{Galloped, galloped-first, galloped-next, galloped-hit, galloped-end, stretch-within}
+use borrow.Author.Needs.{needs}
+use mathlib.Core.Path.{_≡_, _∙_}
+use denote.Ref.{now}
+use Rattle.volume.specs.Below.{belowCount}
+use Rattle.search.proofs.Laws.Cursors.{galloped-end, stretch-within, window-hit, window-all}
 
-abbrev Inv-loop : tie.InvT-loop
-Inv-loop volume from end target low₀ step₀ low step = Galloped volume target from end low × (1 ≤ step)
+sub-if1 : tie.Need-sub-if1
+sub-if1 c = let o = c .before .pre .order in omega arith
 
-abbrev μ-loop : tie.MeasureT-loop
-μ-loop volume from end target low₀ step₀ low step = end - low
+cast-below-in-window : tie.Need-cast-below-in-window
+cast-below-in-window c = search needs
 
--- src/cursor.rt:40:5
-loop-holds : tie.Need-loop-holds Inv-loop μ-loop
-loop-holds c = (galloped-first _ _ _ _ (c .before .pre), omega arith)
+below-in-window-requires : tie.Need-below-in-window-requires
+below-in-window-requires c κs = search needs
 
--- src/cursor.rt:40:19
-sub-loop : tie.Need-sub-loop Inv-loop μ-loop
-sub-loop c = omega arith
+add-result : tie.Need-add-result
+add-result c = let w = c .before .before .before .before .before .before .pre .within in omega arith
 
--- src/cursor.rt:41:21
-add-probe : tie.Need-add-probe Inv-loop μ-loop
-add-probe c = omega arith
+returns : tie.Need-returns
+returns c =
+    let p = c .before .before .before .before .before .before in
+    let n = c .before .below-in-window .ensures .0 in
+    let few : belowCount (now (p .args .volume)) (p .args .target) (p .args .from) 8 < 8 = omega arith in
+    let hit = window-hit (now (p .args .volume)) (p .args .target) (p .args .from) (p .args .end) 8 (p .pre) (omega arith) few in
+    omega arith
 
--- src/cursor.rt:41:21
-sub-probe : tie.Need-sub-probe Inv-loop μ-loop
-sub-probe c = omega arith
+add-leap : tie.Need-add-leap
+add-leap c = let w = c .before .before .before .before .before .before .pre .within in omega arith
 
--- src/cursor.rt:42:22
-word-at-requires : tie.Need-word-at-requires Inv-loop μ-loop
-word-at-requires c κs = let w = c .before .before .before .pre .within in omega arith
+leap-requires : tie.Need-leap-requires
+leap-requires c κs =
+    let p = c .before .before .before .before .before .before in
+    (stretch-within _ _ _ _ _ (p .pre) (omega arith) (omega arith) (omega arith), omega arith)
 
--- src/cursor.rt:42:22
-cast-if1 : tie.Need-cast-if1 Inv-loop μ-loop
-cast-if1 c = omega arith
+returns-2 : tie.Need-returns-2
+returns-2 c =
+    let p = c .before .before .before .before .before .before .before in
+    let n = c .before .before .below-in-window .ensures .0 in
+    let most : 8 ≤ belowCount (now (p .args .volume)) (p .args .target) (p .args .from) 8 = omega arith in
+    c .leap .ensures ∙ galloped-end _ _ _ _ (p .pre) _ (window-all _ _ _ _ 8 (p .pre) (omega arith) most)
 
--- src/cursor.rt:43:13
-lower-bound-requires : tie.Need-lower-bound-requires Inv-loop μ-loop
-lower-bound-requires c κs = let g = c .before .before .before .loop .inv .0 in
-    stretch-within _ _ _ _ _ (c .before .before .before .before .before .pre) (g .from) (omega arith) (omega arith)
+leap-requires-2 : tie.Need-leap-requires-2
+leap-requires-2 c κs = (c .before .before .pre, omega arith)
 
--- src/cursor.rt:43:13
-returns : tie.Need-returns Inv-loop μ-loop
-returns c = let g = c .before .before .before .before .loop .inv .0 in
-    let e = c .before .before .word-at .ensures in
-    c .lower-bound .ensures ∙ galloped-hit _ _ _ _ (c .before .before .before .before .before .before .pre) _ _ g (omega arith) (omega arith) (omega arith)
-
--- src/cursor.rt:45:15
-add-low : tie.Need-add-low Inv-loop μ-loop
-add-low c = omega arith
-
--- src/cursor.rt:46:16
-mul-step : tie.Need-mul-step Inv-loop μ-loop
-mul-step c = let w = c .before .before .before .before .before .pre .within in omega arith
-
--- src/cursor.rt:40:5
-loop-less : tie.Need-loop-less Inv-loop μ-loop
-loop-less c = omega arith
-
--- src/cursor.rt:40:5
-loop-again : tie.Need-loop-again Inv-loop μ-loop
-loop-again c = let g = c .before .before .before .loop .inv .0 in
-    let e = c .before .word-at .ensures in
-    (galloped-next _ _ _ _ (c .before .before .before .before .before .pre) _ _ g (omega arith) (omega arith) (omega arith), omega arith)
-
--- src/cursor.rt:48:5
-lower-bound-requires-2 : tie.Need-lower-bound-requires-2 Inv-loop μ-loop
-lower-bound-requires-2 c κs = let g = c .before .loop .inv .0 in stretch-within _ _ _ _ _ (c .before .before .before .pre) (g .from) (g .to) (omega arith)
-
--- src/cursor.rt:34:1
-returns-2 : tie.Need-returns-2 Inv-loop μ-loop
-returns-2 c = c .lower-bound2 .ensures ∙ galloped-end _ _ _ _ (c .before .before .before .before .pre) _ (c .before .before .loop .inv .0)
+returns-3 : tie.Need-returns-3
+returns-3 c = c .leap2 .ensures
 
 pub gallop-spec : {M : Type 1} → statement M
 gallop-spec =
     tie.close
     (tie.spec
-    Inv-loop
-    μ-loop
-    loop-holds
-    sub-loop
-    add-probe
-    sub-probe
-    word-at-requires
-    cast-if1
-    lower-bound-requires
+    sub-if1
+    cast-below-in-window
+    below-in-window-requires
+    add-result
     returns
-    add-low
-    mul-step
-    loop-less
-    loop-again
-    lower-bound-requires-2
-    returns-2)
+    add-leap
+    leap-requires
+    returns-2
+    leap-requires-2
+    returns-3)
