@@ -24,6 +24,13 @@
 --     Align          how the cursors of a pattern leap to one document
 --     Settling       how the variables of a pattern come to its least match in a document
 --     Matching       the same, predicate by predicate
+--     Settled        a pattern that stands in a document, from its table and cursors to what is shown of it
+--     Testing        what `src/testing.rt` keeps from variable to variable and from row to row
+--     Walk           how each pattern is brought to the next document in which it can be found
+--     Filling        a row that is filled pattern by pattern
+--     Tally          the postings passed, variable by variable
+--     Visits         the listing loop, document by document
+--     Cases          the starred cases
 pub mod Positions
 pub mod Needs
 pub mod Least
@@ -54,7 +61,7 @@ pub mod Matching
 pub mod Settled
 pub mod Testing
 pub mod Walk
-pub mod Tally
 pub mod Filling
-pub mod Cases
+pub mod Tally
 pub mod Visits
+pub mod Cases

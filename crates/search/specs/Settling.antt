@@ -15,6 +15,7 @@ use Rattle.search.specs.Calculus.{at}
 use Rattle.search.specs.Matches.{matchesAt}
 use Rattle.search.specs.declared.cursor.Cursor.{Cursor}
 use Rattle.search.specs.Cursors.{seekFrom, listEnd, Stands}
+use Rattle.search.specs.Shortfall.{InDocument}
 use Rattle.search.specs.Tables.{Entry, Tabled}
 use Rattle.search.specs.Walk.{Candidate}
 
@@ -70,3 +71,13 @@ pub record Ready (v p table ats ends : List ℕ) (k d r : ℕ) (starts : Cursor)
   pub starts-end : starts .end ≡ listEnd v 0
   pub doc : d ≤ 65535
   pub candidate : Candidate v p ats ends k d r
+
+-- positions for the variables of pattern k of an accepted plan, in document d; `table` is the plan's
+pub record Asked (v p table : List ℕ) (k d : ℕ) (ps : List ℕ) : Type 0 where
+  pub accepted : Accepted v p
+  pub there : k < sizes p .patterns
+  pub tabled : Tabled p table
+  pub room : 4 * sizes p .patterns ≤ length table
+  pub number : length ps ≡ length (patternAt p k .vars)
+  pub doc-small : d ≤ 65535
+  pub small : InDocument ps

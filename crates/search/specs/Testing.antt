@@ -1,6 +1,5 @@
 -- Testing given positions of a pattern. Assumes nothing.
-use Prim.Native.Nat.{ℕ, _*_, _<_, _≤_}
-use mathlib.Core.Path.{_≡_}
+use Prim.Native.Nat.{ℕ}
 use mathlib.Core.Bool.{Bool, not, cond, _||_}
 use mathlib.Core.List.{List}
 use lib.ListN.{length}
@@ -9,12 +8,10 @@ use Rattle.seq.specs.Lists.{all}
 use Rattle.seq.specs.Refusals.{Said, refused, answered}
 use Rattle.volume.specs.Layout.{listsOf}
 use Rattle.plan.specs.Answers.{Sizes}
-use Rattle.plan.specs.Check.{verdict, Accepted, sizes}
+use Rattle.plan.specs.Check.{verdict}
 use Rattle.plan.specs.Patterns.{Pattern}
 use Rattle.plan.specs.Accepted.{patternAt}
 use Rattle.search.specs.Matches.{matchesAt}
-use Rattle.search.specs.Shortfall.{InDocument}
-use Rattle.search.specs.Tables.{Tabled}
 
 -- 17: pattern k is not below F, the number of positions is not that of the pattern's variables, or the document or a position is over 65,535
 unfoldable pub outOfRange : ℕ → ℕ → Pattern → ℕ → List ℕ → Bool
@@ -29,13 +26,3 @@ testBy (answered s) k f d ps b = cond (outOfRange (s .patterns) k f d ps) (refus
 -- the answer to testing positions of pattern k in document d
 unfoldable pub testAnswer : List ℕ → List ℕ → ℕ → ℕ → List ℕ → Said Bool
 testAnswer v p k d ps = testBy (verdict v p) k (patternAt p k) d ps (matchesAt (listsOf v) d (patternAt p k) ps)
-
--- positions for the variables of pattern k of an accepted plan, in document d; `table` is the plan's
-pub record Asked (v p table : List ℕ) (k d : ℕ) (ps : List ℕ) : Type 0 where
-  pub accepted : Accepted v p
-  pub there : k < sizes p .patterns
-  pub tabled : Tabled p table
-  pub room : 4 * sizes p .patterns ≤ length table
-  pub number : length ps ≡ length (patternAt p k .vars)
-  pub doc-small : d ≤ 65535
-  pub small : InDocument ps

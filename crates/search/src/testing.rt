@@ -17,7 +17,8 @@ ghost use Rattle.search.specs.Matches.{holds, allHold, fits, startsIn, v
 ghost use Rattle.search.specs.Shortfall.{InDocument};
 ghost use Rattle.search.specs.Cursors.{listEnd, Stands};
 ghost use Rattle.search.specs.Answers.{saidTested};
-ghost use Rattle.search.specs.Testing.{Asked, testAnswer};
+ghost use Rattle.search.specs.Testing.{testAnswer};
+ghost use Rattle.search.specs.Settling.{Asked};
 use super::answers::Tested;
 use super::cursor::Cursor;
 use super::cursor::gallop;

@@ -47,7 +47,8 @@ use Rattle.search.specs.Matches.{holds, allHold, fits, startsIn, varsIn,
 use Rattle.search.specs.Shortfall.{InDocument, LeftShort}
 use Rattle.search.specs.Cursors.{seekFrom, Stretch, listEnd, listCursor, Stands}
 use Rattle.search.specs.Tables.{varAt}
-use Rattle.search.specs.Testing.{outOfRange, testBy, testAnswer, Asked}
+use Rattle.search.specs.Testing.{outOfRange, testBy, testAnswer}
+use Rattle.search.specs.Settling.{Asked}
 use Rattle.search.proofs.Laws.Positions.{positions-hold}
 use Rattle.search.proofs.Laws.Least.{fits-iff, allHold-iff}
 use Rattle.search.proofs.Laws.Cursors.{seek-ge, seek-le, seek-at, seek-below}
