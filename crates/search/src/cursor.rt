@@ -48,13 +48,16 @@ fn leap(volume: &[u8], from: usize, end: usize, first: usize, target: u64) -> us
     lower_bound(volume, low, end, target)
 }
 
-// The same. Where the next eight words are of the list and of one block, those below target are
-// counted first, without a branch: most moves are short.
+// The same. Where the next eight words are of the list and of one block, the first is tried, and
+// then those below target are counted without a branch: most moves are short.
 pub fn gallop(volume: &[u8], from: usize, end: usize, target: u64) -> usize
     requires { ⌜ Stretch (now volume) from end ⌝ }
     ensures { λ r. ⌜ r ≡ seekFrom (now (volume .entry)) target from end ⌝ }
 {
     if 8 <= end - from && from % 126 <= 118 && target < 4294967296 {
+        if target <= volume::word_at(volume, from) as u64 {
+            return from;
+        }
         let passed = volume::below_in_window(volume, from, target as u32);
         if passed < 8 {
             return from + passed;

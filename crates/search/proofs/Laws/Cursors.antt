@@ -2,6 +2,7 @@
 --     seek-ge, seek-le           a sought index is not in front of where it was, nor behind the end
 --     seek-at, seek-below        the word there is not below the target; those passed are
 --     seek-is                    the only such index
+--     seek-here                  where the first word is not below the target
 --     Narrowed                   what a search by halves knows
 --     Galloped                   what a search in doubling steps knows
 --     window-hit, window-all     what the number of words below the target tells
@@ -46,6 +47,9 @@ module _ (v : List ℕ) (target i e : ℕ) where
 
       late : k < seekFrom v target i e → seekFrom v target i e ≡ k
       late a = let x = seek-below k h a in let m = seek-le (omega arith) in let y = here (omega arith) in absurd (let z : ⊥ = omega arith in z)
+
+  pub seek-here : i ≤ e → target ≤ word v i → i ≡ seekFrom v target i e
+  seek-here h w = let q : seekFrom v target i e ≡ i = seek-is i (omega arith) h (λ j a b. absurd (let z : ⊥ = omega arith in z)) (λ l. w) in omega arith
 
   -- where a search by halves stands: words in front of low are below the target, those from high on are not
   pub record Narrowed (low high : ℕ) : Type 0 where
