@@ -1,9 +1,10 @@
 -- The walk over the documents: where the cursors of a pattern stand, and what is known of the documents that they have passed. Assumes nothing.
 use Prim.Native.Nat.{ℕ, _+_, _*_, _<_, _≤_}
 use mathlib.Core.Path.{_≡_}
-use mathlib.Core.Bool.{Bool, true, false}
+use mathlib.Core.Bool.{Bool, true, false, cond}
 use mathlib.Core.Logic.{_⊎_}
 use mathlib.Core.List.{List}
+use lib.Dec.{eqb}
 use lib.ListN.{length, getD}
 use Rattle.volume.specs.Posting.{docOf}
 use Rattle.volume.specs.Layout.{word, listsOf}
@@ -17,6 +18,10 @@ use Rattle.search.specs.Tables.{varsBefore, Tabled, varAt}
 -- x is one of n variables from `first` on
 abbrev pub Among : ℕ → ℕ → ℕ → Type 0
 Among first n x = (first ≤ x) × (x < first + n)
+
+-- the variable behind variable i of n, in turn
+abbrev pub turned : ℕ → ℕ → ℕ
+turned i n = cond (eqb (i + 1) n) 0 (i + 1)
 
 -- from i up to e there is a posting of document d
 abbrev pub Has : List ℕ → ℕ → ℕ → ℕ → Type 0

@@ -1,12 +1,26 @@
 // The next document in which a pattern can be found.
-ghost use Prim.Native.Nat.{ℕ, _+_, _≤_};
+ghost use mathlib.Core.Path.{_≡_};
+ghost use Prim.Native.Nat.{ℕ, _+_, _<_, _≤_};
 ghost use lib.ListN.{length, getD};
 ghost use Rattle.search.specs.Cursors.{Stretch};
-ghost use Rattle.search.specs.Walk.{Among, Aligned};
+ghost use Rattle.search.specs.Walk.{Among, Aligned, turned};
 use super::cursor::Cursor;
 
+// The variable behind variable i of n, in turn.
+fn turn(i: usize, n: usize) -> usize
+    requires { ⌜ i < n ⌝ }
+    ensures { λ r. ⌜ r ≡ turned i n ⌝ }
+{
+    let next = i + 1;
+    if next == n {
+        return 0;
+    }
+    next
+}
+
 // The first document from `doc` on in which each of n variables has a posting, from variable `first`
-// on; 65,536 where there is none. Their cursors move there and not past it.
+// on; 65,536 where there is none. Their cursors move there and not past it: each in turn seeks the
+// document that the last one came to, until all stand there.
 pub fn align(
     volume: &[u8],
     ats: &mut [usize],
@@ -20,7 +34,8 @@ pub fn align(
 {
     let mut d = doc;
     let mut i: usize = 0;
-    while i < n {
+    let mut standing: usize = 0;
+    while standing < n {
         let x = first + i;
         let end = ends[x];
         let cursor = Cursor { at: ats[x], end };
@@ -31,14 +46,12 @@ pub fn align(
             return 65536;
         }
         let here = volume::word_at(volume, at) / 65536;
-        if i == 0 {
-            d = here;
-            i = 1;
-        } else if here == d {
-            i += 1;
+        i = turn(i, n);
+        if here == d {
+            standing += 1;
         } else {
             d = here;
-            i = 0;
+            standing = 1;
         }
     }
     d
