@@ -1,5 +1,4 @@
-# make        proves every crate, builds the program, the library and the Rust package, describes the sample volume and plan,
-#             and prints the sample listing
+# make        proves every crate, builds the program, the library and the Rust package, and prints the sample listing
 # make test   the gate (rt ci), then every other test; the last line is the gate's own, if all passed
 # make bench  times the library beside plain Rust and beside a copy
 # make clean  removes all that these made
@@ -20,7 +19,6 @@ all:
 	rt check
 	rt staticlib lihambozy
 	$(CARGO) build --release $(PACKAGE)
-	$(CARGO) run --release --quiet $(PACKAGE) --example describe
 	cd crates/lister/data && ../../../target/bin/lister
 
 # `rt ci` removes target/: its log is kept in build/, and the library is built after it.

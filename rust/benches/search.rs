@@ -14,7 +14,8 @@ mod support;
 mod walk;
 
 use archives::{endless_plans, one_document, repertory, season, ten_plans, Filling, Lists, Plan};
-use lihambozy::{check_plan, check_volume, list, Next, BLOCK_BYTES};
+use lihambozy::calls::{check_plan, check_volume, list, Next};
+use lihambozy::BLOCK_BYTES;
 use std::hint::black_box;
 use support::Times;
 

@@ -5,7 +5,8 @@
 mod late;
 mod support;
 
-use lihambozy::{check_plan, check_volume, kind, volume_len, write_volume};
+use lihambozy::calls::{check_plan, check_volume, volume_len, write_volume};
+use lihambozy::kind;
 use std::hint::black_box;
 use support::{Rng, Times};
 

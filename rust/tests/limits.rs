@@ -111,14 +111,14 @@ fn lengths_over_32_bits() {
     let volume = lists.volume();
     let mut memory = vec![0u8; (1 << 32) + 512];
     memory[..512].copy_from_slice(&volume);
-    let refused = lihambozy::check_volume(&memory).map_err(pair);
+    let refused = lihambozy::calls::check_volume(&memory).map_err(pair);
     assert_eq!(refused.unwrap_err(), (1, 0));
-    let refused = lihambozy::read_list(&memory, 0, &mut [0; 9]).map_err(pair);
+    let refused = lihambozy::calls::read_list(&memory, 0, &mut [0; 9]).map_err(pair);
     assert_eq!(refused.unwrap_err(), (1, 0));
 
     memory[..512].fill(0);
     memory.truncate(1 << 32);
-    let written = lihambozy::write_volume(&lists.counts, &lists.postings, &mut memory);
+    let written = lihambozy::calls::write_volume(&lists.counts, &lists.postings, &mut memory);
     assert_eq!(written.map(|written| written.blocks), Ok(1));
     assert!(memory[..512] == volume && memory[512..4_096].iter().all(|&byte| byte == 0));
 }

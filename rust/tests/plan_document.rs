@@ -44,8 +44,8 @@ fn the_sample_plan() {
     let volume = sample().volume();
     let mut trial = Trial::default();
     assert_eq!(trial.plan(&volume, &plan), Ok((1, 2)));
-    assert_eq!(lihambozy::pattern_rows(&volume, &plan, 0), plan);
-    assert_eq!(lihambozy::pattern_rows(&volume, &plan, 1), []);
+    assert_eq!(lihambozy::calls::pattern_rows(&volume, &plan, 0), plan);
+    assert_eq!(lihambozy::calls::pattern_rows(&volume, &plan, 1), []);
 }
 
 /// The plans of the table of cases: F and V, and each pattern's own rows.
@@ -74,7 +74,7 @@ fn the_table_of_cases() {
         let plan = rows.concat();
         assert_eq!(trial.plan(&volume, &plan), Ok(sizes), "{name}");
         for (pattern, rows) in (0..).zip(patterns) {
-            let shown = lihambozy::pattern_rows(&volume, &plan, pattern);
+            let shown = lihambozy::calls::pattern_rows(&volume, &plan, pattern);
             assert_eq!(shown, rows.concat(), "{name}, pattern {pattern}");
         }
     }
@@ -90,7 +90,7 @@ fn words_of_a_listing_row() {
         (SAMPLE.concat(), "1 1 2 5"),
         ([&first[..], &second[..]].concat().concat(), "2 1 4 9 0 0 0"),
     ] {
-        let checked = lihambozy::check_plan(&volume, &plan).unwrap();
+        let checked = lihambozy::calls::check_plan(&volume, &plan).unwrap();
         assert_eq!(1 + checked.patterns + checked.vars, row.split(' ').count() as u32, "{row}");
     }
 }

@@ -133,7 +133,10 @@ fn lengths_over_8_16_and_32_bits() {
     for longer in [1 << 8, 1 << 16, 1 << 30] {
         let mut words = vec![0; longer + plan.len()];
         words[..plan.len()].copy_from_slice(&plan);
-        assert_eq!(lihambozy::check_plan(&volume, &words).map_err(pair).unwrap_err(), (9, 0));
-        assert!(lihambozy::pattern_rows(&volume, &words, 0).is_empty(), "{longer}");
+        assert_eq!(
+            lihambozy::calls::check_plan(&volume, &words).map_err(pair).unwrap_err(),
+            (9, 0)
+        );
+        assert!(lihambozy::calls::pattern_rows(&volume, &words, 0).is_empty(), "{longer}");
     }
 }

@@ -81,20 +81,20 @@ fn any_alignment() {
         let lent = offset..offset + volume.len();
 
         let out = &mut memory[lent.clone()];
-        let written = lihambozy::write_volume(&lists.counts, &lists.postings, out);
+        let written = lihambozy::calls::write_volume(&lists.counts, &lists.postings, out);
         assert_eq!(written.map(|written| written.blocks), Ok(4));
         assert!(memory[lent.clone()] == volume);
         assert!(memory[..lent.start].iter().chain(&memory[lent.end..]).all(|&byte| byte == 0x5a));
 
-        let checked = lihambozy::check_volume(&memory[lent.clone()]).unwrap();
+        let checked = lihambozy::calls::check_volume(&memory[lent.clone()]).unwrap();
         assert_eq!((checked.lists, checked.postings), (5, 380));
         let mut list = [0; 200];
-        let read = lihambozy::read_list(&memory[lent.clone()], 3, &mut list);
+        let read = lihambozy::calls::read_list(&memory[lent.clone()], 3, &mut list);
         assert_eq!(read.map(|read| read.count), Ok(200));
         assert_eq!(list, lists.postings[160..360]);
 
         memory[lent.clone()].copy_from_slice(&unrising);
-        let refused = lihambozy::check_volume(&memory[lent]).map_err(pair);
+        let refused = lihambozy::calls::check_volume(&memory[lent]).map_err(pair);
         assert_eq!(refused.unwrap_err(), (7, 3), "offset {offset}");
     }
 }

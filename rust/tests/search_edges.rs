@@ -3,7 +3,7 @@
 mod plain;
 mod support;
 
-use lihambozy::{Listing, Next};
+use lihambozy::calls::{Listing, Next};
 use plain::search::{Listed, Searcher};
 use support::plans::*;
 use support::searches::*;
@@ -688,10 +688,10 @@ fn any_alignment() {
         let lent = offset..offset + volume.len();
         memory[lent.clone()].copy_from_slice(&volume);
         let mut out = [7; 9];
-        let listing = lihambozy::list(&memory[lent.clone()], &plan, 0, &mut out);
+        let listing = lihambozy::calls::list(&memory[lent.clone()], &plan, 0, &mut out);
         assert_eq!(listing, Ok(Listing { rows: 2, tally: 6, next: Next::Done }), "{offset}");
         assert_eq!(out, [1, 1, 2, 5, 2, 1, 4, 9, 7], "{offset}");
-        let passes = lihambozy::test_positions(&memory[lent], &plan, 0, 1, &[8, 7]);
+        let passes = lihambozy::calls::test_positions(&memory[lent], &plan, 0, 1, &[8, 7]);
         assert_eq!(passes, Ok(false), "{offset}");
     }
 }
@@ -707,7 +707,7 @@ fn every_document() {
         let (mut start, mut done) = (0, false);
         while !done {
             out.fill(9);
-            let listing = lihambozy::list(&volume, &plan, start, &mut out).unwrap();
+            let listing = lihambozy::calls::list(&volume, &plan, start, &mut out).unwrap();
             let end = 65_536.min(start + fit as u32);
             done = end == 65_536;
             let next = if done { Next::Done } else { Next::More(end) };
@@ -763,7 +763,7 @@ fn every_position() {
         ("an empty list", vec![voice(1), voice(5), near(0, 1, 65_535), END], None, 131_072),
     ] {
         let mut out = vec![9; 40];
-        let listing = lihambozy::list(&volume, &rows.concat(), 0, &mut out).unwrap();
+        let listing = lihambozy::calls::list(&volume, &rows.concat(), 0, &mut out).unwrap();
         let mut words = vec![];
         for doc in [7, 8] {
             words.extend(least.iter().flat_map(|least| [&[doc, 1], &least[..]].concat()));
@@ -787,16 +787,16 @@ fn the_greatest_tally() {
     assert_eq!(plan.len(), 256);
     // Documents 0 to 14 have every position, document 15 those up to the last posting.
     let mut out = vec![9; 59 * 16];
-    let listing = lihambozy::list(&volume, &plan, 0, &mut out).unwrap();
+    let listing = lihambozy::calls::list(&volume, &plan, 0, &mut out).unwrap();
     assert_eq!(listing, Listing { rows: 16, tally: 51 * postings, next: Next::Done });
     for (row, doc) in out.chunks(59).zip(0..) {
         assert_eq!(row[0], doc);
         let flags = [1, 10, 19, 28, 37, 46, 55];
         assert!((1..59).all(|i| row[i] == u32::from(flags.contains(&i))), "{row:?}");
     }
-    let listing = lihambozy::list(&volume, &plan, 0, &mut out[..59 * 15]).unwrap();
+    let listing = lihambozy::calls::list(&volume, &plan, 0, &mut out[..59 * 15]).unwrap();
     assert_eq!(listing, Listing { rows: 15, tally: 51 * 15 * 65_536, next: Next::More(15) });
-    let listing = lihambozy::list(&volume, &plan, 15, &mut out).unwrap();
+    let listing = lihambozy::calls::list(&volume, &plan, 15, &mut out).unwrap();
     let left = postings - 15 * 65_536;
     assert_eq!(listing, Listing { rows: 1, tally: 51 * left, next: Next::Done });
 }

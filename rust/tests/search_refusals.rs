@@ -3,7 +3,7 @@
 mod plain;
 mod support;
 
-use lihambozy::{Listing, Next};
+use lihambozy::calls::{Listing, Next};
 use plain::Refused;
 use support::plans::*;
 use support::searches::*;
@@ -174,11 +174,11 @@ fn lengths_over_8_16_and_32_bits() {
     let plan = SAMPLE.concat();
     for longer in [1 << 8, 1 << 16, 1 << 30] {
         let mut out = vec![0; longer + 3];
-        let listing = lihambozy::list(&volume, &plan, 0, &mut out);
+        let listing = lihambozy::calls::list(&volume, &plan, 0, &mut out);
         assert_eq!(listing, Ok(Listing { rows: 2, tally: 6, next: Next::Done }), "{longer}");
         assert_eq!(out[..8], [1, 1, 2, 5, 2, 1, 4, 9], "{longer}");
         assert!(out[8..259].iter().all(|&word| word == 0), "{longer}");
-        let refused = lihambozy::list(&volume, &out, 0, &mut [0; 9]).map_err(pair);
+        let refused = lihambozy::calls::list(&volume, &out, 0, &mut [0; 9]).map_err(pair);
         assert_eq!(refused, Err((9, 0)), "{longer}");
     }
 }

@@ -2,7 +2,8 @@
 
 use super::late;
 use super::support::Rng;
-use lihambozy::{kind, posting, volume_len};
+use lihambozy::calls::volume_len;
+use lihambozy::{kind, Posting};
 
 /// Posting lists as the writer takes them: how long each one is, and all of them back to back.
 pub struct Lists {
@@ -96,8 +97,8 @@ pub fn repertory(seed: u64, list_count: usize, posting_count: usize) -> Lists {
         for _ in 0..titles {
             let mut put = |list: u64, pos: u16| {
                 let list: &mut Vec<u32> = &mut lists[list as usize];
-                if left > 0 && list.last() != Some(&posting(doc, pos)) {
-                    list.push(posting(doc, pos));
+                if left > 0 && list.last() != Some(&Posting::new(doc, pos).word()) {
+                    list.push(Posting::new(doc, pos).word());
                     left -= 1;
                 }
             };

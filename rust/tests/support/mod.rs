@@ -321,7 +321,7 @@ impl Trial {
     #[track_caller]
     pub fn check(&mut self, volume: &[u8]) -> Result<(u32, u32), Refused> {
         let lent = volume.to_vec();
-        let answer = lihambozy::check_volume(&lent)
+        let answer = lihambozy::calls::check_volume(&lent)
             .map(|checked| (checked.lists, checked.postings))
             .map_err(pair);
         assert!(lent == volume, "{}: check wrote in the volume", self.case);
@@ -335,7 +335,7 @@ impl Trial {
     pub fn read(&mut self, volume: &[u8], list: u32, room: usize) -> Result<Vec<u32>, Refused> {
         let case = format!("{}: read list {list} into {room} words", self.case);
         let library = lend(room, |out| {
-            lihambozy::read_list(volume, list, out).map(|read| read.count).map_err(pair)
+            lihambozy::calls::read_list(volume, list, out).map(|read| read.count).map_err(pair)
         });
         let plain = lend(room, |out| plain::read_list(volume, list, out));
         self.count(Call::Read, &library.answer);
@@ -352,7 +352,7 @@ impl Trial {
     ) -> Result<Vec<u8>, Refused> {
         let case = format!("{}: write into {room} bytes", self.case);
         let library = lend(room, |out| {
-            lihambozy::write_volume(counts, postings, out)
+            lihambozy::calls::write_volume(counts, postings, out)
                 .map(|written| written.blocks)
                 .map_err(pair)
         });
@@ -397,7 +397,7 @@ impl Trial {
         let lent_volume = &bytes[AMID..AMID + volume.len()];
         let lent = &words[AMID..AMID + plan.len()];
 
-        let answer = lihambozy::check_plan(lent_volume, lent)
+        let answer = lihambozy::calls::check_plan(lent_volume, lent)
             .map(|checked| (checked.patterns, checked.vars))
             .map_err(pair);
         let sizes = |plan: &plain::plan::Plan| (plan.patterns.len() as u32, plan.vars);
@@ -406,7 +406,7 @@ impl Trial {
         let patterns = answer.map_or(0, |sizes| sizes.0);
         let mut parts = Vec::new();
         for pattern in (0..patterns + 2).chain([256, 65_536, 1 << 31, u32::MAX]) {
-            let part = lihambozy::pattern_rows(lent_volume, lent, pattern);
+            let part = lihambozy::calls::pattern_rows(lent_volume, lent, pattern);
             let expected = &lent[plain::plan::part(&plain, pattern)];
             assert_eq!(part, expected, "{case}: rows of pattern {pattern}");
             assert_eq!(part.is_empty(), pattern >= patterns, "{case}: rows of pattern {pattern}");

@@ -1,33 +1,7 @@
 //! Plans for the tests: rows by name, random plans, and changes of them.
 
 use super::Rng;
-pub use crate::plain::plan::Row;
-use lihambozy::kind;
-
-pub const fn voice(list: u32) -> Row {
-    [kind::VOICE, list, 0, 0]
-}
-
-pub const fn near(a: u32, b: u32, c: u32) -> Row {
-    [kind::NEAR, a, b, c]
-}
-
-pub const fn before(a: u32, b: u32) -> Row {
-    [kind::BEFORE, a, b, 0]
-}
-
-pub const fn same_title(a: u32, b: u32) -> Row {
-    [kind::SAME_TITLE, a, b, 0]
-}
-
-pub const fn span(c: u32) -> Row {
-    [kind::SPAN, 0, 0, c]
-}
-
-pub const END: Row = [kind::END, 0, 0, 0];
-pub const BOTH: Row = [kind::BOTH, 0, 0, 0];
-pub const EITHER: Row = [kind::EITHER, 0, 0, 0];
-pub const FIRST_NOT_SECOND: Row = [kind::FIRST_NOT_SECOND, 0, 0, 0];
+pub use lihambozy::row::*;
 
 /// The sample plan of document 01.
 pub const SAMPLE: [Row; 5] = [voice(1), voice(2), before(0, 1), same_title(0, 1), END];

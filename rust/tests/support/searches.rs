@@ -5,7 +5,7 @@ use super::plans::*;
 use super::{amid, pair, Call, Fill, Lists, Rng, Trial, AMID};
 use crate::plain::search::{Listed, Searcher};
 use crate::plain::Refused;
-use lihambozy::{Listing, Next};
+use lihambozy::calls::{Listing, Next};
 use std::collections::BTreeSet;
 use std::ops::Range;
 
@@ -77,10 +77,14 @@ impl Trial {
             Ok(searcher) => searcher.list(start, &mut expected[lent.clone()]),
             Err(refused) => Err(*refused),
         };
-        let answer =
-            lihambozy::list(subject.volume(), subject.plan(), start, &mut memory[lent.clone()])
-                .map(listed)
-                .map_err(pair);
+        let answer = lihambozy::calls::list(
+            subject.volume(),
+            subject.plan(),
+            start,
+            &mut memory[lent.clone()],
+        )
+        .map(listed)
+        .map_err(pair);
         assert_eq!(answer, naive, "{case}");
         if let Some(word) = (0..memory.len()).find(|&word| memory[word] != expected[word]) {
             let (lent, got) = (&expected[lent.clone()], &memory[lent]);
@@ -118,7 +122,8 @@ impl Trial {
         let lent = amid(positions);
         let (volume, plan) = (subject.volume(), subject.plan());
         let positions = &lent[AMID..lent.len() - AMID];
-        let answer = lihambozy::test_positions(volume, plan, pattern, doc, positions).map_err(pair);
+        let answer =
+            lihambozy::calls::test_positions(volume, plan, pattern, doc, positions).map_err(pair);
         let naive = match &subject.naive {
             Ok(searcher) => searcher.test(pattern, doc, positions),
             Err(refused) => Err(*refused),

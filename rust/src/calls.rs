@@ -1,0 +1,290 @@
+//! The calls of `include/lihambozy.h` on slices, one function for each, for a program that keeps its
+//! own buffers. Every call takes any input. One that does not fit is answered by a [`Refusal`], or
+//! in [`pattern_rows`] by an empty part, and what was lent for writing then is exactly as it was.
+//!
+//! A posting is a word here, document * 65,536 + position ([`Posting::word`](crate::Posting::word)),
+//! and a plan is the words of its rows ([`Plan::words`](crate::Plan::words)).
+
+use crate::{ffi, Refusal, BLOCK_BYTES, BLOCK_WORDS, MAX_WORDS};
+
+/// What [`check_volume`] finds in an accepted volume.
+#[derive(Clone, Copy, Debug, PartialEq, Eq)]
+pub struct CheckedVolume {
+    /// The number of lists (01: T).
+    pub lists: u32,
+    /// The number of postings of all lists together (01: S).
+    pub postings: u32,
+}
+
+/// What [`read_list`] has done.
+#[derive(Clone, Copy, Debug, PartialEq, Eq)]
+pub struct ReadList {
+    /// The postings of the list, which are the words written.
+    pub count: u32,
+}
+
+/// What [`write_volume`] has done.
+#[derive(Clone, Copy, Debug, PartialEq, Eq)]
+pub struct WrittenVolume {
+    /// The blocks written, of [`BLOCK_BYTES`] each.
+    pub blocks: u32,
+}
+
+/// What [`check_plan`] finds in an accepted plan.
+#[derive(Clone, Copy, Debug, PartialEq, Eq)]
+pub struct CheckedPlan {
+    /// The number of patterns (01: F).
+    pub patterns: u32,
+    /// The number of variables of all patterns together (01: V).
+    pub vars: u32,
+}
+
+impl CheckedPlan {
+    /// Words of a row that [`list`] writes: the document, and for each pattern one word and its
+    /// positions. A buffer that is shorter is refused.
+    ///
+    /// ```
+    /// let checked = lihambozy::calls::CheckedPlan { patterns: 2, vars: 4 };
+    /// assert_eq!(checked.row_width(), 7);
+    /// ```
+    pub const fn row_width(self) -> usize {
+        1 + self.patterns as usize + self.vars as usize
+    }
+}
+
+/// What [`list`] has done.
+#[derive(Clone, Copy, Debug, PartialEq, Eq)]
+pub struct Listing {
+    /// The rows written, of [`CheckedPlan::row_width`] words each.
+    pub rows: u32,
+    /// The sum, over all variables of the plan, of the postings of the variable's list in the
+    /// documents from the start up to the one that `next` names, which is not counted, or to the
+    /// end.
+    pub tally: u32,
+    /// Whether a matching document is left.
+    pub next: Next,
+}
+
+/// Whether a listing has left a matching document unwritten.
+#[derive(Clone, Copy, Debug, PartialEq, Eq)]
+pub enum Next {
+    /// None is left (01: DONE).
+    Done,
+    /// No further row fits, and this is the least document left (01: MORE). A call that starts at
+    /// it goes on with the listing.
+    More(u32),
+}
+
+/// The bytes of the volume of so many lists with so many postings in all; `None` where that is more
+/// than the largest volume holds.
+pub fn volume_len(lists: usize, postings: usize) -> Option<usize> {
+    let words = lists.checked_add(postings)?.checked_add(2)?;
+    (words <= MAX_WORDS).then(|| words.div_ceil(BLOCK_WORDS) * BLOCK_BYTES)
+}
+
+/// Checks a volume, every byte of it.
+///
+/// Refused, the first that applies, with 1 (length), then block by block 2 (number) and 3
+/// (checksum), both at the block, then 4 (format version), 5 (number of lists), 6 (number of
+/// blocks), 7 (a list does not rise, at the lowest one), 8 (a word behind the lists is not 0, at
+/// the lowest stream index).
+pub fn check_volume(volume: &[u8]) -> Result<CheckedVolume, Refusal> {
+    let answer = ffi::check_volume(volume);
+    accepted(answer.refusal, answer.at)?;
+    Ok(CheckedVolume { lists: answer.lists, postings: answer.postings })
+}
+
+/// Reads a list of a volume to the front of `out`; the words behind it stay as they were.
+///
+/// Refused with 1 to 8 as by [`check_volume`], then with 17 (no such list), then with 16 (`out` is
+/// shorter than the list).
+pub fn read_list(volume: &[u8], list: u32, out: &mut [u32]) -> Result<ReadList, Refusal> {
+    let answer = ffi::read_list(volume, list, out);
+    accepted(answer.refusal, answer.at)?;
+    Ok(ReadList { count: answer.count })
+}
+
+/// Writes the volume of the given lists to the front of `out`; the bytes behind it stay as they
+/// were. `counts` has the number of postings of each list, `postings` the lists back to back;
+/// [`volume_len`] tells how long `out` must be.
+///
+/// Refused, the first that applies, with 5 (number of lists), 18 (the counts do not sum to the
+/// number of postings), 7 (a list does not rise, at the lowest one), 19 (too many words for a
+/// volume), 20 (`out` is shorter than the volume).
+pub fn write_volume(
+    counts: &[u32],
+    postings: &[u32],
+    out: &mut [u8],
+) -> Result<WrittenVolume, Refusal> {
+    let answer = ffi::write_volume(counts, postings, out);
+    accepted(answer.refusal, answer.at)?;
+    Ok(WrittenVolume { blocks: answer.blocks })
+}
+
+/// Checks a plan over a volume, every byte of the volume and every row of the plan.
+///
+/// Refused with 1 to 8 as by [`check_volume`], then, the first that applies, with 9 (length), then
+/// row by row, all at the row, 10 (unknown kind, unused word not 0, or `c` out of range), 11 (list
+/// 0, or no list of the volume), 12 (a ninth variable of a pattern, or a ninth pattern) and 13 (out
+/// of order, or no variable of the pattern), then 14 (a pattern open, or not one answer, at the
+/// end).
+///
+/// ```
+/// use lihambozy::calls::{check_plan, write_volume};
+/// use lihambozy::kind;
+///
+/// // Two lists, both empty: a plan may name an empty list, and list 0 never.
+/// let mut volume = [0; 512];
+/// write_volume(&[0, 0], &[], &mut volume)?;
+///
+/// let mut plan = [kind::VOICE, 1, 0, 0, kind::SPAN, 0, 0, 1, kind::END, 0, 0, 0];
+/// let checked = check_plan(&volume, &plan)?;
+/// assert_eq!((checked.patterns, checked.vars), (1, 1));
+///
+/// plan[7] = 0;
+/// let refusal = check_plan(&volume, &plan).unwrap_err();
+/// assert_eq!((refusal.number, refusal.at), (10, 1));
+/// # Ok::<(), lihambozy::Refusal>(())
+/// ```
+pub fn check_plan(volume: &[u8], plan: &[u32]) -> Result<CheckedPlan, Refusal> {
+    let answer = ffi::check_plan(volume, plan);
+    accepted(answer.refusal, answer.at)?;
+    Ok(CheckedPlan { patterns: answer.patterns, vars: answer.vars })
+}
+
+/// The rows of one pattern: the part of `plan` from its first VOICE to its END. Patterns are
+/// numbered from 0 in the order in which they open.
+///
+/// The part is empty where [`check_plan`] refuses, and where the plan has no pattern of that number
+/// (01: 17); otherwise it never is.
+///
+/// ```
+/// use lihambozy::calls::{pattern_rows, write_volume};
+/// use lihambozy::row::{voice, BOTH, END};
+///
+/// let mut volume = [0; 512];
+/// write_volume(&[0, 0], &[], &mut volume)?;
+///
+/// let plan = [voice(1), END, voice(1), voice(1), END, BOTH].concat();
+/// assert_eq!(pattern_rows(&volume, &plan, 0), &plan[..8]);
+/// assert_eq!(pattern_rows(&volume, &plan, 1), &plan[8..20]);
+/// assert!(pattern_rows(&volume, &plan, 2).is_empty());
+/// assert!(pattern_rows(&volume, &plan[..20], 0).is_empty());
+/// # Ok::<(), lihambozy::Refusal>(())
+/// ```
+pub fn pattern_rows<'a>(volume: &[u8], plan: &'a [u32], pattern: u32) -> &'a [u32] {
+    let answer = ffi::pattern_rows(volume, plan, pattern);
+    &plan[answer.start as usize..][..answer.len as usize]
+}
+
+/// Tests whether positions pass: one for each variable of the pattern, in their order, in the
+/// document `doc`. Patterns are numbered from 0 in the order in which they open.
+///
+/// Refused with 1 to 14 as by [`check_plan`], then with 17 (no pattern of that number, not as many
+/// positions as it has variables, or a document or position over 65,535).
+///
+/// ```
+/// use lihambozy::calls::{test_positions, write_volume};
+/// use lihambozy::row::{same_title, voice, END};
+/// use lihambozy::Posting;
+///
+/// // A title starts at position 6 of document 1; a word stands on both sides of it.
+/// let mut volume = [0; 512];
+/// let postings = [(1, 6), (1, 2), (1, 8)].map(|(doc, pos)| Posting::new(doc, pos).word());
+/// write_volume(&[1, 2], &postings, &mut volume)?;
+///
+/// let plan = [voice(1), voice(1), same_title(0, 1), END].concat();
+/// assert!(test_positions(&volume, &plan, 0, 1, &[8, 8])?);
+/// assert!(!test_positions(&volume, &plan, 0, 1, &[2, 8])?, "two titles");
+/// assert!(!test_positions(&volume, &plan, 0, 1, &[2, 3])?, "the word is not at 3");
+/// assert!(!test_positions(&volume, &plan, 0, 2, &[8, 8])?, "nor in document 2");
+///
+/// let refusal = test_positions(&volume, &plan, 0, 1, &[8]).unwrap_err();
+/// assert_eq!((refusal.number, refusal.at), (17, 0));
+/// # Ok::<(), lihambozy::Refusal>(())
+/// ```
+pub fn test_positions(
+    volume: &[u8],
+    plan: &[u32],
+    pattern: u32,
+    doc: u32,
+    positions: &[u32],
+) -> Result<bool, Refusal> {
+    let answer = ffi::test_positions(volume, plan, pattern, doc, positions);
+    accepted(answer.refusal, answer.at)?;
+    Ok(answer.passes != 0)
+}
+
+/// Lists the matching documents from `start` on, rising, as rows at the front of `out`; the words
+/// behind the rows stay as they were.
+///
+/// A row has [`CheckedPlan::row_width`] words, 59 at most: the document, then for each pattern 1
+/// and its least positions, or 0 and zeros where it is not found in that document. As many rows are
+/// written as there are or as fit whole. Calls that start at 0 and then at each [`Next::More`]
+/// until [`Next::Done`] give every matching document once, and their tallies sum to the counts of
+/// the variables' lists.
+///
+/// Refused with 1 to 14 as by [`check_plan`], then with 15 (`start` is over 65,535), then with 16
+/// (`out` is shorter than one row).
+///
+/// ```
+/// use lihambozy::calls::{list, write_volume, Listing, Next};
+/// use lihambozy::row::{voice, END};
+/// use lihambozy::Posting;
+///
+/// let mut volume = [0; 512];
+/// let word = [(1, 2), (1, 8), (2, 4)].map(|(doc, pos)| Posting::new(doc, pos).word());
+/// write_volume(&[0, 3], &word, &mut volume)?;
+///
+/// // One variable: a row is the document, 1, and the variable's least position.
+/// let plan = [voice(1), END].concat();
+/// let mut out = [7; 5];
+/// let first = list(&volume, &plan, 0, &mut out)?;
+/// assert_eq!(first, Listing { rows: 1, tally: 2, next: Next::More(2) });
+/// assert_eq!(out, [1, 1, 2, 7, 7]);
+///
+/// let second = list(&volume, &plan, 2, &mut out)?;
+/// assert_eq!(second, Listing { rows: 1, tally: 1, next: Next::Done });
+/// assert_eq!(out, [2, 1, 4, 7, 7]);
+///
+/// let refusal = list(&volume, &plan, 0, &mut out[..2]).unwrap_err();
+/// assert_eq!((refusal.number, refusal.at), (16, 0));
+/// # Ok::<(), lihambozy::Refusal>(())
+/// ```
+pub fn list(volume: &[u8], plan: &[u32], start: u32, out: &mut [u32]) -> Result<Listing, Refusal> {
+    let answer = ffi::list(volume, plan, start, out);
+    accepted(answer.refusal, answer.at)?;
+    let next = match answer.next {
+        ffi::DONE => Next::Done,
+        doc => Next::More(doc),
+    };
+    Ok(Listing { rows: answer.rows, tally: answer.tally, next })
+}
+
+/// Splits the two fields that an answer starts with: number 0 means that the call is answered.
+fn accepted(number: u32, at: u32) -> Result<(), Refusal> {
+    match number {
+        0 => Ok(()),
+        _ => Err(Refusal { number, at }),
+    }
+}
+
+#[cfg(test)]
+mod tests {
+    use super::*;
+
+    #[test]
+    fn volume_len_is_whole_blocks() {
+        for (lists, postings, len) in [
+            (1, 0, Some(512)),
+            (3, 121, Some(512)),
+            (3, 122, Some(1_024)),
+            (1_024, 1_031_166, Some(4_194_304)),
+            (1_024, 1_031_167, None),
+            (usize::MAX, usize::MAX, None),
+            (1, usize::MAX - 2, None),
+        ] {
+            assert_eq!(volume_len(lists, postings), len, "{lists} {postings}");
+        }
+    }
+}

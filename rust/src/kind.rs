@@ -1,0 +1,23 @@
+//! The kinds of a plan's rows. Words that a kind does not use are 0.
+
+/// A variable of a pattern (01: a voice of a figure), with list `a`. It opens a pattern where
+/// none is open. Variables are numbered from 0 in each pattern.
+pub const VOICE: u32 = 1;
+/// The positions of variables `a` and `b` differ by at most `c` + 1; `c` is 0 to 65,535.
+pub const NEAR: u32 = 2;
+/// The position of variable `a` is less than that of variable `b`.
+pub const BEFORE: u32 = 3;
+/// Variables `a` and `b` stand in one title: no title starts behind the smaller position and at
+/// or before the larger.
+pub const SAME_TITLE: u32 = 4;
+/// The largest and smallest position of the pattern's variables differ by at most `c` - 1; `c`
+/// is 1 to 65,536.
+pub const SPAN: u32 = 5;
+/// Closes the pattern; its answer is stacked.
+pub const END: u32 = 6;
+/// Takes the top two answers and stacks one: both are yes.
+pub const BOTH: u32 = 7;
+/// Takes the top two answers and stacks one: at least one is yes.
+pub const EITHER: u32 = 8;
+/// Takes the top two answers and stacks one: the lower is yes and the upper is not.
+pub const FIRST_NOT_SECOND: u32 = 9;

@@ -1,0 +1,84 @@
+//! Plans.
+
+use crate::row::Row;
+use crate::text::{self, Mistake};
+use crate::{Refusal, ROW_WORDS};
+use std::fmt;
+use std::str::FromStr;
+
+/// A plan: rows of any words. Whether it is in order depends on the volume that it is to search:
+/// [`Volume::check`](crate::Volume::check).
+///
+/// Its text has one row a line, by the name of its kind and the words that the kind uses, in the
+/// order a, b, c. A row that no name can tell, of an unknown kind or with another word that is not
+/// 0, is told by its four numbers; so each plan has its text, and the text reads as that plan.
+/// Empty lines are skipped, and so is what follows `#`.
+///
+/// ```
+/// use lihambozy::row::{before, same_title, voice, END};
+/// use lihambozy::Plan;
+///
+/// let text = "VOICE 1\nVOICE 2\nBEFORE 0 1\nSAME TITLE 0 1\nEND\n";
+/// let plan: Plan = text.parse()?;
+/// assert_eq!(plan, Plan::new([voice(1), voice(2), before(0, 1), same_title(0, 1), END]));
+/// assert_eq!(plan.to_string(), text);
+/// assert_eq!(Plan::from_bytes(&plan.to_bytes())?, plan);
+///
+/// let mistake = "VOICE 1\nNEAR 0 x 3".parse::<Plan>().unwrap_err();
+/// assert_eq!((mistake.line, mistake.column), (2, 8));
+/// # Ok::<(), Box<dyn std::error::Error>>(())
+/// ```
+#[derive(Clone, Debug, PartialEq, Eq)]
+pub struct Plan {
+    rows: Vec<Row>,
+}
+
+impl Plan {
+    /// The plan of these rows.
+    pub fn new(rows: impl Into<Vec<Row>>) -> Plan {
+        Plan { rows: rows.into() }
+    }
+
+    /// The plan whose words these bytes are, little-endian.
+    ///
+    /// Refused with 9 where they are no whole number of rows.
+    pub fn from_bytes(bytes: &[u8]) -> Result<Plan, Refusal> {
+        let rows = bytes.chunks_exact(4 * ROW_WORDS);
+        if !rows.remainder().is_empty() {
+            return Err(Refusal::PLAN_LENGTH);
+        }
+        let word = |row: &[u8], k: usize| {
+            u32::from_le_bytes([row[4 * k], row[4 * k + 1], row[4 * k + 2], row[4 * k + 3]])
+        };
+        Ok(Plan { rows: rows.map(|row| [0, 1, 2, 3].map(|k| word(row, k))).collect() })
+    }
+
+    /// The plan's words as bytes, little-endian: a plan file.
+    pub fn to_bytes(&self) -> Vec<u8> {
+        self.words().iter().flat_map(|word| word.to_le_bytes()).collect()
+    }
+
+    /// The plan's rows.
+    pub fn rows(&self) -> &[Row] {
+        &self.rows
+    }
+
+    /// The words of all rows, as [`calls`](crate::calls) takes them.
+    pub fn words(&self) -> &[u32] {
+        self.rows.as_flattened()
+    }
+}
+
+impl FromStr for Plan {
+    type Err = Mistake;
+
+    fn from_str(text: &str) -> Result<Plan, Mistake> {
+        text::plan_rows(text).map(Plan::new)
+    }
+}
+
+impl fmt::Display for Plan {
+    fn fmt(&self, f: &mut fmt::Formatter<'_>) -> fmt::Result {
+        self.rows.iter().try_for_each(|&row| writeln!(f, "{}", text::RowText(row)))
+    }
+}

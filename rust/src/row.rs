@@ -1,0 +1,40 @@
+//! The rows of a plan, each as its four words: kind, a, b and c.
+
+use crate::{kind, ROW_WORDS};
+
+/// A row of a plan.
+pub type Row = [u32; ROW_WORDS];
+
+/// A variable of a pattern, with a list: see [`kind::VOICE`].
+pub const fn voice(list: u32) -> Row {
+    [kind::VOICE, list, 0, 0]
+}
+
+/// At most `c` positions between two variables: see [`kind::NEAR`].
+pub const fn near(a: u32, b: u32, c: u32) -> Row {
+    [kind::NEAR, a, b, c]
+}
+
+/// One variable before another: see [`kind::BEFORE`].
+pub const fn before(a: u32, b: u32) -> Row {
+    [kind::BEFORE, a, b, 0]
+}
+
+/// Two variables in one title: see [`kind::SAME_TITLE`].
+pub const fn same_title(a: u32, b: u32) -> Row {
+    [kind::SAME_TITLE, a, b, 0]
+}
+
+/// All variables of the pattern within `c` positions: see [`kind::SPAN`].
+pub const fn span(c: u32) -> Row {
+    [kind::SPAN, 0, 0, c]
+}
+
+/// See [`kind::END`].
+pub const END: Row = [kind::END, 0, 0, 0];
+/// See [`kind::BOTH`].
+pub const BOTH: Row = [kind::BOTH, 0, 0, 0];
+/// See [`kind::EITHER`].
+pub const EITHER: Row = [kind::EITHER, 0, 0, 0];
+/// See [`kind::FIRST_NOT_SECOND`].
+pub const FIRST_NOT_SECOND: Row = [kind::FIRST_NOT_SECOND, 0, 0, 0];

@@ -1,0 +1,194 @@
+//! Searches: listing calls, one after the other, until none is left to make.
+
+use crate::calls::{self, Listing, Next};
+use crate::{kind, Plan, Refusal, Volume};
+use std::fmt;
+use std::iter::FusedIterator;
+use std::sync::Arc;
+
+/// A search for the documents that match a plan: an iterator over their rows, rising, each once.
+/// [`Volume::search`] starts one.
+///
+/// It pages by itself: a listing call fills a buffer with rows, and when they are used up the next
+/// call goes on from the document that the last one named. That the rows of all calls together are
+/// exactly those of all matching documents, whatever the buffer, is proved of the library (`Demand3`
+/// in `crates/search/specs/Demands.antt`).
+///
+/// ```
+/// use lihambozy::row::{voice, END};
+/// use lihambozy::{Plan, Posting, Volume};
+///
+/// let word = [(1, 2), (1, 8), (2, 4)].map(|(doc, pos)| Posting::new(doc, pos));
+/// let volume = Volume::of_lists(&[&[], &word[..]])?;
+/// let plan = Plan::new([voice(1), END]);
+///
+/// let mut search = volume.search(&plan)?.page_rows(1);
+/// let row = search.next().unwrap();
+/// assert_eq!((row.doc(), row.pattern(0)), (1, Some(&[2][..])));
+/// assert_eq!((search.reached(), search.tally()), (2, 2));
+///
+/// let row = search.next().unwrap();
+/// assert_eq!(row.to_string(), "scene 2 1 4");
+/// assert!(search.next().is_none());
+/// assert_eq!(search.tally(), 3, "all postings of the list");
+/// # Ok::<(), lihambozy::Refusal>(())
+/// ```
+#[derive(Clone, Debug)]
+pub struct Search<'a> {
+    volume: &'a Volume<'a>,
+    plan: &'a Plan,
+    /// Where the words of each pattern end in a row.
+    ends: Arc<[usize]>,
+    /// The words of a row.
+    width: usize,
+    /// The buffer that is lent to the listing calls.
+    page: Vec<u32>,
+    /// The words of `page` that are rows, and of these the words handed out.
+    written: usize,
+    taken: usize,
+    next: Next,
+    tally: u64,
+}
+
+impl<'a> Search<'a> {
+    /// The rows for which a listing call has room where [`Search::page_rows`] does not say otherwise.
+    pub const PAGE_ROWS: usize = 1_024;
+
+    pub(crate) fn new(volume: &'a Volume<'a>, plan: &'a Plan) -> Result<Search<'a>, Refusal> {
+        let checked = volume.check(plan)?;
+        let mut end = 1;
+        let mut ends = Vec::new();
+        for row in plan.rows() {
+            match row[0] {
+                kind::VOICE => end += 1,
+                kind::END => {
+                    end += 1;
+                    ends.push(end);
+                }
+                _ => {}
+            }
+        }
+        Ok(Search {
+            volume,
+            plan,
+            ends: ends.into(),
+            width: checked.row_width(),
+            page: vec![0; Search::PAGE_ROWS * checked.row_width()],
+            written: 0,
+            taken: 0,
+            next: Next::More(0),
+            tally: 0,
+        })
+    }
+
+    /// The same search with room for so many rows in each listing call that is still to be made, at
+    /// least one. Each call checks the whole volume first, so that short pages cost time; the rows
+    /// do not depend on it.
+    pub fn page_rows(mut self, rows: usize) -> Search<'a> {
+        let left = self.page[self.taken..self.written].to_vec();
+        let words = (rows.max(1) * self.width).max(left.len());
+        self.page.resize(words, 0);
+        self.page[..left.len()].copy_from_slice(&left);
+        self.taken = 0;
+        self.written = left.len();
+        self
+    }
+
+    /// The document from which the next listing call is to start (01: scene reached), or 65,536
+    /// where none is left to make. The rows of all documents below it have been listed, though some
+    /// may not have been handed out.
+    pub fn reached(&self) -> u32 {
+        match self.next {
+            Next::More(doc) => doc,
+            Next::Done => 65_536,
+        }
+    }
+
+    /// The sum of the tallies of the listing calls made: over all variables of the plan, the
+    /// postings of the variable's list in documents below [`Search::reached`].
+    pub fn tally(&self) -> u64 {
+        self.tally
+    }
+
+    /// Makes listing calls until there are rows or none is left to make.
+    fn turn(&mut self) {
+        while let (true, Next::More(start)) = (self.taken == self.written, self.next) {
+            // A call of a search is refused only for a buffer that is shorter than one row.
+            let Listing { rows, tally, next } =
+                calls::list(self.volume.as_bytes(), self.plan.words(), start, &mut self.page)
+                    .expect("volume and plan are accepted, and a row fits");
+            self.taken = 0;
+            self.written = rows as usize * self.width;
+            self.tally += u64::from(tally);
+            self.next = next;
+        }
+    }
+}
+
+impl Iterator for Search<'_> {
+    type Item = Row;
+
+    fn next(&mut self) -> Option<Row> {
+        self.turn();
+        let words = self.page[self.taken..self.written].get(..self.width)?;
+        self.taken += self.width;
+        Some(Row { words: words.into(), ends: self.ends.clone() })
+    }
+
+    fn size_hint(&self) -> (usize, Option<usize>) {
+        let ready = (self.written - self.taken) / self.width;
+        let most = match self.next {
+            Next::Done => 0,
+            // From that document on there are at most so many.
+            Next::More(doc) => 65_536 - doc as usize,
+        };
+        (ready, Some(ready + most))
+    }
+}
+
+impl FusedIterator for Search<'_> {}
+
+/// A row of a listing: a document that matches and, for each pattern, its least positions there
+/// (01: earliest places). It is shown as document 01 prints it, `scene` and its words.
+#[derive(Clone, Debug, PartialEq, Eq)]
+pub struct Row {
+    words: Box<[u32]>,
+    ends: Arc<[usize]>,
+}
+
+impl Row {
+    /// The document.
+    pub fn doc(&self) -> u32 {
+        self.words[0]
+    }
+
+    /// The least positions of a pattern, one for each of its variables, or `None` where it is not
+    /// found in this document.
+    ///
+    /// # Panics
+    ///
+    /// Where the plan has no pattern of that number.
+    pub fn pattern(&self, pattern: usize) -> Option<&[u32]> {
+        let start = if pattern == 0 { 1 } else { self.ends[pattern - 1] };
+        let words = &self.words[start..self.ends[pattern]];
+        (words[0] == 1).then(|| &words[1..])
+    }
+
+    /// The least positions of each pattern in turn, or `None` where it is not found.
+    pub fn patterns(&self) -> impl Iterator<Item = Option<&[u32]>> + '_ {
+        (0..self.ends.len()).map(|pattern| self.pattern(pattern))
+    }
+
+    /// The words of the row: the document, then for each pattern 1 and its positions, or 0 and
+    /// zeros.
+    pub fn words(&self) -> &[u32] {
+        &self.words
+    }
+}
+
+impl fmt::Display for Row {
+    fn fmt(&self, f: &mut fmt::Formatter<'_>) -> fmt::Result {
+        f.write_str("scene")?;
+        self.words.iter().try_for_each(|word| write!(f, " {word}"))
+    }
+}

@@ -1,0 +1,231 @@
+//! Lists and plans as plain text.
+//!
+//! A text of lists has one list a line, list 0 first, as `scene:place` words with blanks between
+//! them. An empty line is an empty list. A line whose first sign behind blanks is `#` is a comment
+//! and no list; behind the words of a line a comment goes from a word that starts with `#` to the
+//! line's end. The text of a plan is told at [`Plan`](crate::Plan).
+
+use crate::row::Row;
+use crate::{kind, Posting, Refusal, MAX_LISTS, MAX_WORDS, ROW_WORDS};
+use std::error::Error;
+use std::fmt;
+
+/// A mistake in a text, with line and column from 1. It is shown as `LINE:COLUMN: SENTENCE`.
+#[derive(Clone, Debug, PartialEq, Eq)]
+pub struct Mistake {
+    /// The line, from 1.
+    pub line: usize,
+    /// The column, from 1, in characters.
+    pub column: usize,
+    /// What is wrong there, as a sentence in document 01's words.
+    pub what: String,
+}
+
+impl fmt::Display for Mistake {
+    fn fmt(&self, f: &mut fmt::Formatter<'_>) -> fmt::Result {
+        write!(f, "{}:{}: {}", self.line, self.column, self.what)
+    }
+}
+
+impl Error for Mistake {}
+
+/// A word of a text, and where it stands.
+#[derive(Clone, Copy)]
+struct Word<'a> {
+    text: &'a str,
+    line: usize,
+    column: usize,
+}
+
+impl Word<'_> {
+    fn mistake(self, what: impl Into<String>) -> Mistake {
+        Mistake { line: self.line, column: self.column, what: what.into() }
+    }
+}
+
+/// The words of a line, without its comment.
+fn words(number: usize, line: &str) -> impl Iterator<Item = Word<'_>> {
+    let mut rest = line;
+    let mut column = 1;
+    std::iter::from_fn(move || {
+        let word = rest.trim_start();
+        column += rest[..rest.len() - word.len()].chars().count();
+        let (text, behind) = word.split_at(word.find(char::is_whitespace).unwrap_or(word.len()));
+        let at = column;
+        rest = behind;
+        column += text.chars().count();
+        let ends = text.is_empty() || text.starts_with('#');
+        (!ends).then_some(Word { text, line: number, column: at })
+    })
+}
+
+/// The lines of a text that are lists: their numbers, from 1, and themselves.
+fn list_lines(text: &str) -> impl Iterator<Item = (usize, &str)> {
+    let lines = (1..).zip(text.lines());
+    lines.filter(|(_, line)| !line.trim_start().starts_with('#'))
+}
+
+/// The lists that a text tells.
+///
+/// ```
+/// use lihambozy::{text, Posting};
+///
+/// let lists = text::lists("# titles\n1:0 1:6\n\n1:2 1:8 2:4 # a word\n")?;
+/// assert_eq!(lists.len(), 3);
+/// assert_eq!(lists[0], [Posting::new(1, 0), Posting::new(1, 6)]);
+/// assert!(lists[1].is_empty());
+///
+/// let mistake = text::lists("1:0 1:6\n1:2 1;8").unwrap_err();
+/// assert_eq!(mistake.to_string(), "2:5: `1;8` is no scene:place");
+/// # Ok::<(), text::Mistake>(())
+/// ```
+pub fn lists(text: &str) -> Result<Vec<Vec<Posting>>, Mistake> {
+    list_lines(text).map(|(number, line)| words(number, line).map(posting).collect()).collect()
+}
+
+/// The posting that a word tells.
+fn posting(word: Word<'_>) -> Result<Posting, Mistake> {
+    let Some((doc, pos)) = word.text.split_once(':') else {
+        return Err(no_posting(word));
+    };
+    let number = |digits: &str| {
+        if !is_number(digits) {
+            return Err(no_posting(word));
+        }
+        digits.parse().map_err(|_| word.mistake(format!("`{digits}` is over 65535")))
+    };
+    Ok(Posting::new(number(doc)?, number(pos)?))
+}
+
+fn no_posting(word: Word<'_>) -> Mistake {
+    word.mistake(format!("`{}` is no scene:place", word.text))
+}
+
+/// Whether a word is digits alone.
+fn is_number(word: &str) -> bool {
+    !word.is_empty() && word.bytes().all(|byte| byte.is_ascii_digit())
+}
+
+/// Where a text of lists earns a refusal of its volume: the first posting that does not rise in the
+/// list of a 7, the first list that is too many for a 5 or the end of the text where there is none,
+/// the first posting that is too many for a 19. `None` for any other refusal, or where the text does
+/// not earn it.
+///
+/// ```
+/// use lihambozy::{text, Volume};
+///
+/// let lists = "1:0 1:6\n1:8 1:2\n";
+/// let refusal = Volume::of_lists(&text::lists(lists)?).unwrap_err();
+/// let mistake = text::refused(lists, refusal).unwrap();
+/// assert_eq!(mistake.to_string(), "2:5: `1:2` does not come after `1:8`");
+/// # Ok::<(), text::Mistake>(())
+/// ```
+pub fn refused(text: &str, refusal: Refusal) -> Option<Mistake> {
+    let mut lists = list_lines(text);
+    match refusal.number {
+        5 => {
+            let (line, what) = match lists.nth(MAX_LISTS) {
+                Some((line, _)) => (line, "this list is one more than the 1024 of a volume"),
+                None => (text.lines().count() + 1, "there is no list"),
+            };
+            Some(Mistake { line, column: 1, what: what.into() })
+        }
+        7 => {
+            let (number, line) = lists.nth(refusal.at as usize)?;
+            let list: Vec<Word<'_>> = words(number, line).collect();
+            let falls = |pair: &&[Word<'_>]| posting(pair[1]).ok() <= posting(pair[0]).ok();
+            let pair = list.windows(2).find(falls)?;
+            let (before, word) = (pair[0].text, pair[1]);
+            Some(word.mistake(format!("`{}` does not come after `{before}`", word.text)))
+        }
+        19 => {
+            let room = MAX_WORDS - 2 - lists.count();
+            let postings = list_lines(text).flat_map(|(number, line)| words(number, line));
+            let word = { postings }.nth(room)?;
+            Some(word.mistake("this posting is one more than fits the volume"))
+        }
+        _ => None,
+    }
+}
+
+/// The kinds: name, number, and the indices in a row of the words that it uses.
+const KINDS: [(&str, u32, &[usize]); 9] = [
+    ("VOICE", kind::VOICE, &[1]),
+    ("NEAR", kind::NEAR, &[1, 2, 3]),
+    ("BEFORE", kind::BEFORE, &[1, 2]),
+    ("SAME TITLE", kind::SAME_TITLE, &[1, 2]),
+    ("SPAN", kind::SPAN, &[3]),
+    ("END", kind::END, &[]),
+    ("BOTH", kind::BOTH, &[]),
+    ("EITHER", kind::EITHER, &[]),
+    ("FIRST NOT SECOND", kind::FIRST_NOT_SECOND, &[]),
+];
+
+/// A row of a plan, shown as a line of its text.
+pub(crate) struct RowText(pub Row);
+
+impl fmt::Display for RowText {
+    fn fmt(&self, f: &mut fmt::Formatter<'_>) -> fmt::Result {
+        let row = self.0;
+        let tells = |&&(_, kind, used): &&(&str, u32, &[usize])| {
+            row[0] == kind && (1..ROW_WORDS).all(|k| used.contains(&k) || row[k] == 0)
+        };
+        match KINDS.iter().find(tells) {
+            Some((name, _, used)) => {
+                f.write_str(name)?;
+                used.iter().try_for_each(|&k| write!(f, " {}", row[k]))
+            }
+            None => write!(f, "{} {} {} {}", row[0], row[1], row[2], row[3]),
+        }
+    }
+}
+
+/// The rows that the text of a plan tells.
+pub(crate) fn plan_rows(text: &str) -> Result<Vec<Row>, Mistake> {
+    let lines = (1..).zip(text.lines()).map(|(number, line)| words(number, line).collect());
+    lines.filter(|line: &Vec<Word<'_>>| !line.is_empty()).map(|line| row(&line)).collect()
+}
+
+/// The row that a line with these words tells.
+fn row(line: &[Word<'_>]) -> Result<Row, Mistake> {
+    if is_number(line[0].text) {
+        return numbers(line, line, &[0, 1, 2, 3], "a row told by numbers");
+    }
+    for (name, kind, used) in KINDS {
+        let names = name.split(' ').count();
+        let same = |(word, name): (&Word<'_>, &str)| word.text.eq_ignore_ascii_case(name);
+        if line.len() >= names && line.iter().zip(name.split(' ')).all(same) {
+            let mut row = numbers(line, &line[names..], used, name)?;
+            row[0] = kind;
+            return Ok(row);
+        }
+    }
+    let names = KINDS.map(|(name, ..)| name).join(", ");
+    Err(line[0].mistake(format!("`{}` names no kind of row: {names}", line[0].text)))
+}
+
+/// The row with these numbers at the indices `used`, as many as there are of them.
+fn numbers(line: &[Word<'_>], told: &[Word<'_>], used: &[usize], of: &str) -> Result<Row, Mistake> {
+    let takes = || match used.len() {
+        0 => format!("{of} takes no number"),
+        1 => format!("{of} takes one number"),
+        count => format!("{of} takes {count} numbers"),
+    };
+    if let Some(word) = told.get(used.len()) {
+        return Err(word.mistake(takes()));
+    }
+    if told.len() < used.len() {
+        let mut behind = line[line.len() - 1];
+        behind.column += behind.text.chars().count();
+        return Err(behind.mistake(takes()));
+    }
+    let mut row = [0; ROW_WORDS];
+    for (&k, word) in used.iter().zip(told) {
+        if !is_number(word.text) {
+            return Err(word.mistake(format!("`{}` is no number", word.text)));
+        }
+        let over = |_| word.mistake(format!("`{}` is over {}", word.text, u32::MAX));
+        row[k] = word.text.parse().map_err(over)?;
+    }
+    Ok(row)
+}

@@ -1,0 +1,170 @@
+//! Volumes that are accepted.
+
+use crate::calls::{self, CheckedPlan, CheckedVolume};
+use crate::row::Row;
+use crate::{Plan, Posting, Refusal, Search};
+use std::borrow::Cow;
+use std::fmt;
+
+/// A volume that is accepted: its bytes, which are lent or owned, and which nobody can change while
+/// it is there.
+///
+/// ```
+/// use lihambozy::{Posting, Volume};
+///
+/// let starts = vec![Posting::new(1, 0), Posting::new(1, 6)];
+/// let word = vec![Posting::new(1, 2), Posting::new(1, 8), Posting::new(2, 4)];
+/// let written = Volume::of_lists(&[starts, word.clone()])?;
+///
+/// let volume = Volume::new(written.as_bytes())?;
+/// assert_eq!((volume.list_count(), volume.posting_count()), (2, 5));
+/// assert_eq!(volume.list(1)?, word);
+/// assert_eq!(volume.list(2).unwrap_err().number, 17);
+///
+/// let mut damaged = written.into_bytes();
+/// damaged[300] ^= 1;
+/// let refusal = Volume::new(damaged).unwrap_err();
+/// assert_eq!((refusal.number, refusal.at), (3, 0));
+/// # Ok::<(), lihambozy::Refusal>(())
+/// ```
+#[derive(Clone, PartialEq, Eq)]
+pub struct Volume<'a> {
+    bytes: Cow<'a, [u8]>,
+    checked: CheckedVolume,
+}
+
+impl<'a> Volume<'a> {
+    /// The volume that these bytes are, `Vec<u8>` or `&[u8]`. Every byte is checked.
+    ///
+    /// Refused with 1 to 8, as [`calls::check_volume`] tells.
+    pub fn new(bytes: impl Into<Cow<'a, [u8]>>) -> Result<Volume<'a>, Refusal> {
+        let bytes = bytes.into();
+        let checked = calls::check_volume(&bytes)?;
+        Ok(Volume { bytes, checked })
+    }
+
+    /// The one volume that reads as these lists, list 0 first.
+    ///
+    /// Refused with 5 (number of lists), 7 (a list does not rise, at the lowest one) or 19 (too many
+    /// postings for a volume).
+    ///
+    /// ```
+    /// use lihambozy::{Posting, Volume};
+    ///
+    /// let falling = [Posting::new(1, 8), Posting::new(1, 2)];
+    /// let refusal = Volume::of_lists(&[&[], &falling[..]]).unwrap_err();
+    /// assert_eq!((refusal.number, refusal.at), (7, 1));
+    /// ```
+    pub fn of_lists<L: AsRef<[Posting]>>(lists: &[L]) -> Result<Volume<'static>, Refusal> {
+        let lists = lists.iter().map(AsRef::as_ref);
+        // A count over 32 bits does not fit a volume, and its sum with the others is not the number
+        // of postings.
+        let count = |list: &[Posting]| u32::try_from(list.len()).unwrap_or(u32::MAX);
+        let counts: Vec<u32> = lists.clone().map(count).collect();
+        let postings: Vec<u32> = lists.flatten().map(|posting| posting.word()).collect();
+        let len = calls::volume_len(counts.len(), postings.len()).unwrap_or(0);
+        let mut bytes = vec![0; len];
+        calls::write_volume(&counts, &postings, &mut bytes)?;
+        Volume::new(bytes)
+    }
+
+    /// The volume's bytes.
+    pub fn as_bytes(&self) -> &[u8] {
+        &self.bytes
+    }
+
+    /// The volume's bytes, copied where they were lent.
+    pub fn into_bytes(self) -> Vec<u8> {
+        self.bytes.into_owned()
+    }
+
+    /// The number of lists (01: T).
+    pub fn list_count(&self) -> u32 {
+        self.checked.lists
+    }
+
+    /// The number of postings of all lists together (01: S).
+    pub fn posting_count(&self) -> u32 {
+        self.checked.postings
+    }
+
+    /// The postings of a list, rising.
+    ///
+    /// Refused with 17 where the volume has no such list.
+    pub fn list(&self, list: u32) -> Result<Vec<Posting>, Refusal> {
+        let mut words = vec![0; self.checked.postings as usize];
+        self.read(list, &mut words)
+    }
+
+    /// All lists, list 0 first.
+    pub fn lists(&self) -> impl Iterator<Item = Vec<Posting>> + '_ {
+        let mut words = vec![0; self.checked.postings as usize];
+        (0..self.checked.lists)
+            .map(move |list| self.read(list, &mut words).expect("the volume has the list"))
+    }
+
+    /// Reads a list through a buffer that holds all postings.
+    fn read(&self, list: u32, words: &mut [u32]) -> Result<Vec<Posting>, Refusal> {
+        let count = calls::read_list(&self.bytes, list, words)?.count as usize;
+        Ok(words[..count].iter().map(|&word| Posting::from_word(word)).collect())
+    }
+
+    /// Checks a plan over this volume.
+    ///
+    /// Refused with 9 to 14, as [`calls::check_plan`] tells.
+    pub fn check(&self, plan: &Plan) -> Result<CheckedPlan, Refusal> {
+        calls::check_plan(&self.bytes, plan.words())
+    }
+
+    /// The rows of one pattern of a plan, from its first VOICE to its END.
+    ///
+    /// Refused with 9 to 14 as by [`Volume::check`], then with 17 where the plan has no pattern of
+    /// that number.
+    ///
+    /// ```
+    /// use lihambozy::row::{voice, BOTH, END};
+    /// use lihambozy::{Plan, Volume};
+    ///
+    /// let volume = Volume::of_lists(&[[], []])?;
+    /// let plan = Plan::new([voice(1), END, voice(1), voice(1), END, BOTH]);
+    /// assert_eq!(volume.pattern_rows(&plan, 1)?, &plan.rows()[2..5]);
+    /// assert_eq!(volume.pattern_rows(&plan, 2).unwrap_err().number, 17);
+    /// # Ok::<(), lihambozy::Refusal>(())
+    /// ```
+    pub fn pattern_rows<'p>(&self, plan: &'p Plan, pattern: u32) -> Result<&'p [Row], Refusal> {
+        self.check(plan)?;
+        match calls::pattern_rows(&self.bytes, plan.words(), pattern).as_chunks().0 {
+            [] => Err(Refusal::NO_SUCH),
+            rows => Ok(rows),
+        }
+    }
+
+    /// Whether positions pass: one for each variable of the pattern, in their order, in the document
+    /// `doc`.
+    ///
+    /// Refused with 9 to 14 as by [`Volume::check`], then with 17 (no pattern of that number, not as
+    /// many positions as it has variables, or a document or position over 65,535).
+    pub fn test(
+        &self,
+        plan: &Plan,
+        pattern: u32,
+        doc: u32,
+        positions: &[u32],
+    ) -> Result<bool, Refusal> {
+        calls::test_positions(&self.bytes, plan.words(), pattern, doc, positions)
+    }
+
+    /// Searches for the documents that match a plan, from document 0 to the last.
+    ///
+    /// Refused with 9 to 14 as by [`Volume::check`].
+    pub fn search<'s>(&'s self, plan: &'s Plan) -> Result<Search<'s>, Refusal> {
+        Search::new(self, plan)
+    }
+}
+
+impl fmt::Debug for Volume<'_> {
+    fn fmt(&self, f: &mut fmt::Formatter<'_>) -> fmt::Result {
+        let CheckedVolume { lists, postings } = self.checked;
+        f.debug_struct("Volume").field("lists", &lists).field("postings", &postings).finish()
+    }
+}
