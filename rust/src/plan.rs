@@ -2,7 +2,7 @@
 
 use crate::row::Row;
 use crate::text::{self, Mistake};
-use crate::{Refusal, ROW_WORDS};
+use crate::{Refusal, MAX_ROWS};
 use std::fmt;
 use std::str::FromStr;
 
@@ -39,18 +39,18 @@ impl Plan {
         Plan { rows: rows.into() }
     }
 
-    /// The plan whose words these bytes are, little-endian.
+    /// The plan whose words these bytes are, little-endian: a plan file's.
     ///
-    /// Refused with 9 where they are no whole number of rows.
+    /// Refused with 9 where they are none, no whole number of rows, or over 64 rows.
     pub fn from_bytes(bytes: &[u8]) -> Result<Plan, Refusal> {
-        let rows = bytes.chunks_exact(4 * ROW_WORDS);
-        if !rows.remainder().is_empty() {
-            return Err(Refusal::PLAN_LENGTH);
+        let (words, rest) = bytes.as_chunks();
+        let words: Vec<u32> = words.iter().map(|&word| u32::from_le_bytes(word)).collect();
+        match words.as_chunks() {
+            (rows, []) if rest.is_empty() && (1..=MAX_ROWS).contains(&rows.len()) => {
+                Ok(Plan::new(rows))
+            }
+            _ => Err(Refusal::PLAN_LENGTH),
         }
-        let word = |row: &[u8], k: usize| {
-            u32::from_le_bytes([row[4 * k], row[4 * k + 1], row[4 * k + 2], row[4 * k + 3]])
-        };
-        Ok(Plan { rows: rows.map(|row| [0, 1, 2, 3].map(|k| word(row, k))).collect() })
     }
 
     /// The plan's words as bytes, little-endian: a plan file.

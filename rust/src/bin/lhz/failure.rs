@@ -1,0 +1,68 @@
+//! Why the command does not answer, and how that is told.
+
+use lihambozy::text::Mistake;
+use lihambozy::Refusal;
+use std::io::{self, Write};
+use std::process::ExitCode;
+
+/// Why the command does not answer.
+pub enum Failure {
+    /// Document 01 refuses what a file holds, or what is asked of it: the file, the refusal, and a
+    /// sentence.
+    Refused { file: String, refusal: Refusal, sentence: String },
+    /// A text has a mistake, and the refusal that document 01 has for it, if it has one.
+    Text { file: String, mistake: Mistake, refusal: Option<Refusal> },
+    /// A file cannot be read or written, and why.
+    File { file: String, why: String },
+    /// Nobody reads the standard output any longer.
+    Unread,
+    /// The arguments are not as they should be.
+    Usage(String),
+}
+
+impl Failure {
+    /// A refusal of what a file holds, with the sentence that each refusal has.
+    pub fn refused(file: impl Into<String>, refusal: Refusal) -> Failure {
+        Failure::Refused { file: file.into(), refusal, sentence: refusal.to_string() }
+    }
+
+    /// A file that the system does not let us read or write.
+    pub fn file(file: impl Into<String>, error: &io::Error) -> Failure {
+        let why = error.to_string();
+        let why = why.split(" (os error").next().unwrap_or_default();
+        Failure::File { file: file.into(), why: why.to_string() }
+    }
+
+    /// Standard output that cannot be written.
+    pub fn output(error: io::Error) -> Failure {
+        match error.kind() {
+            io::ErrorKind::BrokenPipe => Failure::Unread,
+            _ => Failure::file("standard output", &error),
+        }
+    }
+
+    /// The refusal, the sentence and the exit status: 1 for what was refused, 2 for all else.
+    pub fn tell(self, out: &mut impl Write) -> ExitCode {
+        let refusal = match &self {
+            Failure::Refused { refusal, .. } => Some(*refusal),
+            Failure::Text { refusal, .. } => *refusal,
+            _ => None,
+        };
+        if let Some(Refusal { number, at }) = refusal {
+            let printed = writeln!(out, "refused {number} {at}").and_then(|()| out.flush());
+            if let Err(error) = printed {
+                return Failure::output(error).tell(&mut io::sink());
+            }
+        }
+        let (status, sentence) = match self {
+            Failure::Refused { file, sentence, .. } => (1, format!("{file}: {sentence}")),
+            Failure::Text { file, mistake, .. } => (1, format!("{file}:{mistake}")),
+            Failure::File { file, why } => (2, format!("{file}: {why}")),
+            Failure::Unread => return ExitCode::from(2),
+            Failure::Usage(why) => (2, format!("{why} (lhz --help shows how it is used)")),
+        };
+        // A sentence that standard error does not take has nowhere else to go.
+        let _ = writeln!(io::stderr(), "lhz: {sentence}");
+        ExitCode::from(status)
+    }
+}

@@ -1,0 +1,153 @@
+//! What `--help` prints.
+
+/// The page of all commands.
+pub const ALL: &str = "\
+lhz checks, reads, writes and searches the volumes of a surtitle archive.
+
+  lhz check VOLUME [PLAN]                    check a volume, or a plan over it
+  lhz list VOLUME PLAN                       list the true scenes
+  lhz read VOLUME [LIST]                     print one list, or all of them
+  lhz test VOLUME PLAN FIGURE SCENE PLACE..  ask whether places pass
+  lhz write TEXT VOLUME                      write the volume of the lists in a text
+  lhz plan PLANTEXT PLAN                     write a plan from its text
+  lhz show PLAN                              print a plan as text
+  lhz show VOLUME PLAN FIGURE                print one figure's own rows
+  lhz COMMAND --help                         more on one of them, with examples
+  lhz --version
+
+`-` stands for standard input, or for standard output where a file is written.
+What is refused is printed as `refused`, document 01's number and place; a
+sentence on it goes to standard error.
+Exit status: 0 answered; 1 refused, or a mistake in a text; 2 wrong arguments,
+or a file that cannot be read or written.
+
+Examples, from lists to the scenes of a plan:
+
+  lhz write lists.txt titles.vol
+  lhz plan wording.txt wording.plan
+  lhz list titles.vol wording.plan
+";
+
+/// The page of one command; its first line shows how it is used.
+pub fn page(command: &str) -> Option<&'static str> {
+    Some(match command {
+        "check" => CHECK,
+        "list" => LIST,
+        "read" => READ,
+        "test" => TEST,
+        "write" => WRITE,
+        "plan" => PLAN,
+        "show" => SHOW,
+        _ => return None,
+    })
+}
+
+const CHECK: &str = "\
+lhz check VOLUME [PLAN]
+
+Checks every byte of a volume, and a plan over it if one is given. Prints the
+number of lists and of postings, then the number of figures and of voices, or
+`refused`, document 01's number and place.
+
+  $ lhz check titles.vol sample.plan
+  lists 3 postings 8
+  figures 1 voices 2
+";
+
+const LIST: &str = "\
+lhz list VOLUME PLAN
+
+Lists all true scenes of a plan, rising, each once. A line is `scene`, the
+scene, and for each figure 1 and the earliest places of its voices, or 0 and
+zeros where the figure is not found in that scene. The last line is `done` and
+the number of postings of the voices' lists; without it the listing is not
+whole.
+
+  $ lhz list titles.vol sample.plan
+  scene 1 1 2 5
+  scene 2 1 4 9
+  done 6
+";
+
+const READ: &str = "\
+lhz read VOLUME [LIST]
+
+Prints the postings of a list as scene:place, or of all lists, one list a line.
+List 0 holds the places at which titles start.
+
+  $ lhz read titles.vol 1
+  1:2 1:8 2:4
+  $ lhz read titles.vol > lists.txt     # the text that lhz write reads
+";
+
+const TEST: &str = "\
+lhz test VOLUME PLAN FIGURE SCENE PLACE..
+
+Asks whether places pass: one place for each voice of the figure, in the order
+of its voices. Figures are numbered from 0 in the order in which they open.
+Prints yes or no.
+
+  $ lhz test titles.vol sample.plan 0 1 2 5
+  yes
+  $ lhz test titles.vol sample.plan 0 1 2 7     # a title starts at 6
+  no
+";
+
+const WRITE: &str = "\
+lhz write TEXT VOLUME
+
+Writes the volume of the lists in a text. Each line is one list, list 0 first,
+as scene:place with blanks between; an empty line is an empty list. A line that
+starts with # is a comment and no list; behind postings a comment starts at #.
+Scenes and places are 0 to 65535, and each list rises. A mistake is told with
+its line and column, and the old file stays.
+
+  $ cat lists.txt
+  # where titles start
+  1:0 1:6
+  1:2 1:8 2:4   # a word
+  1:5 1:7 2:9   # another word
+  $ lhz write lists.txt titles.vol
+  lists 3 postings 8 blocks 1
+";
+
+const PLAN: &str = "\
+lhz plan PLANTEXT PLAN
+
+Writes a plan from its text, one row a line. Voices are numbered from 0 in each
+figure. What follows # is skipped, and so are empty lines.
+
+  VOICE list           a voice of the figure, opening one where none is open
+  NEAR a b c           voices a and b, at most c places between them
+  BEFORE a b           the place of voice a before that of voice b
+  SAME TITLE a b       voices a and b in one title
+  SPAN c               all voices of the figure within c places
+  END                  closes the figure: is it found?
+  BOTH, EITHER, FIRST NOT SECOND    join the last two answers into one
+
+A row may also be its four numbers: kind, a, b, c. Whether the plan is in order
+is told by lhz check VOLUME PLAN.
+
+  $ cat sample.txt
+  VOICE 1
+  VOICE 2
+  BEFORE 0 1
+  SAME TITLE 0 1
+  END
+  $ lhz plan sample.txt sample.plan
+  rows 5
+";
+
+const SHOW: &str = "\
+lhz show PLAN, lhz show VOLUME PLAN FIGURE
+
+Prints a plan as the text that lhz plan reads, or one figure's own rows of a
+plan that is in order, from its first VOICE to its END.
+
+  $ lhz show sample.plan
+  VOICE 1
+  VOICE 2
+  BEFORE 0 1
+  SAME TITLE 0 1
+  END
+";
