@@ -1,13 +1,16 @@
-# make        proves every crate, builds the program, the library and the Rust package, and prints the sample listing
-# make test   the gate (rt ci), then every other test; the last line is the gate's own, if all passed
-# make bench  times the library beside plain Rust and beside a copy
-# make clean  removes all that these made
+# make          proves every crate, builds the program, the library, the Rust package and the command, and prints the
+#               sample listing
+# make test     the gate (rt ci), then every other test; the last line is the gate's own, if all passed
+# make bench    times the library beside plain Rust and beside a copy
+# make install  copies the command, the header and the library to bin/, include/ and lib/ of PREFIX
+# make clean    removes all that these made
 
 SHELL := bash
 .SHELLFLAGS := -euo pipefail -c
 .NOTPARALLEL:
-.PHONY: all test bench clean
+.PHONY: all test bench install clean
 
+PREFIX := /usr/local
 CARGO := cargo
 PACKAGE := --manifest-path rust/Cargo.toml --offline --locked
 HEADER := include/lihambozy.h
@@ -20,6 +23,7 @@ all:
 	rt staticlib lihambozy
 	$(CARGO) build --release $(PACKAGE)
 	cd crates/lister/data && ../../../target/bin/lister
+	@echo 'the command: rust/target/release/lhz'
 
 # `rt ci` removes target/: its log is kept in build/, and the library is built after it.
 test:
@@ -37,6 +41,12 @@ test:
 bench:
 	rt staticlib lihambozy
 	$(CARGO) bench --no-fail-fast $(PACKAGE) --bench volume --bench search
+
+install:
+	install -d $(DESTDIR)$(PREFIX)/bin $(DESTDIR)$(PREFIX)/include $(DESTDIR)$(PREFIX)/lib
+	install rust/target/release/lhz $(DESTDIR)$(PREFIX)/bin
+	install -m 644 $(HEADER) $(DESTDIR)$(PREFIX)/include
+	install -m 644 target/staticlib/liblihambozy.a $(DESTDIR)$(PREFIX)/lib
 
 clean:
 	rm -rf target build rust/target

@@ -51,8 +51,9 @@ pub struct Search<'a> {
 }
 
 impl<'a> Search<'a> {
-    /// The rows for which a listing call has room where [`Search::page_rows`] does not say otherwise.
-    pub const PAGE_ROWS: usize = 1_024;
+    /// The rows for which a listing call has room where [`Search::page_rows`] does not say
+    /// otherwise: a quarter of all documents, so that four calls are enough for any search.
+    pub const PAGE_ROWS: usize = 16_384;
 
     pub(crate) fn new(volume: &'a Volume<'a>, plan: &'a Plan) -> Result<Search<'a>, Refusal> {
         let checked = volume.check(plan)?;
