@@ -29,7 +29,7 @@ all:
 test:
 	mkdir -p build
 	rt ci 2>&1 | tee $(GATE_LOG) || { echo 'rt ci failed'; exit 1; }
-	awk "$$ASSUME_NOTHING" crates.txt $(GATE_LOG)
+	awk -v assumed='$(ASSUMED)' "$$ASSUME_NOTHING" crates.txt $(GATE_LOG)
 	rt staticlib lihambozy 2>&1 | tee $(LIBRARY_LOG)
 	grep -q '^logic=proved ' $(LIBRARY_LOG) && ! grep -E ' (foreign=|axioms=[1-9])' $(LIBRARY_LOG)
 	$(CC) -std=c99 $(WARNINGS) -fsyntax-only -x c $(HEADER)
@@ -51,22 +51,32 @@ install:
 clean:
 	rm -rf target build rust/target
 
-# Reads crates.txt, then the gate's log, where a crate's verdict stands above its line `rt: NAME proved`.
-# Fails unless the log ends as that of a passed gate, every listed crate has its verdict there, and no
-# verdict but a program's names a foreign function or counts an axiom.
+# What the program is proved over: the C functions of the kit that it calls.
+ASSUMED := libc::close libc::read libc::write os::c::rattle_open_to_read os::c::rattle_set_errno
+
+# Reads crates.txt, then the gate's log, where a crate's verdict and the axioms it counts stand above its line `rt: NAME
+# proved`. Fails unless the log ends as that of a passed gate, every listed crate has its verdict there, no verdict names a
+# foreign function, no crate but a program has an axiom, and the axioms of a program are those assumed.
 define ASSUME_NOTHING
+BEGIN { split(assumed, words, " "); for (word in words) known[words[word]] }
 FNR == NR { sub(/#.*/, ""); if (sub(/:.*/, "")) { gsub(/[ \t]/, ""); listed[$$0] }; next }
 { last = $$0 }
+/^axioms / { sub(/^axioms [^:]*: /, ""); sub(/ \(.*/, ""); axioms = axioms ", " $$0 }
 /^logic=proved / { verdict = $$0 }
-/^rt: [A-Za-z0-9_]+ proved / { verdicts[$$2] = verdict; verdict = "" }
+/^rt: [A-Za-z0-9_]+ proved / { verdicts[$$2] = verdict; of[$$2] = substr(axioms, 3); verdict = axioms = "" }
 function fail(why) { print FILENAME ": " why; failed = 1 }
+function program(crate) { return system("test -f crates/" crate "/src/main.rt") == 0 }
 END {
     if (last !~ /^[1-9][0-9]* passed, 0 failed$$/) fail("it does not end as the log of a passed gate")
     for (crate in listed) {
         verdict = verdicts[crate]
         if (verdict == "") fail(crate " has no verdict")
-        if (verdict ~ / (foreign=|axioms=[1-9])/ && system("test -f crates/" crate "/src/main.rt"))
-            fail(crate " assumes something: " verdict)
+        if (verdict ~ / foreign=/) fail(crate " has a foreign function: " verdict)
+        told = match(verdict, / axioms=[0-9]+/) ? substr(verdict, RSTART + 8, RLENGTH - 8) + 0 : 0
+        count = split(of[crate], names, ", ")
+        if (told != count) fail(crate " counts " told " axioms and names " count)
+        if (told && !program(crate)) fail(crate " assumes something: " verdict)
+        for (name in names) if (!(names[name] in known)) fail(crate " assumes " names[name])
     }
     exit failed
 }

@@ -393,3 +393,19 @@ fn every_open_function_has_a_promise() {
     }
     assert!(count > 15, "{count} open functions");
 }
+
+#[test]
+fn the_axioms_are_those_that_the_gate_allows() {
+    let makefile = read("Makefile");
+    let assumed = makefile.lines().find_map(|line| line.strip_prefix("ASSUMED := "));
+    let assumed: BTreeSet<&str> = assumed.expect("the gate's list").split(' ').collect();
+    let page = page();
+    let lines = page.lines().filter_map(|line| line.strip_prefix("    axioms "));
+    let named: BTreeSet<&str> = lines
+        .flat_map(|line| {
+            let (_, names) = line.split_once(": ").expect("a library in front of the names");
+            names.split(" (").next().unwrap_or_default().split(", ")
+        })
+        .collect();
+    assert_eq!(named, assumed);
+}
