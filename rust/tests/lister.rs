@@ -114,14 +114,7 @@ fn printed(volume: Entry, plan: Entry) -> String {
     };
     match Searcher::new(volume, &plan) {
         Err((number, at)) => format!("refused {number} {at}\n"),
-        Ok(searcher) => {
-            let mut lines = String::new();
-            for row in &searcher.rows {
-                let words: Vec<String> = row.iter().map(u32::to_string).collect();
-                lines += &format!("scene {}\n", words.join(" "));
-            }
-            lines + &format!("done {}\n", searcher.tally(0, 65_536))
-        }
+        Ok(searcher) => searcher.printed(),
     }
 }
 

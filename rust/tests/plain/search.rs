@@ -190,6 +190,16 @@ impl Searcher {
         lists.map(|&list| count(&self.lists[list], from, to)).sum()
     }
 
+    /// The printed listing: `scene` and the words of each row, then `done` and the tally.
+    pub fn printed(&self) -> String {
+        let mut lines = String::new();
+        for row in &self.rows {
+            let words: Vec<String> = row.iter().map(u32::to_string).collect();
+            lines += &format!("scene {}\n", words.join(" "));
+        }
+        lines + &format!("done {}\n", self.tally(0, 65_536))
+    }
+
     /// The listing call.
     pub fn list(&self, start: u32, out: &mut [u32]) -> Result<Listed, Refused> {
         if start > 65_535 {
