@@ -70,6 +70,11 @@ pub use volume::Volume;
 #[path = "../tests/plain/mod.rs"]
 mod plain;
 
+/// The guide, whose program runs as a documentation test.
+#[cfg(doctest)]
+#[doc = include_str!("../../docs/GUIDE.md")]
+struct Guide;
+
 /// Bytes of a block.
 pub const BLOCK_BYTES: usize = 512;
 /// Words of a block that belong to the stream, 32 bits each.
