@@ -6,31 +6,20 @@
 ghost use mathlib.Core.Path.{_≡_};
 ghost use mathlib.Core.Bool.{cond};
 ghost use lib.ListN.{length};
-ghost use Rattle.volume.specs.Answers.{codeOf, atOf};
 ghost use Rattle.volume.specs.Check.{verdict};
 ghost use Rattle.volume.specs.Read.{readAnswer, readOut};
 ghost use Rattle.volume.specs.Write.{writeAnswer, writeOut};
-ghost use Rattle.plan.specs.Answers as plans;
 ghost use Rattle.plan.specs.Check as planned;
 ghost use Rattle.plan.specs.Parts.{spanOf};
 ghost use Rattle.search.specs.Testing.{testAnswer};
 ghost use Rattle.lihambozy.specs.Flat.{flatSizes, flatList, flatVolume, flatPlan, flatSpan, flatTest};
 ghost use Rattle.lihambozy.specs.Search.{Kept};
 use plan::Checked as PlanChecked;
-use plan::Fault;
-use plan::Refusal as PlanRefusal;
 use search::Listed;
 use search::Tested;
 use volume::Checked;
 use volume::ListRead;
-use volume::Refusal;
 use volume::Written;
-
-// The number of a refusal, and its place.
-struct Code {
-    refusal: u32,
-    at: u32,
-}
 
 // What `lhz_check_volume` answers: the number of lists and of postings.
 #[repr(C)]
@@ -94,58 +83,6 @@ pub struct Listing {
     pub next: u32,
 }
 
-fn code_of(why: Refusal) -> Code
-    ensures { λ r. ⌜ (r .refusal ≡ codeOf why) × (r .at ≡ atOf why) ⌝ }
-{
-    match why {
-        Refusal::Length => Code { refusal: 1, at: 0 },
-        Refusal::Number(block) => Code {
-            refusal: 2,
-            at: block,
-        },
-        Refusal::Checksum(block) => Code {
-            refusal: 3,
-            at: block,
-        },
-        Refusal::Version => Code { refusal: 4, at: 0 },
-        Refusal::ListCount => Code { refusal: 5, at: 0 },
-        Refusal::Extent => Code { refusal: 6, at: 0 },
-        Refusal::Order(list) => Code {
-            refusal: 7,
-            at: list,
-        },
-        Refusal::Padding(word) => Code {
-            refusal: 8,
-            at: word,
-        },
-    }
-}
-
-fn fault_code(fault: Fault) -> u32
-    ensures { λ r. ⌜ r ≡ plans.faultCode fault ⌝ }
-{
-    match fault {
-        Fault::Form => 10,
-        Fault::List => 11,
-        Fault::TooMany => 12,
-        Fault::Order => 13,
-    }
-}
-
-fn plan_code(why: PlanRefusal) -> Code
-    ensures { λ r. ⌜ (r .refusal ≡ plans.codeOf why) × (r .at ≡ plans.atOf why) ⌝ }
-{
-    match why {
-        PlanRefusal::Volume(of) => code_of(of),
-        PlanRefusal::Length => Code { refusal: 9, at: 0 },
-        PlanRefusal::Row(fault, row) => Code {
-            refusal: fault_code(fault),
-            at: row,
-        },
-        PlanRefusal::Unfinished => Code { refusal: 14, at: 0 },
-    }
-}
-
 // 1 for yes, 0 for no.
 fn flag_of(yes: bool) -> u32
     ensures { λ r. ⌜ r ≡ cond yes 1 0 ⌝ }
@@ -170,9 +107,9 @@ pub extern "C" fn lhz_check_volume(volume: &[u8]) -> VolumeSizes
             postings,
         },
         Checked::Refused(why) => {
-            let code = code_of(why);
+            let code = volume::code_of(why);
             VolumeSizes {
-                refusal: code.refusal,
+                refusal: code.number,
                 at: code.at,
                 lists: 0,
                 postings: 0,
@@ -194,9 +131,9 @@ pub extern "C" fn lhz_read_list(volume: &[u8], list: u32, out: &mut [u32]) -> Li
             count,
         },
         ListRead::Refused(why) => {
-            let code = code_of(why);
+            let code = volume::code_of(why);
             ListLength {
-                refusal: code.refusal,
+                refusal: code.number,
                 at: code.at,
                 count: 0,
             }
@@ -268,9 +205,9 @@ pub extern "C" fn lhz_check_plan(volume: &[u8], plan: &[u32]) -> PlanSizes
             vars,
         },
         PlanChecked::Refused(why) => {
-            let code = plan_code(why);
+            let code = plan::code_of(why);
             PlanSizes {
-                refusal: code.refusal,
+                refusal: code.number,
                 at: code.at,
                 patterns: 0,
                 vars: 0,
@@ -309,9 +246,9 @@ pub extern "C" fn lhz_test_positions(
             passes: flag_of(yes),
         },
         Tested::Refused(why) => {
-            let code = plan_code(why);
+            let code = plan::code_of(why);
             Passing {
-                refusal: code.refusal,
+                refusal: code.number,
                 at: code.at,
                 passes: 0,
             }
@@ -346,9 +283,9 @@ pub extern "C" fn lhz_list(volume: &[u8], plan: &[u32], start: u32, out: &mut [u
             next,
         },
         Listed::Refused(why) => {
-            let code = plan_code(why);
+            let code = plan::code_of(why);
             Listing {
-                refusal: code.refusal,
+                refusal: code.number,
                 at: code.at,
                 rows: 0,
                 tally: 0,

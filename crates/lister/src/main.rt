@@ -3,7 +3,6 @@
 // `specs/Printed.antt` says what is printed. A turn gives a part of it in a buffer, by a listing
 // call into a page, and the parts of all turns are the whole (`specs/Demands.antt`). What is here
 // opens, reads, calls and writes.
-mod codes;
 mod files;
 mod pages;
 mod text;

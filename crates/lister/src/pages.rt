@@ -9,7 +9,6 @@ ghost use Rattle.lister.specs.Text.{line, refusedWord};
 ghost use Rattle.lister.specs.Turns.{listTurn, turnAt};
 ghost use Rattle.lister.specs.Stored.{Stored};
 ghost use Rattle.lister.specs.Pages.{pageTurn, rowsIn, Told, Adds, Ready, Ahead};
-use super::codes::plan_code;
 use super::files::plan_words;
 use super::text::put_bytes;
 use super::text::put_done;
@@ -61,7 +60,7 @@ fn answer_text(listed: Listed, page: &[u32], width: usize, tally: u64, out: &mut
             Paged::More(end, next, tally + wide(sum))
         }
         Listed::Refused(why) => {
-            let code = plan_code(why);
+            let code = plan::code_of(why);
             let end = put_refusal(code.number, code.at, out);
             Paged::Last(end)
         }
@@ -104,7 +103,7 @@ fn list_text(volume: &[u8], plan: &[u32], from: u32, tally: u64, out: &mut [u8])
     let checked = plan::check(volume, plan);
     match checked {
         Checked::Refused(why) => {
-            let code = plan_code(why);
+            let code = plan::code_of(why);
             let end = put_refusal(code.number, code.at, out);
             Paged::Last(end)
         }

@@ -1,11 +1,13 @@
 // Query plans: rows of four words over the lists of a volume. `check` gives the number of a plan's
-// patterns and variables or says why it is refused, and `pattern_rows` gives a pattern's own rows.
+// patterns and variables or says why it is refused, `pattern_rows` gives a pattern's own rows, and
+// `code_of` gives the number and the place of a refusal.
 //
-// Neither has a `requires`, nor has `pattern_span`. What each one answers is an equation with a
-// definition of `specs/`. `row_at` and `span_at` serve the crates above, on a plan that they have
-// checked.
+// None of the three has a `requires`, nor has `pattern_span`. What each one answers is an equation
+// with a definition of `specs/`. `row_at` and `span_at` serve the crates above, on a plan that they
+// have checked.
 mod answers;
 mod checking;
+mod codes;
 mod kinds;
 mod row;
 mod showing;
@@ -15,6 +17,7 @@ pub use answers::Checked;
 pub use answers::Fault;
 pub use answers::Refusal;
 pub use checking::check;
+pub use codes::code_of;
 pub use row::Kind;
 pub use row::Operator;
 pub use row::Predicate;

@@ -1,7 +1,8 @@
 // Volumes: an inverted index as a file. `check` reads a volume's sizes or says why it is refused,
-// `read_list` copies a list out of it, and `write` makes the volume of given lists.
+// `read_list` copies a list out of it, `write` makes the volume of given lists, and `code_of` gives
+// the number and the place of a refusal.
 //
-// None of the three has a `requires`. What each one answers, and what it leaves in a lent buffer, is
+// None of the four has a `requires`. What each one answers, and what it leaves in a lent buffer, is
 // an equation with a definition of `specs/`. `word_at`, `below_in_window` and `list_span` serve the
 // crates above, on a volume that they have checked.
 mod answers;
@@ -9,6 +10,7 @@ mod block;
 mod bytes;
 mod checking;
 mod checksum;
+mod codes;
 mod order;
 mod posting;
 mod reading;
@@ -20,6 +22,8 @@ pub use answers::ListRead;
 pub use answers::Refusal;
 pub use answers::Written;
 pub use checking::check;
+pub use codes::Code;
+pub use codes::code_of;
 pub use posting::Posting;
 pub use reading::Span;
 pub use reading::list_span;

@@ -17,8 +17,8 @@ enum-known-checked c = search needs
 enum-known-checked-2 : tie.Need-enum-known-checked-2
 enum-known-checked-2 c = search needs
 
-plan-code-requires : tie.Need-plan-code-requires
-plan-code-requires c κs = search needs
+code-of-requires : tie.Need-code-of-requires
+code-of-requires c κs = search needs
 
 returns : tie.Need-returns
 returns c = ap flatPlan (sym (ap saidChecked (c .before .checked .given .1)) ∙ c .before .before .before .check .ensures)
@@ -26,7 +26,7 @@ returns c = ap flatPlan (sym (ap saidChecked (c .before .checked .given .1)) ∙
 returns-2 : tie.Need-returns-2
 returns-2 c =
     let refused-as : ℕ → ℕ → PlanSizes = λ n p. record { refusal = n; at = p; patterns = 0; vars = 0 } in
-    ap₂ refused-as (c .plan-code .ensures .0) (c .plan-code .ensures .1)
+    ap₂ refused-as (c .code-of .ensures .0) (c .code-of .ensures .1)
     ∙ ap flatPlan (sym (ap saidChecked (c .before .before .checked2 .given .1)) ∙ c .before .before .before .before .check .ensures)
 
 pub lhz-check-plan-spec : {M : Type 1} → statement M
@@ -36,6 +36,6 @@ lhz-check-plan-spec =
     check-requires
     enum-known-checked
     enum-known-checked-2
-    plan-code-requires
+    code-of-requires
     returns
     returns-2)

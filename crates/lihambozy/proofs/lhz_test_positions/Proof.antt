@@ -8,41 +8,41 @@ use Rattle.search.specs.Answers.{saidTested}
 use Rattle.lihambozy.specs.Flat.{flatTest}
 use Rattle.lihambozy.specs.declared.Passing.{Passing}
 
--- src/lib.rt:304:9
+-- src/lib.rt:241:9
 test-requires : tie.Need-test-requires
 test-requires c κs = search needs
 
--- src/lib.rt:306:24
+-- src/lib.rt:243:24
 enum-known-tested : tie.Need-enum-known-tested
 enum-known-tested c = search needs
 
--- src/lib.rt:309:21
+-- src/lib.rt:246:21
 flag-of-requires : tie.Need-flag-of-requires
 flag-of-requires c κs = search needs
 
--- src/lib.rt:311:25
+-- src/lib.rt:248:25
 enum-known-tested-2 : tie.Need-enum-known-tested-2
 enum-known-tested-2 c = search needs
 
--- src/lib.rt:312:17
-plan-code-requires : tie.Need-plan-code-requires
-plan-code-requires c κs = search needs
+-- src/lib.rt:249:17
+code-of-requires : tie.Need-code-of-requires
+code-of-requires c κs = search needs
 
--- src/lib.rt:319:31
+-- src/lib.rt:256:31
 enum-told : tie.Need-enum-told
 enum-told c = search needs
 
--- src/lib.rt:294:1
+-- src/lib.rt:231:1
 returns : tie.Need-returns
 returns c = let yes-as : ℕ → Passing = λ n. record { refusal = 0; at = 0; passes = n } in
     ap yes-as (c .flag-of .ensures) ∙ ap flatTest (sym (ap saidTested (c .before .before .tested .given .1)) ∙ c .before .before .before .before .test .ensures)
 
--- src/lib.rt:294:1
+-- src/lib.rt:231:1
 returns-2 : tie.Need-returns-2
 returns-2 c = let refused-as : ℕ → ℕ → Passing = λ n p. record { refusal = n; at = p; passes = 0 } in
-    ap₂ refused-as (c .plan-code .ensures .0) (c .plan-code .ensures .1) ∙ ap flatTest (sym (ap saidTested (c .before .before .tested2 .given .1)) ∙ c .before .before .before .before .test .ensures)
+    ap₂ refused-as (c .code-of .ensures .0) (c .code-of .ensures .1) ∙ ap flatTest (sym (ap saidTested (c .before .before .tested2 .given .1)) ∙ c .before .before .before .before .test .ensures)
 
--- src/lib.rt:294:1
+-- src/lib.rt:231:1
 returns-3 : tie.Need-returns-3
 returns-3 c = ap flatTest (sym (ap saidTested (c .enum-told .given .1)) ∙ c .before .before .test .ensures)
 
@@ -54,7 +54,7 @@ lhz-test-positions-spec =
     enum-known-tested
     flag-of-requires
     enum-known-tested-2
-    plan-code-requires
+    code-of-requires
     enum-told
     returns
     returns-2

@@ -47,8 +47,8 @@ add-t31 c = omega arith
 enum-known-listed-3 : tie.Need-enum-known-listed-3
 enum-known-listed-3 c = search needs
 
-plan-code-requires : tie.Need-plan-code-requires
-plan-code-requires c κs = tt
+code-of-requires : tie.Need-code-of-requires
+code-of-requires c κs = tt
 
 put-refusal-requires : tie.Need-put-refusal-requires
 put-refusal-requires c κs = omega arith
@@ -87,7 +87,7 @@ same-length-3 c = omega arith
 
 returns-3 : tie.Need-returns-3
 returns-3 c =
-    let code = c .before .before .before .before .plan-code .ensures in
+    let code = c .before .before .before .before .code-of .ensures in
     rw (c .before .before .before .before .before .before .listed3 .given .1) (told-only (c .before .before .before .before .before .before .before .before .before .before .args .tally) (rw (code .0, code .1) at (c .before .before .put-refusal .ensures)))
 
 same-length-4 : tie.Need-same-length-4
@@ -118,7 +118,7 @@ answer-text-spec =
     wide-requires-2
     add-t31
     enum-known-listed-3
-    plan-code-requires
+    code-of-requires
     put-refusal-requires
     enum-told
     put-refusal-requires-2

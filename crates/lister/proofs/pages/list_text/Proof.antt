@@ -14,8 +14,8 @@ check-requires c κs = tt
 enum-known-checked : tie.Need-enum-known-checked
 enum-known-checked c = search needs
 
-plan-code-requires : tie.Need-plan-code-requires
-plan-code-requires c κs = tt
+code-of-requires : tie.Need-code-of-requires
+code-of-requires c κs = tt
 
 put-refusal-requires : tie.Need-put-refusal-requires
 put-refusal-requires c κs = omega arith
@@ -48,7 +48,7 @@ returns : tie.Need-returns
 returns c =
     let a = c .before .before .before .before .before .before .before .before .before .before .before .before .args in
     let g = c .before .before .before .before .before .before .checked .given in
-    let code = c .before .before .before .before .plan-code .ensures in
+    let code = c .before .before .before .before .code-of .ensures in
     rw (list-refused (now (a .volume)) (now (a .plan)) (a .from) (a .tally) (codeOf (g .0 .0)) (atOf (g .0 .0)) (sym (c .before .before .before .before .before .before .before .before .check .ensures) ∙ ap saidChecked (g .1)))
     (told-only (a .tally) (rw (code .0, code .1) at (c .before .before .put-refusal .ensures)))
 
@@ -64,7 +64,7 @@ list-text-spec =
     (tie.spec
     check-requires
     enum-known-checked
-    plan-code-requires
+    code-of-requires
     put-refusal-requires
     enum-known-checked-2
     cast-width
