@@ -1,16 +1,28 @@
 /* lihambozy.h: reading and writing the volumes of a surtitle archive, checking plans over them, and
  * listing the documents that match.
  *
+ * `rt staticlib lihambozy` builds the library. A C99 program that includes this header is built in
+ * the same folder with
+ *
+ *    cc prog.c -Iinclude target/staticlib/liblihambozy.a
+ *
+ * or, after `make install`, anywhere with `cc prog.c -llihambozy`; a C++ program with c++ and the
+ * same words. Nothing else has to be linked: the library calls memcpy and memset of the C library,
+ * and no other function. examples/c/listing.c is a whole program.
+ *
  * A volume is an inverted index as one piece of bytes. It holds T posting lists, 1 to 1,024. A
- * posting is a 32-bit number, document * 65,536 + position, both 0 to 65,535 (document 01 says
- * scene and place). Each list rises strictly and may be empty. List 0 holds the positions at which
- * titles start; lists 1 to T - 1 belong to words.
+ * posting is a 32-bit number, document * 65,536 + position, both 0 to 65,535, so that its document
+ * is posting / 65536 and its position posting % 65536 (document 01 says scene and place; "01" below
+ * gives its other words). Each list rises strictly and may be empty. List 0 holds the positions at
+ * which titles start; lists 1 to T - 1 belong to words.
  *
  * The layout: n blocks of 512 bytes, n from 1 to 8,192. Block k holds k in bytes 0 to 3, 126 words
  * of 32 bits in bytes 4 to 507, and its checksum (01: check) in bytes 508 to 511. The words of all
  * blocks, joined, are the stream: the format version (01: edition), 1; T; T counts; the lists back
  * to back; then zero words. With S the sum of the counts, n is the least number of blocks that
- * holds 2 + T + S words. All stored numbers are little-endian.
+ * holds 2 + T + S words. The checksum is two numbers A and B of 16 bits, at 508 and at 510. They
+ * start as 1 and 0; for each of bytes 0 to 507 in turn A becomes (A + byte) mod 65,535, then B
+ * becomes (B + A) mod 65,535. All stored numbers are little-endian.
  *
  * A plan is a query over a volume: 1 to 64 rows of four words, kind, a, b and c. A row whose kind
  * does not use a word has 0 there. The nine kinds:
@@ -34,6 +46,10 @@
  * to 8 patterns, numbered from 0 in the order in which they open. At the end no pattern is open and
  * one answer is left.
  *
+ * In memory a plan is words of the machine, as uint32_t has them. A plan file holds the same words
+ * as bytes, little-endian on every machine, 16 bytes for each row: with b the bytes from 4 * i on,
+ * word i is b[0] + b[1] * 2^8 + b[2] * 2^16 + b[3] * 2^24.
+ *
  * A tuple of positions (01: choice), one for each variable of a pattern, passes in a document if
  * each position is in its variable's list for that document and all predicates hold. Two variables
  * may take one position, and a predicate may name one variable twice. A pattern is found in a
@@ -45,18 +61,24 @@
  * What every call here has in common:
  *
  * - A slice is lent as a pointer and the number of its elements (bytes for uint8_t, words for
- *   uint32_t). The pointer is not null, also where that number is 0, and a uint32_t pointer is
- *   aligned to 4 bytes; a volume may start at any address.
- * - What is lent through a pointer to const is read and never written. What is lent as `out`
- *   overlaps nothing else that is lent to the same call, and nobody else reads or writes it during
- *   the call.
- * - A call keeps no pointer and no state, allocates nothing, and always returns. Calls may run at
- *   the same time in several threads.
+ *   uint32_t). The pointer is not null, also where that number is 0 (malloc(0) may give a null
+ *   pointer), and a uint32_t pointer is aligned to 4 bytes; bytes may start at any address.
+ * - What is lent through a pointer to const is read and never written. Nobody writes in it during
+ *   the call, so that a file which another program may change is read into memory, not mapped.
+ * - What is lent as `out` overlaps nothing else that is lent to the same call, and nobody else
+ *   reads or writes it during the call. What it holds before the call does not matter.
+ * - A call keeps no pointer and no state, allocates nothing, leaves errno alone, takes less than 8
+ *   KiB of stack, and always returns. Calls may run at the same time in several threads, over one
+ *   volume and one plan too, if each has an `out` of its own.
+ * - A call that takes a volume checks every byte of it first, each time, and a call that takes a
+ *   plan then checks that too. So nothing has to be checked beforehand, and no call takes less time
+ *   than a pass over its volume.
  * - Any content and any length is allowed; what does not fit is refused. The answer is a struct
  *   that starts with `refusal` and `at`. `refusal` is 0 where the call is answered. Otherwise it is
  *   the number of the first refusal that applies, in the order listed at the call; `at` is its
  *   place, 0 where none is named below; the fields behind `at` are 0; and `out` is left exactly as
- *   it was. lhz_pattern_rows alone tells no number: an empty part stands for every refusal.
+ *   it was. So `refusal` is looked at before any other field. lhz_pattern_rows alone tells no
+ *   number: an empty part stands for every refusal.
  */
 #ifndef LIHAMBOZY_H
 #define LIHAMBOZY_H
@@ -71,14 +93,24 @@ extern "C" {
 #define LHZ_BLOCK_BYTES 512    /* bytes of a block */
 #define LHZ_BLOCK_WORDS 126    /* stream words of a block */
 #define LHZ_MAX_BLOCKS 8192    /* blocks of the largest volume */
+#define LHZ_MAX_BYTES 4194304  /* bytes of the largest volume */
 #define LHZ_MAX_WORDS 1032192  /* stream words of the largest volume */
 #define LHZ_MAX_LISTS 1024     /* lists of a volume, at most; 1 at least */
+#define LHZ_LAST_DOC 65535     /* the last document; the first is 0 */
+#define LHZ_LAST_POS 65535     /* the last position in a document; the first is 0 */
 #define LHZ_ROW_WORDS 4        /* words of a row of a plan */
 #define LHZ_MAX_ROWS 64        /* rows of a plan, at most; 1 at least */
+#define LHZ_MAX_PLAN_WORDS 256 /* words of a plan, at most */
 #define LHZ_MAX_PATTERNS 8     /* patterns of a plan, at most; 1 at least */
 #define LHZ_MAX_VARS 8         /* variables of a pattern, at most; 1 at least */
 
-#define LHZ_DONE 65536         /* what lhz_list tells as `next` where no document is left */
+/* Words of a row that lhz_list writes, at most: 1 + F + V with F patterns and V variables. Of a
+ * plan's rows, 64 at most, V are VOICE, F are END and F - 1 are operators, and V is 8 * F at most;
+ * so the longest row is that of 7 patterns with 51 variables. A buffer of so many words holds a row
+ * of every plan. */
+#define LHZ_MAX_ROW_WORDS 59
+
+#define LHZ_DONE 65536 /* what lhz_list tells as `next` where no document is left */
 
 /* The kinds of a plan's rows. */
 #define LHZ_VOICE 1
@@ -90,6 +122,34 @@ extern "C" {
 #define LHZ_BOTH 7
 #define LHZ_EITHER 8
 #define LHZ_FIRST_NOT_SECOND 9
+
+/* The refusals. Cause and place stand at the call that is named here; a call that gives the same
+ * refusal for another cause tells that cause itself.
+ *
+ * The volume is refused: lhz_check_volume. */
+#define LHZ_REFUSED_LENGTH 1
+#define LHZ_REFUSED_BLOCK_NUMBER 2
+#define LHZ_REFUSED_CHECKSUM 3
+#define LHZ_REFUSED_VERSION 4
+#define LHZ_REFUSED_LIST_COUNT 5
+#define LHZ_REFUSED_BLOCK_COUNT 6
+#define LHZ_REFUSED_LIST_ORDER 7
+#define LHZ_REFUSED_PADDING 8
+/* The plan is refused: lhz_check_plan. */
+#define LHZ_REFUSED_PLAN_LENGTH 9
+#define LHZ_REFUSED_ROW_FORM 10
+#define LHZ_REFUSED_ROW_LIST 11
+#define LHZ_REFUSED_ROW_TOO_MANY 12
+#define LHZ_REFUSED_ROW_ORDER 13
+#define LHZ_REFUSED_UNFINISHED 14
+/* What else a call is given is refused: lhz_list, lhz_read_list, lhz_test_positions. */
+#define LHZ_REFUSED_START 15
+#define LHZ_REFUSED_SHORT_BUFFER 16
+#define LHZ_REFUSED_OUT_OF_RANGE 17
+/* What is to be written is refused: lhz_write_volume. */
+#define LHZ_REFUSED_COUNT_SUM 18
+#define LHZ_REFUSED_TOO_LARGE 19
+#define LHZ_REFUSED_SHORT_OUTPUT 20
 
 /* The answer of lhz_check_volume. */
 typedef struct lhz_check_volume_answer {
@@ -105,14 +165,19 @@ typedef struct lhz_check_volume_answer {
  *
  * Refusals, the first that applies. Blocks go upward, 2 before 3 in each, and 4 comes after all of
  * them:
- *    1  len is 0, no multiple of 512, or over 8,192 blocks
- *    2  a block does not hold its own number          at: the block, from 0
- *    3  a block's checksum is wrong                   at: the block, from 0
- *    4  the format version is not 1
- *    5  T is 0 or over 1,024
- *    6  the number of blocks is not the least that holds the counts and the lists
- *    7  a list does not rise strictly                 at: the lowest such list, from 0
- *    8  a word behind the lists is not 0              at: the lowest such index in the stream, from 0
+ *    1  LHZ_REFUSED_LENGTH        len is 0, no multiple of 512, or over 8,192 blocks
+ *    2  LHZ_REFUSED_BLOCK_NUMBER  a block does not hold its own number
+ *                                 at: the block, from 0
+ *    3  LHZ_REFUSED_CHECKSUM      a block's checksum is wrong
+ *                                 at: the block, from 0
+ *    4  LHZ_REFUSED_VERSION       the format version is not 1
+ *    5  LHZ_REFUSED_LIST_COUNT    T is 0 or over 1,024
+ *    6  LHZ_REFUSED_BLOCK_COUNT   the number of blocks is not the least that holds the counts and
+ *                                 the lists: there are fewer, or more
+ *    7  LHZ_REFUSED_LIST_ORDER    a list does not rise strictly
+ *                                 at: the lowest such list, from 0
+ *    8  LHZ_REFUSED_PADDING       a word behind the lists is not 0
+ *                                 at: the lowest such index in the stream, from 0
  */
 lhz_check_volume_answer lhz_check_volume(const uint8_t *volume, size_t len);
 
@@ -127,12 +192,13 @@ typedef struct lhz_read_list_answer {
  *
  * Lent for reading: volume, len bytes. `list` is the list's number, from 0. Lent for writing: out,
  * out_len words. The list's postings are written at the front of out, rising; the words behind them
- * stay as they were. An empty list fits an empty buffer.
+ * stay as they were. An empty list fits an empty buffer. A buffer of S words, which
+ * lhz_check_volume tells as `postings`, fits every list of the volume; S is below LHZ_MAX_WORDS.
  *
  * Refusals, the first that applies:
- *    1 to 8  the volume is refused, as by lhz_check_volume, with the same place
- *   17       `list` is not below T
- *   16       out_len is less than the list's count
+ *    1 to 8                       the volume is refused as by lhz_check_volume, with the same place
+ *   17  LHZ_REFUSED_OUT_OF_RANGE  `list` is not below T
+ *   16  LHZ_REFUSED_SHORT_BUFFER  out_len is less than the list's count
  */
 lhz_read_list_answer lhz_read_list(const uint8_t *volume, size_t len, uint32_t list,
                                    uint32_t *out, size_t out_len);
@@ -149,14 +215,17 @@ typedef struct lhz_write_volume_answer {
  * Lent for reading: counts, counts_len words, the number of postings of each list, so that T is
  * counts_len; postings, postings_len words, the lists back to back. Lent for writing: out, out_len
  * bytes. The n blocks are written at the front of out, every byte of them; the bytes behind them
- * stay as they were. n is (2 + counts_len + postings_len) / 126, rounded up.
+ * stay as they were. n is (2 + counts_len + postings_len) / 126, rounded up, so that 512 * n bytes
+ * are needed; LHZ_MAX_BYTES fit every volume. lhz_check_volume accepts what is written, and
+ * lhz_read_list reads the given lists from it.
  *
  * Refusals, the first that applies:
- *    5  counts_len is 0 or over 1,024
- *   18  the counts do not sum to postings_len
- *    7  a list does not rise strictly                 at: the lowest such list, from 0
- *   19  2 + counts_len + postings_len is over 1,032,192 words
- *   20  out_len is less than 512 * n bytes
+ *    5  LHZ_REFUSED_LIST_COUNT    counts_len is 0 or over 1,024
+ *   18  LHZ_REFUSED_COUNT_SUM     the counts do not sum to postings_len
+ *    7  LHZ_REFUSED_LIST_ORDER    a list does not rise strictly
+ *                                 at: the lowest such list, from 0
+ *   19  LHZ_REFUSED_TOO_LARGE     2 + counts_len + postings_len is over 1,032,192 words
+ *   20  LHZ_REFUSED_SHORT_OUTPUT  out_len is less than 512 * n bytes
  */
 lhz_write_volume_answer lhz_write_volume(const uint32_t *counts, size_t counts_len,
                                          const uint32_t *postings, size_t postings_len,
@@ -176,15 +245,18 @@ typedef struct lhz_check_plan_answer {
  *
  * Refusals, the first that applies. Rows go upward, 10 to 13 in order in each, and 14 comes after
  * all of them. For 10 to 13, at: the row, from 0.
- *    1 to 8  the volume is refused, as by lhz_check_volume, with the same place
- *    9       plan_len is 0, no multiple of 4, or over 256
- *   10       the kind is not 1 to 9, an unused word is not 0, or c is out of range
- *   11       a VOICE with list 0, or with a list not below T
- *   12       a ninth variable of a pattern, or a VOICE that would open a ninth pattern
- *   13       a VOICE after a predicate; a predicate with no pattern open, or naming a variable that
- *            is not there; END with no pattern open; BOTH, EITHER or FIRST NOT SECOND with a
- *            pattern open or fewer than two answers
- *   14       at the end a pattern is open, or the number of answers is not one
+ *    1 to 8                       the volume is refused as by lhz_check_volume, with the same place
+ *    9  LHZ_REFUSED_PLAN_LENGTH   plan_len is 0, no multiple of 4, or over 256
+ *   10  LHZ_REFUSED_ROW_FORM      the kind is not 1 to 9, an unused word is not 0, or c is out of
+ *                                 range
+ *   11  LHZ_REFUSED_ROW_LIST      a VOICE with list 0, or with a list not below T
+ *   12  LHZ_REFUSED_ROW_TOO_MANY  a ninth variable of a pattern, or a VOICE that would open a ninth
+ *                                 pattern
+ *   13  LHZ_REFUSED_ROW_ORDER     a VOICE after a predicate; a predicate with no pattern open, or
+ *                                 naming a variable that is not there; END with no pattern open;
+ *                                 BOTH, EITHER or FIRST NOT SECOND with a pattern open or fewer
+ *                                 than two answers
+ *   14  LHZ_REFUSED_UNFINISHED    at the end a pattern is open, or the number of answers is not one
  */
 lhz_check_plan_answer lhz_check_plan(const uint8_t *volume, size_t len, const uint32_t *plan,
                                      size_t plan_len);
@@ -200,8 +272,9 @@ typedef struct lhz_pattern_rows_answer {
  * Lent for reading: volume, len bytes; plan, plan_len words. `pattern` is the pattern's number,
  * from 0. Nothing is written.
  *
- * The part is empty, start 0 and len 0, where lhz_check_plan refuses the volume or the plan (1 to
- * 14), and where `pattern` is not below F (17). Otherwise it has at least a VOICE and an END.
+ * The part is the `len` words from plan + start on. It is empty, start 0 and len 0, where
+ * lhz_check_plan refuses the volume or the plan (1 to 14), which tells why, and where `pattern` is
+ * not below F (17). Otherwise it has at least a VOICE and an END, so that `len` is 8 or more.
  */
 lhz_pattern_rows_answer lhz_pattern_rows(const uint8_t *volume, size_t len, const uint32_t *plan,
                                          size_t plan_len, uint32_t pattern);
@@ -221,9 +294,10 @@ typedef struct lhz_test_positions_answer {
  * positions pass.
  *
  * Refusals, the first that applies:
- *    1 to 14  the volume or the plan is refused, as by lhz_check_plan, with the same place
- *   17        `pattern` is not below F, positions_len is not the number of that pattern's
- *             variables, or `doc` or a position is over 65,535
+ *    1 to 14                      the volume or the plan is refused as by lhz_check_plan, with the
+ *                                 same place
+ *   17  LHZ_REFUSED_OUT_OF_RANGE  `pattern` is not below F, positions_len is not the number of that
+ *                                 pattern's variables, or `doc` or a position is over 65,535
  */
 lhz_test_positions_answer lhz_test_positions(const uint8_t *volume, size_t len,
                                              const uint32_t *plan, size_t plan_len,
@@ -244,26 +318,42 @@ typedef struct lhz_list_answer {
  * Lent for reading: volume, len bytes; plan, plan_len words. `start` is the document to start from.
  * Lent for writing: out, out_len words.
  *
- * A row is 1 + F + V words, 59 at most: the document; then for each pattern 1 and its least
- * positions or, where it is not found in that document, 0 and a 0 for each of its variables. The
- * rows of the matching documents from `start` on are written back to back at the front of out, as
- * many as there are or as whole rows fit; the words behind them stay as they were. Where more
- * documents match than rows fit, `next` is the least one that is not written (MORE); otherwise it
- * is LHZ_DONE.
+ * A row is 1 + F + V words, with F and V as lhz_check_plan tells them, and LHZ_MAX_ROW_WORDS at
+ * most: the document; then for each pattern 1 and its least positions or, where it is not found in
+ * that document, 0 and a 0 for each of its variables. The rows of the matching documents from
+ * `start` on are written back to back at the front of out, as many as there are or as whole rows
+ * fit; the words behind them stay as they were. Where more documents match than rows fit, `next` is
+ * the least one that is not written (MORE); otherwise it is LHZ_DONE.
  *
  * `tally` sums, over all variables of the plan, the postings of the variable's list in the
  * documents from `start` up to `next`, which is not counted. A list counts once for each of its
  * variables.
  *
  * A search starts at 0 and goes on with a call from each `next` until that is LHZ_DONE, with the
- * same volume and plan and with buffers of any length. Its rows are those of all documents that
- * match, each once, and its tallies sum to the whole counts of the variables' lists. A call that is
- * refused with 16 may be made again with a longer buffer.
+ * same volume and plan, in which nobody writes from the first call to the last, and with buffers of
+ * any length; longer ones make fewer calls, and one may serve again once its rows are taken out:
+ *
+ *    uint32_t start = 0;
+ *    while (start != LHZ_DONE) {
+ *        lhz_list_answer answer = lhz_list(volume, len, plan, plan_len, start, out, out_len);
+ *        if (answer.refusal != 0) break;
+ *        .. take answer.rows rows from out, and add answer.tally up ..
+ *        start = answer.next;
+ *    }
+ *
+ * What is promised is promised of the search as a whole. After LHZ_DONE its rows, joined in the
+ * order of the calls, are those of all documents that match, each once, rising, however short the
+ * buffers were; and its tallies sum to the whole counts of the variables' lists, which is below
+ * 2^32 too. Before LHZ_DONE the same holds of the documents below the last `next`. With k documents
+ * that match, LHZ_DONE comes with call k at the latest, or with call 1 where k is 0; calls that are
+ * refused do not count. A call that is refused with 16 may be made again with a longer buffer. On a
+ * refusal `next` is 0 and not a document to go on from.
  *
  * Refusals, the first that applies:
- *    1 to 14  the volume or the plan is refused, as by lhz_check_plan, with the same place
- *   15        `start` is over 65,535
- *   16        out_len is less than a row, even where no document matches
+ *    1 to 14                      the volume or the plan is refused as by lhz_check_plan, with the
+ *                                 same place
+ *   15  LHZ_REFUSED_START         `start` is over 65,535
+ *   16  LHZ_REFUSED_SHORT_BUFFER  out_len is less than a row, even where no document matches
  */
 lhz_list_answer lhz_list(const uint8_t *volume, size_t len, const uint32_t *plan, size_t plan_len,
                          uint32_t start, uint32_t *out, size_t out_len);

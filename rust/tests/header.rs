@@ -1,25 +1,16 @@
 //! The C header: C programs that include it link the library and get document 01's answers.
 
-use std::path::Path;
+mod plain;
+mod support;
+
 use std::process::Command;
+use support::cc::compile;
 
-/// Compiles `tests/c/NAME.c` against the header and the library: what the program prints.
+/// What the program `tests/c/NAME.c` prints.
 fn printed(name: &str) -> String {
-    let package = Path::new(env!("CARGO_MANIFEST_DIR"));
-    let program = Path::new(env!("CARGO_TARGET_TMPDIR")).join(name);
-    let compiler = std::env::var_os("CC").unwrap_or("cc".into());
-    let compiled = Command::new(compiler)
-        .args(["-std=c99", "-Wall", "-Wextra", "-Werror", "-I"])
-        .arg(package.join("../include"))
-        .arg(package.join("tests/c").join(name).with_extension("c"))
-        .arg(package.join("../target/staticlib/liblihambozy.a"))
-        .arg("-o")
-        .arg(&program)
-        .status()
-        .expect("a C compiler runs");
-    assert!(compiled.success());
-
-    let ran = Command::new(&program).output().expect("the program runs");
+    let program = compile(&format!("rust/tests/c/{name}.c"), name, &[])
+        .unwrap_or_else(|told| panic!("{told}"));
+    let ran = Command::new(program).output().expect("the program runs");
     assert!(ran.status.success());
     String::from_utf8_lossy(&ran.stdout).into_owned()
 }
@@ -27,7 +18,7 @@ fn printed(name: &str) -> String {
 #[test]
 fn volumes() {
     let expected = "\
-limits 512 126 8192 1032192 1024
+limits 512 126 8192 4194304 1032192 1024
 write 18 0 0
 write 20 0 0
 out 7 7
@@ -49,7 +40,7 @@ fn plans() {
     let expected = "\
 check answer 16: 0 4 8 12
 rows answer 8: 0 4
-limits 4 64 8 8
+limits 4 64 256 8 8
 kinds 1 2 3 4 5 6 7 8 9
 no row: 9 0 0 0
 open: 14 0 0 0
@@ -128,4 +119,45 @@ list 3 0 0 0 0
 test 3 0 0
 ";
     assert_eq!(printed("search"), expected);
+}
+
+/// Each name of a refusal is the number that its cause has, and the longest row is reached.
+#[test]
+fn refusals() {
+    let expected = "\
+LHZ_REFUSED_LENGTH 1: 1 0
+LHZ_REFUSED_LENGTH 1: 1 0
+LHZ_REFUSED_BLOCK_NUMBER 2: 2 1
+LHZ_REFUSED_CHECKSUM 3: 3 1
+LHZ_REFUSED_VERSION 4: 4 0
+LHZ_REFUSED_LIST_COUNT 5: 5 0
+LHZ_REFUSED_BLOCK_COUNT 6: 6 0
+LHZ_REFUSED_LIST_ORDER 7: 7 1
+LHZ_REFUSED_PADDING 8: 8 134
+LHZ_REFUSED_PLAN_LENGTH 9: 9 0
+LHZ_REFUSED_PLAN_LENGTH 9: 9 0
+LHZ_REFUSED_UNFINISHED 14: 14 0
+LHZ_REFUSED_ROW_FORM 10: 10 1
+LHZ_REFUSED_ROW_LIST 11: 11 0
+LHZ_REFUSED_ROW_TOO_MANY 12: 12 8
+LHZ_REFUSED_ROW_ORDER 13: 13 1
+longest row 59: 7 51
+LHZ_REFUSED_START 15: 15 0
+LHZ_REFUSED_SHORT_BUFFER 16: 16 0
+LHZ_REFUSED_SHORT_BUFFER 16: 16 0
+LHZ_REFUSED_OUT_OF_RANGE 17: 17 0
+LHZ_REFUSED_OUT_OF_RANGE 17: 17 0
+LHZ_REFUSED_COUNT_SUM 18: 18 0
+LHZ_REFUSED_SHORT_OUTPUT 20: 20 0
+LHZ_REFUSED_TOO_LARGE 19: 19 0
+";
+    assert_eq!(printed("refusals"), expected);
+}
+
+/// The library calls memcpy and memset and no other function.
+#[test]
+fn nothing_else_has_to_be_linked() {
+    let flags = ["-nostdlib", "-static", "-fno-stack-protector", "-Wl,-e,main"];
+    let linked = compile("rust/tests/c/freestanding.c", "freestanding", &flags);
+    linked.unwrap_or_else(|told| panic!("{told}"));
 }

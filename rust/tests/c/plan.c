@@ -62,7 +62,8 @@ int main(void) {
     printf("rows answer %u: %u %u\n", (unsigned)sizeof(lhz_pattern_rows_answer),
            (unsigned)offsetof(lhz_pattern_rows_answer, start),
            (unsigned)offsetof(lhz_pattern_rows_answer, len));
-    printf("limits %d %d %d %d\n", LHZ_ROW_WORDS, LHZ_MAX_ROWS, LHZ_MAX_PATTERNS, LHZ_MAX_VARS);
+    printf("limits %d %d %d %d %d\n", LHZ_ROW_WORDS, LHZ_MAX_ROWS, LHZ_MAX_PLAN_WORDS,
+           LHZ_MAX_PATTERNS, LHZ_MAX_VARS);
     printf("kinds %d %d %d %d %d %d %d %d %d\n", LHZ_VOICE, LHZ_NEAR, LHZ_BEFORE, LHZ_SAME_TITLE,
            LHZ_SPAN, LHZ_END, LHZ_BOTH, LHZ_EITHER, LHZ_FIRST_NOT_SECOND);
 

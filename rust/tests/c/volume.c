@@ -29,8 +29,8 @@ static void show_write(size_t lists, uint8_t *out, size_t room) {
 
 int main(void) {
     static uint8_t out[2 * LHZ_BLOCK_BYTES];
-    printf("limits %d %d %d %d %d\n", LHZ_BLOCK_BYTES, LHZ_BLOCK_WORDS, LHZ_MAX_BLOCKS,
-           LHZ_MAX_WORDS, LHZ_MAX_LISTS);
+    printf("limits %d %d %d %d %d %d\n", LHZ_BLOCK_BYTES, LHZ_BLOCK_WORDS, LHZ_MAX_BLOCKS,
+           LHZ_MAX_BYTES, LHZ_MAX_WORDS, LHZ_MAX_LISTS);
     memset(out, 7, sizeof out);
     show_write(2, out, sizeof out);
     show_write(3, out, LHZ_BLOCK_BYTES - 1);

@@ -1,9 +1,10 @@
 //! What the tests share: a seeded generator, lists and damage made with it, plans (in `plans`), and
 //! the comparison of the library with the plain reader and writer, call by call. `searches` has the
-//! same for listing documents and testing positions, and whole searches.
+//! same for listing documents and testing positions, and whole searches. `cc` compiles C programs.
 
 #![allow(dead_code)]
 
+pub mod cc;
 pub mod plans;
 pub mod searches;
 
