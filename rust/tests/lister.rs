@@ -4,11 +4,10 @@
 mod plain;
 mod support;
 
-use plain::search::Searcher;
+use std::fs;
 use std::path::{Path, PathBuf};
 use std::process::{Command, Stdio};
-use std::sync::atomic::{AtomicU32, Ordering};
-use std::{env, fs, process};
+use support::files::{assert_printed, listing, plan_bytes, word_bytes, Folder};
 use support::plans::*;
 use support::searches::random_subject;
 use support::*;
@@ -25,41 +24,23 @@ enum Entry<'a> {
 }
 use Entry::{Absent, File};
 
-/// A fresh folder, which is removed at the end.
-struct Folder(PathBuf);
-
-impl Folder {
-    fn new() -> Folder {
-        static MADE: AtomicU32 = AtomicU32::new(0);
-        let number = MADE.fetch_add(1, Ordering::Relaxed);
-        let path = env::temp_dir().join(format!("lister-{}-{number}", process::id()));
-        fs::create_dir(&path).unwrap_or_else(|error| panic!("{}: {error}", path.display()));
-        Folder(path)
-    }
-
-    fn put(&self, name: &str, entry: Entry) {
-        let path = self.0.join(name);
-        match entry {
+impl Entry<'_> {
+    fn put(self, folder: &Folder, name: &str) {
+        match self {
             Absent => {}
-            Entry::Folder => fs::create_dir(path).unwrap(),
-            File(bytes) => fs::write(path, bytes).unwrap(),
+            Entry::Folder => fs::create_dir(folder.0.join(name)).unwrap(),
+            File(bytes) => folder.write(name, bytes),
         }
     }
 
     /// Whether the entry is as it was put.
-    fn holds(&self, name: &str, entry: Entry) -> bool {
-        let path = self.0.join(name);
-        match entry {
+    fn stands(self, folder: &Folder, name: &str) -> bool {
+        let path = folder.0.join(name);
+        match self {
             Absent => !path.exists(),
             Entry::Folder => path.is_dir() && fs::read_dir(path).unwrap().next().is_none(),
             File(bytes) => fs::read(path).is_ok_and(|read| read == bytes),
         }
-    }
-}
-
-impl Drop for Folder {
-    fn drop(&mut self) {
-        let _ = fs::remove_dir_all(&self.0);
     }
 }
 
@@ -80,7 +61,7 @@ fn run(volume: Entry, plan: Entry) -> String {
     let folder = Folder::new();
     let entries = [("titles.vol", volume), ("titles.plan", plan)];
     for (name, entry) in entries {
-        folder.put(name, entry);
+        entry.put(&folder, name);
     }
     let ended = Command::new(program())
         .current_dir(&folder.0)
@@ -90,7 +71,7 @@ fn run(volume: Entry, plan: Entry) -> String {
     let told = String::from_utf8_lossy(&ended.stderr);
     assert!(ended.status.success(), "the program ended with {}: {told}", ended.status);
     for (name, entry) in entries {
-        assert!(folder.holds(name, entry), "{name} is not as it was");
+        assert!(entry.stands(&folder, name), "{name} is not as it was");
     }
     let present = entries.iter().filter(|(_, entry)| *entry != Absent).count();
     assert_eq!(fs::read_dir(&folder.0).unwrap().count(), present, "something was added");
@@ -103,38 +84,17 @@ fn printed(volume: Entry, plan: Entry) -> String {
         File(bytes) => bytes,
         _ => &[],
     };
-    let (volume, plan) = (bytes(volume), bytes(plan));
-    if volume.len() > 65_536 {
-        return "file too long\n".to_string();
-    }
-    let fits = (1..=1_024).contains(&plan.len()) && plan.len() % 16 == 0;
-    let plan: Vec<u32> = match fits {
-        true => plan.chunks(4).map(|word| u32::from_le_bytes(word.try_into().unwrap())).collect(),
-        false => vec![],
-    };
-    match Searcher::new(volume, &plan) {
-        Err((number, at)) => format!("refused {number} {at}\n"),
-        Ok(searcher) => searcher.printed(),
+    match bytes(volume).len() {
+        ..=65_536 => listing(bytes(volume), bytes(plan)),
+        _ => "file too long\n".to_string(),
     }
 }
 
 /// The program prints what document 01 says: the output.
 #[track_caller]
 fn compare(case: &str, volume: Entry, plan: Entry) -> String {
-    let (output, expected) = (run(volume, plan), printed(volume, plan));
-    let line = output.lines().zip(expected.lines()).position(|(line, other)| line != other);
-    if let Some(line) = line {
-        let at = |text: &str| text.lines().nth(line).unwrap().to_string();
-        panic!("{case}: line {} is {:?}, not {:?}", line + 1, at(&output), at(&expected));
-    }
-    assert!(
-        output == expected,
-        "{case}: {} bytes in {} lines, not {} in {}",
-        output.len(),
-        output.lines().count(),
-        expected.len(),
-        expected.lines().count()
-    );
+    let output = run(volume, plan);
+    assert_printed(case, &output, &printed(volume, plan));
     output
 }
 
@@ -143,22 +103,6 @@ fn compare(case: &str, volume: Entry, plan: Entry) -> String {
 fn prints(case: &str, volume: Entry, plan: Entry, output: &str) {
     assert_eq!(printed(volume, plan), output, "{case}: the naive searcher");
     assert_eq!(run(volume, plan), output, "{case}");
-}
-
-/// The bytes of a plan file.
-fn plan_bytes(rows: &[Row]) -> Vec<u8> {
-    rows.iter().flatten().flat_map(|word| word.to_le_bytes()).collect()
-}
-
-/// The plan of 64 rows with the most variables, 51, all of list 1, and with rows of 59 words.
-fn widest_plan() -> Vec<Row> {
-    let mut rows = vec![];
-    for vars in [8, 8, 8, 8, 8, 8, 3] {
-        rows.extend(vec![voice(1); vars]);
-        rows.push(END);
-    }
-    rows.extend([EITHER; 6]);
-    rows
 }
 
 /// A volume of one word, which has a position in each of so many documents, 4 apart, the last of them
@@ -261,35 +205,11 @@ fn numbers_of_every_length() {
 /// 1 to 8, also where there is no plan: the volume's refusals come first.
 #[test]
 fn refusals_of_a_volume() {
-    let lists = four_blocks();
-    let changed = |change: &dyn Fn(&mut Vec<u8>)| {
-        let mut volume = lists.volume();
-        change(&mut volume);
-        volume
-    };
-    let start = lists.start(3);
-    let rows: Vec<(Vec<u8>, &str)> = vec![
-        (vec![0; 1], "refused 1 0\n"),
-        (changed(&|volume| volume.truncate(511)), "refused 1 0\n"),
-        (changed(&|volume| volume.push(0)), "refused 1 0\n"),
-        (changed(&|volume| renumber(volume, 0, 1)), "refused 2 0\n"),
-        (changed(&|volume| renumber(volume, 2, 3)), "refused 2 2\n"),
-        (changed(&|volume| volume[3 * 512 + 100] ^= 1), "refused 3 3\n"),
-        (changed(&|volume| volume[511] ^= 1), "refused 3 0\n"),
-        (changed(&|volume| set(volume, 0, 2)), "refused 4 0\n"),
-        (changed(&|volume| set(volume, 1, 0)), "refused 5 0\n"),
-        (changed(&|volume| set(volume, 1, 1_025)), "refused 5 0\n"),
-        (changed(&add_block), "refused 6 0\n"),
-        (changed(&|volume| set(volume, 2, 200)), "refused 6 0\n"),
-        (changed(&|volume| set(volume, start + 1, 6_000)), "refused 7 3\n"),
-        (changed(&|volume| set(volume, 7, 9_003)), "refused 7 0\n"),
-        (changed(&|volume| set(volume, 503, 1)), "refused 8 503\n"),
-        (changed(&|volume| set(volume, lists.words(), 1)), "refused 8 387\n"),
-    ];
     let plan = plan_bytes(&SAMPLE);
-    for (row, (volume, output)) in rows.iter().enumerate() {
+    for (row, (volume, (number, at))) in refused::volumes().iter().enumerate() {
         for plan in [File(&plan), File(&plan[..40]), Absent] {
-            prints(&format!("row {row}"), File(volume), plan, output);
+            let output = format!("refused {number} {at}\n");
+            prints(&format!("row {row}"), File(volume), plan, &output);
         }
     }
 }
@@ -326,29 +246,9 @@ fn lengths_of_a_plan() {
 #[test]
 fn refusals_of_a_plan() {
     let volume = sample().volume();
-    let mut last_row = widest_plan();
-    last_row[63] = [10, 0, 0, 0];
-    let voices = vec![voice(2); 9];
-    let ninth_pattern = [voice(1), END].repeat(9);
-    let rows: Vec<(Vec<Row>, &str)> = vec![
-        (vec![[0; 4]], "refused 10 0\n"),
-        (vec![voice(1), [2, 0, 0, 65_536], END], "refused 10 1\n"),
-        (vec![voice(1), span(0), END], "refused 10 1\n"),
-        (vec![voice(1), [6, 0, 0, 1]], "refused 10 1\n"),
-        (last_row, "refused 10 63\n"),
-        (vec![voice(0), END], "refused 11 0\n"),
-        (vec![voice(1), voice(3), END], "refused 11 1\n"),
-        (voices, "refused 12 8\n"),
-        (ninth_pattern, "refused 12 16\n"),
-        (vec![END], "refused 13 0\n"),
-        (vec![voice(1), before(0, 1), END], "refused 13 1\n"),
-        (vec![voice(1), span(1), voice(1), END], "refused 13 2\n"),
-        (vec![voice(1), END, BOTH], "refused 13 2\n"),
-        (vec![voice(1), END, voice(2), END], "refused 14 0\n"),
-        (vec![voice(1), END, voice(2)], "refused 14 0\n"),
-    ];
-    for (rows, output) in rows {
-        prints(&format!("{rows:?}"), File(&volume), File(&plan_bytes(&rows)), output);
+    for (rows, (number, at)) in refused::plans() {
+        let output = format!("refused {number} {at}\n");
+        prints(&format!("{rows:?}"), File(&volume), File(&plan_bytes(&rows)), &output);
     }
 }
 
@@ -459,7 +359,7 @@ fn random_runs() {
             }
             _ => {}
         }
-        let mut plan: Vec<u8> = plan.iter().flat_map(|word| word.to_le_bytes()).collect();
+        let mut plan = word_bytes(&plan);
         if rng.below(20) == 0 {
             plan.truncate(rng.below(plan.len()));
         }

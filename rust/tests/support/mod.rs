@@ -1,11 +1,15 @@
 //! What the tests share: a seeded generator, lists and damage made with it, plans (in `plans`), and
 //! the comparison of the library with the plain reader and writer, call by call. `searches` has the
-//! same for listing documents and testing positions, and whole searches. `cc` compiles C programs.
+//! same for listing documents and testing positions, and whole searches. `refused` has volumes and
+//! plans that are refused, `files` what the programs that print a listing are run with, and `cc`
+//! compiles C programs.
 
 #![allow(dead_code)]
 
 pub mod cc;
+pub mod files;
 pub mod plans;
+pub mod refused;
 pub mod searches;
 
 use crate::plain::{self, Refused};

@@ -6,6 +6,17 @@ pub use lihambozy::row::*;
 /// The sample plan of document 01.
 pub const SAMPLE: [Row; 5] = [voice(1), voice(2), before(0, 1), same_title(0, 1), END];
 
+/// The plan of 64 rows with the most variables, 51, all of list 1, and with rows of 59 words.
+pub fn widest_plan() -> Vec<Row> {
+    let mut rows = vec![];
+    for vars in [8, 8, 8, 8, 8, 8, 3] {
+        rows.extend(vec![voice(1); vars]);
+        rows.push(END);
+    }
+    rows.extend([EITHER; 6]);
+    rows
+}
+
 /// Whether the parts, in order and with operators alone around them, are the whole plan, each of
 /// them from a VOICE to the first END behind it.
 pub fn makes(plan: &[u32], parts: &[&[u32]]) -> bool {
