@@ -357,3 +357,27 @@ fn the_guide_quotes_what_is_there() {
         }
     }
 }
+
+#[test]
+fn the_links_lead_to_files_and_the_names_to_statements() {
+    let guide = text(&repository("docs/GUIDE.md"));
+    let (mut links, mut names) = (0, 0);
+    for (end, _) in guide.match_indices("](") {
+        let target = guide[end + 2..].split(')').next().unwrap();
+        let file = repository("docs").join(target);
+        assert!(file.is_file(), "{target} is not there");
+        links += 1;
+        if !target.ends_with("/Demands.antt") {
+            continue;
+        }
+        // In front of the link stand the names of statements in that file.
+        let statements = text(&file);
+        let start = guide[..end].rfind("(`").expect("names stand in front of it");
+        for name in guide[start..end].split('`').skip(1).step_by(2) {
+            let stated = [format!("pub {name} : Type 0"), format!("pub record {name} : Type 0")];
+            assert!(stated.iter().any(|line| statements.contains(line)), "{name} in {target}");
+            names += 1;
+        }
+    }
+    assert!(links >= 10 && names >= 8, "{links} links, {names} names");
+}
