@@ -67,9 +67,9 @@
  *   the call, so that a file which another program may change is read into memory, not mapped.
  * - What is lent as `out` overlaps nothing else that is lent to the same call, and nobody else
  *   reads or writes it during the call. What it holds before the call does not matter.
- * - A call keeps no pointer and no state, allocates nothing, leaves errno alone, takes less than 8
- *   KiB of stack, and always returns. Calls may run at the same time in several threads, over one
- *   volume and one plan too, if each has an `out` of its own.
+ * - A call keeps no pointer and no state, allocates nothing, leaves errno alone, takes a few KiB of
+ *   stack, and always returns. Calls may run at the same time in several threads, over one volume
+ *   and one plan too, if each has an `out` of its own.
  * - A call that takes a volume checks every byte of it first, each time, and a call that takes a
  *   plan then checks that too. So nothing has to be checked beforehand, and no call takes less time
  *   than a pass over its volume.
