@@ -124,24 +124,30 @@ pub fn refused(text: &str, refusal: Refusal) -> Option<Mistake> {
     let mut lists = list_lines(text);
     match refusal.number {
         5 => {
-            let (line, what) = match lists.nth(MAX_LISTS) {
-                Some((line, _)) => (line, "this list is one more than the 1024 of a volume"),
-                None => (text.lines().count() + 1, "there is no list"),
+            let (line, what) = match (lists.next(), lists.nth(MAX_LISTS - 1)) {
+                (None, _) => (text.lines().count() + 1, "there is no list"),
+                (_, Some((line, _))) => (line, "this list is one more than the 1024 of a volume"),
+                _ => return None,
             };
             Some(Mistake { line, column: 1, what: what.into() })
         }
         7 => {
             let (number, line) = lists.nth(refusal.at as usize)?;
-            let list: Vec<Word<'_>> = words(number, line).collect();
-            let falls = |pair: &&[Word<'_>]| posting(pair[1]).ok() <= posting(pair[0]).ok();
-            let pair = list.windows(2).find(falls)?;
-            let (before, word) = (pair[0].text, pair[1]);
-            Some(word.mistake(format!("`{}` does not come after `{before}`", word.text)))
+            let mut list = words(number, line);
+            let mut before = list.next()?;
+            for word in list {
+                if posting(word).ok()? <= posting(before).ok()? {
+                    let what = format!("`{}` does not come after `{}`", word.text, before.text);
+                    return Some(word.mistake(what));
+                }
+                before = word;
+            }
+            None
         }
         19 => {
-            let room = MAX_WORDS - 2 - lists.count();
-            let postings = list_lines(text).flat_map(|(number, line)| words(number, line));
-            let word = { postings }.nth(room)?;
+            let room = (MAX_WORDS - 2).checked_sub(lists.count())?;
+            let mut postings = list_lines(text).flat_map(|(number, line)| words(number, line));
+            let word = postings.nth(room)?;
             Some(word.mistake("this posting is one more than fits the volume"))
         }
         _ => None,
@@ -228,4 +234,40 @@ fn numbers(line: &[Word<'_>], told: &[Word<'_>], used: &[usize], of: &str) -> Re
         row[k] = word.text.parse().map_err(over)?;
     }
     Ok(row)
+}
+
+#[cfg(test)]
+mod tests {
+    use super::*;
+
+    /// Every refusal of each text: some earn one, and none is told for the others.
+    #[test]
+    fn only_what_a_text_earns_is_told() {
+        let many = "\n".repeat(MAX_LISTS + 1);
+        let long = format!("1:0\n{}", "2:0 ".repeat(MAX_WORDS - 4));
+        let fits = &long[..long.len() - 4];
+        let most_lines = "\n".repeat(MAX_WORDS);
+        let falls = "1:0\n1:2 1:2\n";
+        let earned = [
+            ("", 5, 0, "1:1: there is no list"),
+            ("# none\n\t#\n", 5, 0, "3:1: there is no list"),
+            (&many, 5, 0, "1025:1: this list is one more than the 1024 of a volume"),
+            (&most_lines, 5, 0, "1025:1: this list is one more than the 1024 of a volume"),
+            (falls, 7, 1, "2:5: `1:2` does not come after `1:2`"),
+            (&long, 7, 1, "2:5: `2:0` does not come after `2:0`"),
+            (fits, 7, 1, "2:5: `2:0` does not come after `2:0`"),
+            (&long, 19, 0, "2:4128749: this posting is one more than fits the volume"),
+        ];
+        let in_order = ["1:0\n1:6 1:8\n", &many[1..], "1:2 x"];
+        for text in earned.iter().map(|row| row.0).chain(in_order) {
+            for number in 0..=21 {
+                for at in if number == 7 { 0..3 } else { 0..1 } {
+                    let told = refused(text, Refusal { number, at }).map(|told| told.to_string());
+                    let row = earned.iter().find(|row| (row.0, row.1, row.2) == (text, number, at));
+                    let front = &text[..text.len().min(20)];
+                    assert_eq!(told.as_deref(), row.map(|row| row.3), "{number} {at}: {front:?}");
+                }
+            }
+        }
+    }
 }
