@@ -4,6 +4,10 @@
 //! them. An empty line is an empty list. A line whose first sign behind blanks is `#` is a comment
 //! and no list; behind the words of a line a comment goes from a word that starts with `#` to the
 //! line's end. The text of a plan is told at [`Plan`](crate::Plan).
+//!
+//! A line ends in a line feed, or in a carriage return and a line feed. Blanks are spaces and tabs.
+//! A carriage return elsewhere is a mistake, in a comment too: some programs show a new line there,
+//! and what stands in it would belong to another list or to none.
 
 use crate::row::Row;
 use crate::{kind, Posting, Refusal, MAX_LISTS, MAX_WORDS, ROW_WORDS};
@@ -43,14 +47,19 @@ impl Word<'_> {
     }
 }
 
+/// Whether a sign stands between words.
+fn is_blank(sign: char) -> bool {
+    sign == ' ' || sign == '\t'
+}
+
 /// The words of a line, without its comment.
 fn words(number: usize, line: &str) -> impl Iterator<Item = Word<'_>> {
     let mut rest = line;
     let mut column = 1;
     std::iter::from_fn(move || {
-        let word = rest.trim_start();
+        let word = rest.trim_start_matches(is_blank);
         column += rest[..rest.len() - word.len()].chars().count();
-        let (text, behind) = word.split_at(word.find(char::is_whitespace).unwrap_or(word.len()));
+        let (text, behind) = word.split_at(word.find(is_blank).unwrap_or(word.len()));
         let at = column;
         rest = behind;
         column += text.chars().count();
@@ -59,10 +68,24 @@ fn words(number: usize, line: &str) -> impl Iterator<Item = Word<'_>> {
     })
 }
 
-/// The lines of a text that are lists: their numbers, from 1, and themselves.
+/// The lines of a text: their numbers, from 1, and themselves.
+fn lines(text: &str) -> impl Iterator<Item = (usize, &str)> {
+    (1..).zip(text.lines())
+}
+
+/// The lines of a text that are lists.
 fn list_lines(text: &str) -> impl Iterator<Item = (usize, &str)> {
-    let lines = (1..).zip(text.lines());
-    lines.filter(|(_, line)| !line.trim_start().starts_with('#'))
+    lines(text).filter(|(_, line)| !line.trim_start_matches(is_blank).starts_with('#'))
+}
+
+/// No carriage return stands in a text but at the end of a line.
+fn check_line_ends(text: &str) -> Result<(), Mistake> {
+    let within = |(line, signs): (usize, &str)| {
+        let column = 1 + signs[..signs.find('\r')?].chars().count();
+        let what = "a carriage return without a line feed behind it ends no line".into();
+        Some(Mistake { line, column, what })
+    };
+    lines(text).find_map(within).map_or(Ok(()), Err)
 }
 
 /// The lists that a text tells.
@@ -80,6 +103,7 @@ fn list_lines(text: &str) -> impl Iterator<Item = (usize, &str)> {
 /// # Ok::<(), text::Mistake>(())
 /// ```
 pub fn lists(text: &str) -> Result<Vec<Vec<Posting>>, Mistake> {
+    check_line_ends(text)?;
     list_lines(text).map(|(number, line)| words(number, line).map(posting).collect()).collect()
 }
 
@@ -188,7 +212,8 @@ impl fmt::Display for RowText {
 
 /// The rows that the text of a plan tells.
 pub(crate) fn plan_rows(text: &str) -> Result<Vec<Row>, Mistake> {
-    let lines = (1..).zip(text.lines()).map(|(number, line)| words(number, line).collect());
+    check_line_ends(text)?;
+    let lines = lines(text).map(|(number, line)| words(number, line).collect());
     lines.filter(|line: &Vec<Word<'_>>| !line.is_empty()).map(|line| row(&line)).collect()
 }
 
