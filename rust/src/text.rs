@@ -213,7 +213,10 @@ impl fmt::Display for RowText {
 /// The rows that the text of a plan tells.
 pub(crate) fn plan_rows(text: &str) -> Result<Vec<Row>, Mistake> {
     check_line_ends(text)?;
-    let lines = lines(text).map(|(number, line)| words(number, line).collect());
+    let lines = lines(text).map(|(number, line)| {
+        let row = line.split_once('#').map_or(line, |(row, _)| row);
+        words(number, row).collect()
+    });
     lines.filter(|line: &Vec<Word<'_>>| !line.is_empty()).map(|line| row(&line)).collect()
 }
 
