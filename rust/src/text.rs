@@ -42,8 +42,21 @@ struct Word<'a> {
 }
 
 impl Word<'_> {
+    /// The characters that a sentence shows, at most.
+    const SHOWN: usize = 40;
+
     fn mistake(self, what: impl Into<String>) -> Mistake {
         Mistake { line: self.line, column: self.column, what: what.into() }
+    }
+}
+
+/// In a sentence a word stands between backquotes, a long one with its front alone.
+impl fmt::Display for Word<'_> {
+    fn fmt(&self, f: &mut fmt::Formatter<'_>) -> fmt::Result {
+        match self.text.char_indices().nth(Word::SHOWN) {
+            Some((end, _)) => write!(f, "`{}...`", &self.text[..end]),
+            None => write!(f, "`{}`", self.text),
+        }
     }
 }
 
@@ -116,13 +129,14 @@ fn posting(word: Word<'_>) -> Result<Posting, Mistake> {
         if !is_number(digits) {
             return Err(no_posting(word));
         }
-        digits.parse().map_err(|_| word.mistake(format!("`{digits}` is over 65535")))
+        let number = Word { text: digits, ..word };
+        digits.parse().map_err(|_| word.mistake(format!("{number} is over 65535")))
     };
     Ok(Posting::new(number(doc)?, number(pos)?))
 }
 
 fn no_posting(word: Word<'_>) -> Mistake {
-    word.mistake(format!("`{}` is no scene:place", word.text))
+    word.mistake(format!("{word} is no scene:place"))
 }
 
 /// Whether a word is digits alone.
@@ -161,8 +175,7 @@ pub fn refused(text: &str, refusal: Refusal) -> Option<Mistake> {
             let mut before = list.next()?;
             for word in list {
                 if posting(word).ok()? <= posting(before).ok()? {
-                    let what = format!("`{}` does not come after `{}`", word.text, before.text);
-                    return Some(word.mistake(what));
+                    return Some(word.mistake(format!("{word} does not come after {before}")));
                 }
                 before = word;
             }
@@ -235,7 +248,7 @@ fn row(line: &[Word<'_>]) -> Result<Row, Mistake> {
         }
     }
     let names = KINDS.map(|(name, ..)| name).join(", ");
-    Err(line[0].mistake(format!("`{}` names no kind of row: {names}", line[0].text)))
+    Err(line[0].mistake(format!("{} names no kind of row: {names}", line[0])))
 }
 
 /// The row with these numbers at the indices `used`, as many as there are of them.
@@ -256,9 +269,9 @@ fn numbers(line: &[Word<'_>], told: &[Word<'_>], used: &[usize], of: &str) -> Re
     let mut row = [0; ROW_WORDS];
     for (&k, word) in used.iter().zip(told) {
         if !is_number(word.text) {
-            return Err(word.mistake(format!("`{}` is no number", word.text)));
+            return Err(word.mistake(format!("{word} is no number")));
         }
-        let over = |_| word.mistake(format!("`{}` is over {}", word.text, u32::MAX));
+        let over = |_| word.mistake(format!("{word} is over {}", u32::MAX));
         row[k] = word.text.parse().map_err(over)?;
     }
     Ok(row)

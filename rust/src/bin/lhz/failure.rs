@@ -62,7 +62,23 @@ impl Failure {
             Failure::Usage(why) => (2, format!("{why} (lhz --help shows how it is used)")),
         };
         // A sentence that standard error does not take has nowhere else to go.
-        let _ = writeln!(io::stderr(), "lhz: {sentence}");
+        let _ = writeln!(io::stderr(), "lhz: {}", on_one_line(&sentence));
         ExitCode::from(status)
     }
+}
+
+/// A sentence on one line. A file's name or a word of a text may hold signs that break the line, that
+/// a terminal obeys, or that cannot be seen: they are told as `\n` or `\u{200b}`.
+fn on_one_line(sentence: &str) -> String {
+    let mut line = String::new();
+    for sign in sentence.chars() {
+        let no_width =
+            matches!(sign, '\u{200b}'..='\u{200f}' | '\u{202a}'..='\u{202e}' | '\u{feff}');
+        if no_width || sign.is_control() || (sign.is_whitespace() && sign != ' ') {
+            line.extend(sign.escape_default());
+        } else {
+            line.push(sign);
+        }
+    }
+    line
 }

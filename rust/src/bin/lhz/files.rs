@@ -36,7 +36,7 @@ pub fn plan(path: &OsStr) -> Result<Vec<u8>, Failure> {
 pub fn text(path: &OsStr) -> Result<String, Failure> {
     let mut bytes = read(path, MAX_TEXT + 1)?;
     if bytes.len() > MAX_TEXT {
-        return Err(Failure::File { file: name(path), why: "a text over 64 MiB".into() });
+        return Err(Failure::File { file: name(path), why: "the text is over 64 MiB".into() });
     }
     // Some editors put this mark in front of a text.
     if bytes.starts_with("\u{feff}".as_bytes()) {
