@@ -2,13 +2,28 @@
 
 use crate::failure::Failure;
 use std::ffi::{OsStr, OsString};
+use std::fmt;
 
-/// A number in an argument. One that is over 32 bits is told as the largest of these: what is
-/// asked about it, scenes, places, lists or figures, is refused for both alike.
-pub fn number(what: &str, argument: &OsStr) -> Result<u32, Failure> {
+/// A number in an argument. It is shown as it stands there.
+#[derive(Clone, Copy)]
+pub struct Number<'a> {
+    digits: &'a str,
+    /// The number, or the largest of 32 bits where it is over them: what is asked about it, scenes,
+    /// places, lists or figures, is refused for both alike.
+    pub value: u32,
+}
+
+impl fmt::Display for Number<'_> {
+    fn fmt(&self, f: &mut fmt::Formatter<'_>) -> fmt::Result {
+        f.write_str(self.digits)
+    }
+}
+
+/// The number that an argument is.
+pub fn number<'a>(what: &str, argument: &'a OsStr) -> Result<Number<'a>, Failure> {
     match argument.to_str() {
         Some(digits) if !digits.is_empty() && digits.bytes().all(|byte| byte.is_ascii_digit()) => {
-            Ok(digits.parse().unwrap_or(u32::MAX))
+            Ok(Number { digits, value: digits.parse().unwrap_or(u32::MAX) })
         }
         _ => Err(Failure::Usage(format!("{what} `{}` is no number", argument.to_string_lossy()))),
     }

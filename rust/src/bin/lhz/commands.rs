@@ -1,6 +1,6 @@
 //! The commands, one function each.
 
-use crate::arguments::{number, split};
+use crate::arguments::{number, split, Number};
 use crate::failure::Failure;
 use crate::{files, help};
 use lihambozy::calls::CheckedPlan;
@@ -130,7 +130,7 @@ fn read(path: &OsStr, list: Option<&OsStr>, out: &mut impl Write) -> Result<(), 
     let volume = open(path)?;
     match list {
         None => volume.lists().try_for_each(|postings| print_list(&postings, out)),
-        Some(list) => match volume.list(list) {
+        Some(list) => match volume.list(list.value) {
             Ok(postings) => print_list(&postings, out),
             Err(refusal) => {
                 let last = volume.list_count() - 1;
@@ -158,32 +158,34 @@ fn test(
 ) -> Result<(), Failure> {
     let pattern = number("FIGURE", pattern)?;
     let doc = number("SCENE", doc)?;
-    let positions = positions.iter().map(|pos| number("PLACE", pos));
-    let positions = positions.collect::<Result<Vec<u32>, Failure>>()?;
+    let places = positions.iter().map(|pos| number("PLACE", pos));
+    let places = places.collect::<Result<Vec<Number<'_>>, Failure>>()?;
+    let positions: Vec<u32> = places.iter().map(|pos| pos.value).collect();
     let (volume, plan, checked) = open_both(volume, path)?;
-    match volume.test(&plan, pattern, doc, &positions) {
+    match volume.test(&plan, pattern.value, doc.value, &positions) {
         Ok(passes) => print(out, if passes { "yes\n" } else { "no\n" }),
         Err(refusal) => {
-            let vars = volume
-                .pattern_rows(&plan, pattern)
-                .map(|rows| rows.iter().filter(|row| row[0] == kind::VOICE).count());
-            let over = [doc].iter().chain(&positions).copied().find(|&number| number > 65_535);
-            let why = match (vars, over) {
-                (Err(_), _) => no_pattern(checked, pattern),
-                (Ok(vars), _) if vars != positions.len() => format!(
+            let Ok(rows) = volume.pattern_rows(&plan, pattern.value) else {
+                return Err(no_such(path, refusal, no_pattern(checked, pattern)));
+            };
+            let vars = rows.iter().filter(|row| row[0] == kind::VOICE).count();
+            let over = [doc].into_iter().chain(places).find(|number| number.value > 65_535);
+            let why = match over {
+                Some(number) if vars == positions.len() => {
+                    format!("{number} is over 65535, the last scene and place")
+                }
+                _ => format!(
                     "the number of voices of figure {pattern} is {vars}, that of the places given \
                      is {}",
                     positions.len()
                 ),
-                (_, Some(number)) => format!("{number} is over 65535, the last scene and place"),
-                _ => refusal.to_string(),
             };
             Err(no_such(path, refusal, why))
         }
     }
 }
 
-fn no_pattern(checked: CheckedPlan, pattern: u32) -> String {
+fn no_pattern(checked: CheckedPlan, pattern: Number<'_>) -> String {
     format!("its figures are 0 to {}; {pattern} is none", checked.patterns - 1)
 }
 
@@ -241,7 +243,7 @@ fn show_pattern(
     let pattern = number("FIGURE", pattern)?;
     let (volume, plan, checked) = open_both(volume, path)?;
     let rows = volume
-        .pattern_rows(&plan, pattern)
+        .pattern_rows(&plan, pattern.value)
         .map_err(|refusal| no_such(path, refusal, no_pattern(checked, pattern)))?;
     print(out, Plan::new(rows))
 }
