@@ -122,8 +122,11 @@ fn create_beside(place: &Path) -> io::Result<(File, PathBuf)> {
     Err(io::Error::other("no name beside it is free"))
 }
 
-/// Whether two arguments name one file.
+/// Whether two arguments name one file. `-` names none, also where a file has that name.
 pub fn same(one: &OsStr, other: &OsStr) -> bool {
+    if one == "-" || other == "-" {
+        return false;
+    }
     match (fs::canonicalize(one), fs::canonicalize(other)) {
         (Ok(one), Ok(other)) => one == other,
         _ => false,
