@@ -81,7 +81,12 @@ pub fn write(path: &OsStr, bytes: &[u8], out: &mut impl Write) -> Result<(), Fai
 fn replace(path: &Path, bytes: &[u8]) -> io::Result<()> {
     // A link stays a link: the file that it leads to is replaced.
     let place = match fs::canonicalize(path) {
-        Err(error) if error.kind() == io::ErrorKind::NotFound => path.to_path_buf(),
+        Err(error) if error.kind() == io::ErrorKind::NotFound => {
+            if path.is_symlink() {
+                return Err(io::Error::other("it is a link that leads to no file"));
+            }
+            path.to_path_buf()
+        }
         found => found?,
     };
     let old = match fs::metadata(&place) {
