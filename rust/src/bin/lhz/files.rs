@@ -3,7 +3,7 @@
 use crate::failure::Failure;
 use lihambozy::text::Mistake;
 use lihambozy::{BLOCK_BYTES, MAX_BLOCKS, MAX_ROWS, ROW_WORDS};
-use std::ffi::{OsStr, OsString};
+use std::ffi::OsStr;
 use std::fs::{self, File, OpenOptions};
 use std::io::{self, Read, Write};
 use std::path::{Path, PathBuf};
@@ -109,16 +109,13 @@ fn replace(path: &Path, bytes: &[u8]) -> io::Result<()> {
     replaced
 }
 
-/// A new file in the folder of `place`.
+/// A new file in the folder of `place`. Its name is short, however long that of `place` is.
 fn create_beside(place: &Path) -> io::Result<(File, PathBuf)> {
-    let Some(last) = place.file_name() else {
+    if place.file_name().is_none() {
         return Err(io::Error::other("it names no file"));
-    };
+    }
     for attempt in 0..100 {
-        let mut name = OsString::from(".");
-        name.push(last);
-        name.push(format!(".{}-{attempt}", process::id()));
-        let beside = place.with_file_name(name);
+        let beside = place.with_file_name(format!(".lhz-{}-{attempt}", process::id()));
         match OpenOptions::new().write(true).create_new(true).open(&beside) {
             Err(error) if error.kind() == io::ErrorKind::AlreadyExists => {}
             opened => return Ok((opened?, beside)),
