@@ -97,9 +97,10 @@ fn replace(path: &Path, bytes: &[u8]) -> io::Result<()> {
         return Err(io::Error::other("it is there already and is no file"));
     }
     let (mut file, beside) = create_beside(&place)?;
-    let replaced = file
-        .write_all(bytes)
-        .and_then(|()| old.map_or(Ok(()), |old| file.set_permissions(old.permissions())))
+    // Who may not read the old file may not read the new one while it is written.
+    let replaced = old
+        .map_or(Ok(()), |old| file.set_permissions(old.permissions()))
+        .and_then(|()| file.write_all(bytes))
         .and_then(|()| file.sync_all())
         .and_then(|()| fs::rename(&beside, &place));
     if replaced.is_err() {
