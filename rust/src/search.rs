@@ -83,11 +83,11 @@ impl<'a> Search<'a> {
     }
 
     /// The same search with room for so many rows in each listing call that is still to be made, at
-    /// least one. Each call checks the whole volume first, so that short pages cost time; the rows
-    /// do not depend on it.
+    /// least one, and at most as many as there are documents. Each call checks the whole volume
+    /// first, so that short pages cost time; the rows do not depend on it.
     pub fn page_rows(mut self, rows: usize) -> Search<'a> {
         let left = self.page[self.taken..self.written].to_vec();
-        let words = (rows.max(1) * self.width).max(left.len());
+        let words = (rows.clamp(1, 65_536) * self.width).max(left.len());
         self.page.resize(words, 0);
         self.page[..left.len()].copy_from_slice(&left);
         self.taken = 0;
