@@ -193,3 +193,98 @@ impl fmt::Display for Row {
         self.words.iter().try_for_each(|word| write!(f, " {word}"))
     }
 }
+
+#[cfg(test)]
+mod tests {
+    use super::*;
+    use crate::row::{voice, EITHER, END};
+    use crate::Posting;
+    use std::panic;
+
+    /// A word at position 0 of the documents 0, 3, 6 and on, so many in all, and another at positions
+    /// 0 and 1 of each second of them.
+    fn volume(docs: u16) -> Volume<'static> {
+        let word = (0..docs).map(|i| Posting::new(3 * i, 0)).collect();
+        let every_second = (0..docs).step_by(2);
+        let other = every_second.flat_map(|i| [0, 1].map(|pos| Posting::new(3 * i, pos)));
+        Volume::of_lists(&[vec![], word, other.collect()]).unwrap()
+    }
+
+    /// The word, or the other and the word.
+    fn plan() -> Plan {
+        Plan::new([voice(1), END, voice(2), voice(1), END, EITHER])
+    }
+
+    fn words(rows: impl Iterator<Item = Row>) -> Vec<Vec<u32>> {
+        rows.map(|row| row.words().to_vec()).collect()
+    }
+
+    /// Pages of another length in the middle of a search change neither its rows nor its tally.
+    #[test]
+    fn pages_change_no_row() {
+        let (volume, plan) = (volume(50), plan());
+        let all = words(volume.search(&plan).unwrap());
+        assert_eq!(all.len(), 50);
+        assert_eq!((&all[0], &all[49]), (&vec![0, 1, 0, 1, 0, 0], &vec![147, 1, 0, 0, 0, 0]));
+        for first in [0, 1, 2, 7, 49, 50, 51] {
+            for then in [0, 1, 3, 8, 1 << 62, usize::MAX] {
+                for taken in [0, 1, 6, 7, 8, 30, 49, 50] {
+                    let mut search = volume.search(&plan).unwrap().page_rows(first);
+                    let mut rows = words(search.by_ref().take(taken));
+                    let mut search = search.page_rows(then);
+                    rows.extend(words(search.by_ref()));
+                    let case = format!("pages of {first}, after {taken} rows pages of {then}");
+                    assert_eq!(rows, all, "{case}");
+                    assert_eq!((search.tally(), search.reached()), (150, 65_536), "{case}");
+                    assert!(search.next().is_none(), "{case}");
+                }
+            }
+        }
+    }
+
+    /// The rows left are between the two bounds, and known when no call is left to make.
+    #[test]
+    fn hints_hold_at_each_step() {
+        let (volume, plan) = (volume(7), plan());
+        for page in [1, 2, 3, 6, 7, 8, 1_024] {
+            let mut search = volume.search(&plan).unwrap().page_rows(page);
+            for left in (0..=7).rev() {
+                let (least, most) = search.size_hint();
+                let case = format!("pages of {page}, {left} left: {least} {most:?}");
+                assert!(least <= left && most.is_some_and(|most| left <= most), "{case}");
+                let is_done = search.reached() == 65_536;
+                assert!(!is_done || (least, most) == (left, Some(left)), "{case}");
+                assert_eq!(search.next().is_some(), left > 0, "{case}");
+            }
+            assert_eq!(search.size_hint(), (0, Some(0)));
+        }
+
+        // Document 6 is the one that the first call names.
+        let mut search = volume.search(&plan).unwrap().page_rows(2);
+        let mut hints = vec![];
+        for _ in 0..4 {
+            hints.push(search.size_hint());
+            search.next();
+        }
+        let hint = |ready: usize, from: usize| (ready, Some(ready + 65_536 - from));
+        assert_eq!(hints, [hint(0, 0), hint(1, 6), hint(0, 6), hint(1, 12)]);
+    }
+
+    /// Positions that are 0 are not those of a pattern that is not found.
+    #[test]
+    fn patterns_of_a_row() {
+        let (volume, plan) = (volume(2), plan());
+        let rows: Vec<Row> = volume.search(&plan).unwrap().collect();
+        let of = |row: &Row| -> Vec<Option<Vec<u32>>> {
+            row.patterns().map(|pattern| pattern.map(<[u32]>::to_vec)).collect()
+        };
+        assert_eq!((rows[0].doc(), of(&rows[0])), (0, vec![Some(vec![0]), Some(vec![0, 0])]));
+        assert_eq!((rows[1].doc(), of(&rows[1])), (3, vec![Some(vec![0]), None]));
+        assert_eq!(rows[0].pattern(1), Some(&[0, 0][..]));
+        assert_eq!(rows[1].pattern(1), None);
+        for pattern in [2, 3, usize::MAX] {
+            let asked = panic::catch_unwind(|| rows[1].pattern(pattern).map(<[u32]>::len));
+            assert!(asked.is_err(), "pattern {pattern}");
+        }
+    }
+}
