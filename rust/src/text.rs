@@ -1,9 +1,10 @@
 //! Lists and plans as plain text.
 //!
 //! A text of lists has one list a line, list 0 first, as `scene:place` words with blanks between
-//! them. An empty line is an empty list. A line whose first sign behind blanks is `#` is a comment
-//! and no list; behind the words of a line a comment goes from a word that starts with `#` to the
-//! line's end. The text of a plan is told at [`Plan`](crate::Plan).
+//! them, or `-` for an empty list. A line whose first sign behind blanks is `#` is a comment and no
+//! list; behind the words of a line a comment goes from a word that starts with `#` to the line's
+//! end. An empty line is a mistake: taken for a list, or passed over, it would move the numbers of
+//! the lists behind it without a sign. The text of a plan is told at [`Plan`](crate::Plan).
 //!
 //! A line ends in a line feed, or in a carriage return and a line feed. Blanks are spaces and tabs.
 //! A carriage return elsewhere is a mistake, in a comment too: some programs show a new line there,
@@ -91,6 +92,9 @@ fn list_lines(text: &str) -> impl Iterator<Item = (usize, &str)> {
     lines(text).filter(|(_, line)| !line.trim_start_matches(is_blank).starts_with('#'))
 }
 
+/// The word of a line that is an empty list.
+const EMPTY: &str = "-";
+
 /// No carriage return stands in a text but at the end of a line.
 fn check_line_ends(text: &str) -> Result<(), Mistake> {
     let within = |(line, signs): (usize, &str)| {
@@ -106,7 +110,7 @@ fn check_line_ends(text: &str) -> Result<(), Mistake> {
 /// ```
 /// use lihambozy::{text, Posting};
 ///
-/// let lists = text::lists("# titles\n1:0 1:6\n\n1:2 1:8 2:4 # a word\n")?;
+/// let lists = text::lists("# titles\n1:0 1:6\n-\n1:2 1:8 2:4 # a word\n")?;
 /// assert_eq!(lists.len(), 3);
 /// assert_eq!(lists[0], [Posting::new(1, 0), Posting::new(1, 6)]);
 /// assert!(lists[1].is_empty());
@@ -117,7 +121,41 @@ fn check_line_ends(text: &str) -> Result<(), Mistake> {
 /// ```
 pub fn lists(text: &str) -> Result<Vec<Vec<Posting>>, Mistake> {
     check_line_ends(text)?;
-    list_lines(text).map(|(number, line)| words(number, line).map(posting).collect()).collect()
+    list_lines(text).map(|(number, line)| list(number, line)).collect()
+}
+
+/// The list that a line tells.
+fn list(number: usize, line: &str) -> Result<Vec<Posting>, Mistake> {
+    let mut words = words(number, line);
+    let Some(first) = words.next() else {
+        let what = format!("the line is empty; an empty list is told by `{EMPTY}`");
+        return Err(Mistake { line: number, column: 1, what });
+    };
+    match (first.text, words.next()) {
+        (EMPTY, None) => Ok(vec![]),
+        (_, second) => [first].into_iter().chain(second).chain(words).map(posting).collect(),
+    }
+}
+
+/// A list, shown as a line of its text.
+///
+/// ```
+/// use lihambozy::{text, Posting};
+///
+/// let list = [Posting::new(1, 2), Posting::new(2, 4)];
+/// assert_eq!(text::ListLine(&list).to_string(), "1:2 2:4");
+/// assert_eq!(text::ListLine(&[]).to_string(), "-");
+/// ```
+pub struct ListLine<'a>(pub &'a [Posting]);
+
+impl fmt::Display for ListLine<'_> {
+    fn fmt(&self, f: &mut fmt::Formatter<'_>) -> fmt::Result {
+        let Some((first, rest)) = self.0.split_first() else {
+            return f.write_str(EMPTY);
+        };
+        write!(f, "{first}")?;
+        rest.iter().try_for_each(|posting| write!(f, " {posting}"))
+    }
 }
 
 /// The posting that a word tells.
@@ -183,8 +221,8 @@ pub fn refused(text: &str, refusal: Refusal) -> Option<Mistake> {
         }
         19 => {
             let room = (MAX_WORDS - 2).checked_sub(lists.count())?;
-            let mut postings = list_lines(text).flat_map(|(number, line)| words(number, line));
-            let word = postings.nth(room)?;
+            let words = list_lines(text).flat_map(|(number, line)| words(number, line));
+            let word = words.filter(|word| word.text != EMPTY).nth(room)?;
             Some(word.mistake("this posting is one more than fits the volume"))
         }
         _ => None,
@@ -284,10 +322,10 @@ mod tests {
     /// Every refusal of each text: some earn one, and none is told for the others.
     #[test]
     fn only_what_a_text_earns_is_told() {
-        let many = "\n".repeat(MAX_LISTS + 1);
-        let long = format!("1:0\n{}", "2:0 ".repeat(MAX_WORDS - 4));
+        let many = "-\n".repeat(MAX_LISTS + 1);
+        let long = format!("-\n{}", "2:0 ".repeat(MAX_WORDS - 3));
         let fits = &long[..long.len() - 4];
-        let most_lines = "\n".repeat(MAX_WORDS);
+        let most_lines = "-\n".repeat(MAX_WORDS);
         let falls = "1:0\n1:2 1:2\n";
         let earned = [
             ("", 5, 0, "1:1: there is no list"),
@@ -297,9 +335,9 @@ mod tests {
             (falls, 7, 1, "2:5: `1:2` does not come after `1:2`"),
             (&long, 7, 1, "2:5: `2:0` does not come after `2:0`"),
             (fits, 7, 1, "2:5: `2:0` does not come after `2:0`"),
-            (&long, 19, 0, "2:4128749: this posting is one more than fits the volume"),
+            (&long, 19, 0, "2:4128753: this posting is one more than fits the volume"),
         ];
-        let in_order = ["1:0\n1:6 1:8\n", &many[1..], "1:2 x"];
+        let in_order = ["1:0\n1:6 1:8\n", &many[2..], "1:2 x"];
         for text in earned.iter().map(|row| row.0).chain(in_order) {
             for number in 0..=21 {
                 for at in if number == 7 { 0..3 } else { 0..1 } {

@@ -307,7 +307,10 @@ fn the_lists_are_those_of_the_wording() {
             };
             places.iter().map(|place| format!("{}:{place}", scene.number)).collect()
         };
-        let postings: Vec<String> = scenes.iter().flat_map(of_scene).collect();
+        let mut postings: Vec<String> = scenes.iter().flat_map(of_scene).collect();
+        if postings.is_empty() {
+            postings.push("-".into());
+        }
         assert_eq!(pair[1], postings.join(" "), "list {list}, {word}");
     }
 }

@@ -4,7 +4,8 @@ use crate::arguments::{number, split, Number};
 use crate::failure::Failure;
 use crate::{files, help};
 use lihambozy::calls::CheckedPlan;
-use lihambozy::{kind, text, Plan, Posting, Refusal, Volume, BLOCK_BYTES};
+use lihambozy::text::{self, ListLine};
+use lihambozy::{kind, Plan, Refusal, Volume, BLOCK_BYTES};
 use std::ffi::{OsStr, OsString};
 use std::io::Write;
 
@@ -129,23 +130,17 @@ fn read(path: &OsStr, list: Option<&OsStr>, out: &mut impl Write) -> Result<(), 
     let list = list.map(|list| number("LIST", list)).transpose()?;
     let volume = open(path)?;
     match list {
-        None => volume.lists().try_for_each(|postings| print_list(&postings, out)),
+        None => {
+            volume.lists().try_for_each(|list| print(out, format_args!("{}\n", ListLine(&list))))
+        }
         Some(list) => match volume.list(list.value) {
-            Ok(postings) => print_list(&postings, out),
+            Ok(list) => print(out, format_args!("{}\n", ListLine(&list))),
             Err(refusal) => {
                 let last = volume.list_count() - 1;
                 Err(no_such(path, refusal, format!("its lists are 0 to {last}; {list} is none")))
             }
         },
     }
-}
-
-/// A list as a line of its text.
-fn print_list(postings: &[Posting], out: &mut impl Write) -> Result<(), Failure> {
-    for (k, posting) in postings.iter().enumerate() {
-        print(out, format_args!("{}{posting}", if k == 0 { "" } else { " " }))?;
-    }
-    print(out, "\n")
 }
 
 fn test(

@@ -72,8 +72,8 @@ whole.
 const READ: &str = "\
 lhz read VOLUME [LIST]
 
-Prints the postings of a list as scene:place, or of all lists, one list a line.
-List 0 holds the places at which titles start.
+Prints the postings of a list as scene:place, or of all lists, one list a line;
+`-` is an empty list. List 0 holds the places at which titles start.
 
   $ lhz read titles.vol 1
   1:2 1:8 2:4
@@ -97,8 +97,8 @@ const WRITE: &str = "\
 lhz write TEXT VOLUME
 
 Writes the volume of the lists in a text. Each line is one list, list 0 first,
-as scene:place with blanks between; an empty line is an empty list. A line that
-starts with # is a comment and no list; behind postings a comment starts at #.
+as scene:place with blanks between, or `-` for an empty list. A line that starts
+with # is a comment and no list; behind postings a comment starts at #.
 Scenes and places are 0 to 65535, and each list rises. A mistake is told with
 its line and column, and the old file stays.
 
