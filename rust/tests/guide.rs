@@ -1,6 +1,6 @@
 //! The guide, and the archive that it works on. Every command of `docs/GUIDE.md` is run, in order,
 //! in one folder that starts as a copy of `examples/evening`, and what it prints is what the guide
-//! shows; what the guide quotes of the archive is there. The archive's files are what the commands
+//! shows; what the guide quotes of the archive is there. The commands of `README.md` are run too. The archive's files are what the commands
 //! make of its texts, its listings are those of the naive searcher, and its lists are those of its
 //! wording.
 
@@ -152,13 +152,11 @@ fn typed(console: &Fenced<'_>) -> Vec<Typed> {
     commands
 }
 
-#[test]
-fn the_guide_shows_what_its_commands_print() {
-    let guide = text(&repository("docs/GUIDE.md"));
-    let desk = desk("guide");
+/// Runs the commands of a page in a folder and compares what they print: the commands run.
+fn follow(page: &str, desk: &Path) -> Vec<String> {
     let mut ran: Vec<String> = vec![];
     let (mut last, mut last_line) = (0, 0);
-    for fenced in boxes(&guide) {
+    for fenced in boxes(page) {
         let line = fenced.line;
         match fenced.kind {
             "console" => {
@@ -169,7 +167,7 @@ fn the_guide_shows_what_its_commands_print() {
                         last == 0 || command == "echo $?",
                         "line {last_line}: the command ends with {last}, which is not shown"
                     );
-                    let (printed, status) = run(&desk, last, &command);
+                    let (printed, status) = run(desk, last, &command);
                     assert_eq!(printed, shown, "line {line}: {command}");
                     (last, last_line) = (status, line);
                     ran.push(command);
@@ -189,11 +187,24 @@ fn the_guide_shows_what_its_commands_print() {
         }
     }
     assert_eq!(last, 0, "line {last_line}: the last command's status is not shown");
+    ran
+}
+
+#[test]
+fn the_guide_shows_what_its_commands_print() {
+    let ran = follow(&text(&repository("docs/GUIDE.md")), &desk("guide"));
     for name in COMMANDS {
         let start = format!("lhz {name} ");
         assert!(ran.iter().any(|command| command.starts_with(&start)), "{start}is never run");
     }
     assert!(ran.len() >= 70, "{} commands ran", ran.len());
+}
+
+#[test]
+fn the_readme_shows_what_its_commands_print() {
+    let ran = follow(&text(&repository("README.md")), &desk("readme"));
+    let listed = |command: &String| command.starts_with("lhz list ");
+    assert!(ran.iter().any(listed), "nothing is listed: {ran:?}");
 }
 
 #[test]
