@@ -80,6 +80,7 @@ fn words(number: usize, line: &str) -> impl Iterator<Item = Word<'_>> {
         let ends = text.is_empty() || text.starts_with('#');
         (!ends).then_some(Word { text, line: number, column: at })
     })
+    .fuse()
 }
 
 /// The lines of a text: their numbers, from 1, and themselves.
@@ -318,6 +319,20 @@ fn numbers(line: &[Word<'_>], told: &[Word<'_>], used: &[usize], of: &str) -> Re
 #[cfg(test)]
 mod tests {
     use super::*;
+
+    /// However many words stand in front of a comment, none of its own is a posting.
+    #[test]
+    fn nothing_of_a_comment_is_told() {
+        let postings = ["1:2", "1:3", "1:4"];
+        for count in 0..=3 {
+            let front = if count == 0 { "-".into() } else { postings[..count].join(" ") };
+            for comment in ["", " #", " # 2:5", " #2:5 2:6", "\t# - 2:5 #"] {
+                let lists = lists(&format!("{front}{comment}\n")).unwrap();
+                assert_eq!(lists.len(), 1, "{front}{comment}");
+                assert_eq!(ListLine(&lists[0]).to_string(), front, "{front}{comment}");
+            }
+        }
+    }
 
     /// Every refusal of each text: some earn one, and none is told for the others.
     #[test]
