@@ -54,17 +54,8 @@ fn plans_nearly_in_order() {
     let volumes = volumes(&mut rng);
     for round in 0..60_000 {
         let (volume, lists) = &volumes[rng.below(volumes.len())];
-        let mut rows = random_plan(&mut rng, *lists);
-        for _ in 0..rng.pick(&[1, 1, 2, 3]) {
-            spoil(&mut rng, &mut rows, *lists);
-        }
-        let mut plan = rows.concat();
-        match rng.below(20) {
-            0 => plan.truncate(rng.below(plan.len() + 1)),
-            1 => plan.push(rng.pick(&[0, 1, 6, u32::MAX])),
-            2 => plan.extend([1, 1, 0, 0].repeat(rng.below(70))),
-            _ => {}
-        }
+        let changes = rng.pick(&[1, 1, 2, 3]);
+        let plan = spoiled_plan(&mut rng, *lists, changes);
         trial.case = format!("seed {seed}, round {round}, {plan:?}");
         let _ = trial.plan(volume, &plan);
     }
@@ -81,20 +72,7 @@ fn nonsense() {
     let volumes = volumes(&mut rng);
     for round in 0..60_000 {
         let (volume, lists) = &volumes[rng.below(volumes.len())];
-        let any = 1 + rng.below(70);
-        let count = rng.pick(&[1, 2, 3, 4, 6, any]);
-        let small_row = |rng: &mut Rng| [11, 3, 3, 3].map(|end| rng.below(end) as u32);
-        let mixed_row = |rng: &mut Rng| match rng.below(12) {
-            0 => small_row(rng),
-            1 => random_row(rng, *lists),
-            _ => voice(1),
-        };
-        let plan: Vec<u32> = match rng.below(6) {
-            0 => (0..4 * count + rng.below(2)).map(|_| rng.word() >> rng.below(32)).collect(),
-            1 => (0..count).flat_map(|_| small_row(&mut rng)).collect(),
-            2 | 3 => (0..count).flat_map(|_| mixed_row(&mut rng)).collect(),
-            _ => (0..count).flat_map(|_| random_row(&mut rng, *lists)).collect(),
-        };
+        let plan = nonsense_plan(&mut rng, *lists);
         trial.case = format!("seed {seed}, round {round}, {plan:?}");
         let _ = trial.plan(volume, &plan);
     }
@@ -114,14 +92,8 @@ fn damaged_volumes() {
         for _ in 0..rng.below(3) {
             damage(&mut rng, &lists, &mut volume);
         }
-        let mut rows = random_plan(&mut rng, lists.counts.len().max(2));
-        for _ in 0..rng.below(3) {
-            spoil(&mut rng, &mut rows, lists.counts.len());
-        }
-        let mut plan = rows.concat();
-        if rng.below(8) == 0 {
-            plan.truncate(rng.below(plan.len() + 1));
-        }
+        let changes = rng.below(3);
+        let plan = spoiled_plan(&mut rng, lists.counts.len(), changes);
         trial.case = format!("seed {seed}, round {round}, {plan:?}");
         let _ = trial.plan(&volume, &plan);
     }

@@ -46,6 +46,29 @@ impl Rng {
     }
 }
 
+/// How often something was met.
+#[derive(Default)]
+pub struct Met(pub BTreeMap<String, usize>);
+
+impl Met {
+    pub fn count(&mut self, what: &str, times: usize) {
+        match self.0.get_mut(what) {
+            Some(count) => *count += times,
+            None => {
+                self.0.insert(what.to_string(), times);
+            }
+        }
+    }
+
+    #[track_caller]
+    pub fn assert_at_least(&self, rows: &[(&str, usize)]) {
+        for &(what, least) in rows {
+            let times = self.0.get(what).copied().unwrap_or(0);
+            assert!(times >= least, "{what}: {times} of {least}; met {:?}", self.0);
+        }
+    }
+}
+
 /// Lists as the writer takes them: how long each one is, and all of them back to back.
 #[derive(Clone, Debug)]
 pub struct Lists {
@@ -301,13 +324,15 @@ fn amid<T: Fill>(elements: &[T]) -> Vec<T> {
     memory
 }
 
-/// The public calls that answer a refusal's number.
+/// The public calls. All but `Rows` answer a refusal's number; an empty part of a plan counts as
+/// the refusal that it stands for.
 #[derive(Clone, Copy, Debug, PartialEq, Eq, PartialOrd, Ord)]
 pub enum Call {
     Check,
     Read,
     Write,
     Plan,
+    Rows,
     List,
     Test,
 }
@@ -319,6 +344,8 @@ pub struct Trial {
     pub case: String,
     /// How often each number was met, place by place.
     met: BTreeMap<(Call, u32), BTreeMap<u32, usize>>,
+    /// The rows that listing calls have written.
+    pub listed: usize,
 }
 
 impl Trial {
@@ -335,13 +362,33 @@ impl Trial {
         answer
     }
 
+    /// Any other value of any one byte of an accepted volume is refused, with 2 or 3 at its block.
+    #[track_caller]
+    pub fn each_byte_changed(&mut self, accepted: &[u8]) {
+        let case = self.case.clone();
+        let mut volume = accepted.to_vec();
+        for at in 0..accepted.len() {
+            let refused = (if at % 512 < 4 { 2 } else { 3 }, at as u32 / 512);
+            for change in 1..=255 {
+                self.case = format!("{case}: byte {at} ^ {change}");
+                volume[at] = accepted[at] ^ change;
+                assert_eq!(self.check(&volume), Err(refused), "{}", self.case);
+            }
+            volume[at] = accepted[at];
+        }
+        self.case = case;
+    }
+
     /// Reads a list into a buffer of `room` words: its postings.
     #[track_caller]
     pub fn read(&mut self, volume: &[u8], list: u32, room: usize) -> Result<Vec<u32>, Refused> {
         let case = format!("{}: read list {list} into {room} words", self.case);
+        let bytes = amid(volume);
         let library = lend(room, |out| {
+            let volume = &bytes[AMID..AMID + volume.len()];
             lihambozy::calls::read_list(volume, list, out).map(|read| read.count).map_err(pair)
         });
+        assert!(bytes == amid(volume), "{case}: written in the volume or beside it");
         let plain = lend(room, |out| plain::read_list(volume, list, out));
         self.count(Call::Read, &library.answer);
         agreed(&case, library, plain, |count| count as usize)
@@ -356,11 +403,14 @@ impl Trial {
         room: usize,
     ) -> Result<Vec<u8>, Refused> {
         let case = format!("{}: write into {room} bytes", self.case);
+        let lent = [amid(counts), amid(postings)];
         let library = lend(room, |out| {
+            let [counts, postings] = lent.each_ref().map(|lent| &lent[AMID..lent.len() - AMID]);
             lihambozy::calls::write_volume(counts, postings, out)
                 .map(|written| written.blocks)
                 .map_err(pair)
         });
+        assert!(lent == [amid(counts), amid(postings)], "{case}: written in the lists");
         let plain = lend(room, |out| plain::write_volume(counts, postings, out));
         self.count(Call::Write, &library.answer);
         agreed(&case, library, plain, |blocks| blocks as usize * 512)
@@ -396,7 +446,7 @@ impl Trial {
     /// it does not have: F and V.
     #[track_caller]
     pub fn plan(&mut self, volume: &[u8], plan: &[u32]) -> Result<(u32, u32), Refused> {
-        let case = &self.case;
+        let case = self.case.clone();
         let plain = plain::plan::check(volume, plan);
         let (bytes, words) = (amid(volume), amid(plan));
         let lent_volume = &bytes[AMID..AMID + volume.len()];
@@ -419,6 +469,8 @@ impl Trial {
                 assert!(std::ptr::eq(part, expected), "{case}: the rows are not those lent");
                 parts.push(part);
             }
+            let no_such = if part.is_empty() { Err((17, 0)) } else { Ok(()) };
+            self.count(Call::Rows, &answer.and(no_such));
         }
         if answer.is_ok() {
             assert!(plans::makes(lent, &parts), "{case}: {parts:?} do not make the plan");
@@ -434,25 +486,23 @@ impl Trial {
         *self.met.entry((call, number)).or_default().entry(at).or_default() += 1;
     }
 
-    /// How often the call was made and compared.
-    pub fn made(&self, call: Call) -> usize {
+    /// How often the call gave each number; 0 stands for an answer that is no refusal.
+    pub fn met(&self, call: Call) -> BTreeMap<u32, usize> {
         let of_call = self.met.iter().filter(|((of, _), _)| *of == call);
-        of_call.flat_map(|(_, places)| places.values()).sum()
+        of_call.map(|((_, number), places)| (*number, places.values().sum())).collect()
     }
 
-    /// The call gave each of these numbers at least so often, and no other; 0 stands for an answer
-    /// that is no refusal.
+    /// How often the call was made and compared.
+    pub fn made(&self, call: Call) -> usize {
+        self.met(call).values().sum()
+    }
+
+    /// The call gave each of these numbers at least so often, and no other.
     #[track_caller]
     pub fn assert_met(&self, call: Call, least: usize, numbers: &[u32]) {
-        let met: Vec<(u32, usize)> = self
-            .met
-            .iter()
-            .filter(|((of, _), _)| *of == call)
-            .map(|((_, number), places)| (*number, places.values().sum()))
-            .collect();
+        let met = self.met(call);
         assert!(
-            met.iter().map(|row| row.0).eq(numbers.iter().copied())
-                && met.iter().all(|row| row.1 >= least),
+            met.keys().eq(numbers) && met.values().all(|&times| times >= least),
             "{call:?} met {met:?}"
         );
     }

@@ -125,3 +125,38 @@ pub fn spoil(rng: &mut Rng, rows: &mut Vec<Row>, lists: usize) {
         _ => rows.swap(at, (at + 1) % count),
     }
 }
+
+/// The words of a plan that is in order but for so many changes; now and then it is cut anywhere or
+/// goes on.
+pub fn spoiled_plan(rng: &mut Rng, lists: usize, changes: usize) -> Vec<u32> {
+    let mut rows = random_plan(rng, lists.max(2));
+    for _ in 0..changes {
+        spoil(rng, &mut rows, lists);
+    }
+    let mut plan = rows.concat();
+    match rng.below(20) {
+        0 => plan.truncate(rng.below(plan.len() + 1)),
+        1 => plan.push(rng.pick(&[0, 1, 6, u32::MAX])),
+        2 => plan.extend([1, 1, 0, 0].repeat(rng.below(70))),
+        _ => {}
+    }
+    plan
+}
+
+/// Rows without order, or words without rows.
+pub fn nonsense_plan(rng: &mut Rng, lists: usize) -> Vec<u32> {
+    let any = 1 + rng.below(70);
+    let count = rng.pick(&[1, 2, 3, 4, 6, any]);
+    let small_row = |rng: &mut Rng| [11, 3, 3, 3].map(|end| rng.below(end) as u32);
+    let mixed_row = |rng: &mut Rng| match rng.below(12) {
+        0 => small_row(rng),
+        1 => random_row(rng, lists),
+        _ => voice(1),
+    };
+    match rng.below(6) {
+        0 => (0..4 * count + rng.below(2)).map(|_| rng.word() >> rng.below(32)).collect(),
+        1 => (0..count).flat_map(|_| small_row(rng)).collect(),
+        2 | 3 => (0..count).flat_map(|_| mixed_row(rng)).collect(),
+        _ => (0..count).flat_map(|_| random_row(rng, lists)).collect(),
+    }
+}

@@ -2,11 +2,11 @@
 //! library with the naive searcher, call by call, and whole searches.
 
 use super::plans::*;
-use super::{amid, pair, Call, Fill, Lists, Rng, Trial, AMID};
+use super::{amid, pair, Call, Fill, Lists, Met, Rng, Trial, AMID};
 use crate::plain::search::{Listed, Searcher};
-use crate::plain::Refused;
+use crate::plain::{self, Refused};
 use lihambozy::calls::{Listing, Next};
-use std::collections::BTreeSet;
+use std::collections::{BTreeMap, BTreeSet};
 use std::ops::Range;
 
 /// A volume and a plan in the middle of other elements, and the naive searcher over them, or why it
@@ -33,6 +33,11 @@ impl Subject {
         Subject::new(&Lists::new(&lists).volume(), &rows.concat())
     }
 
+    /// The same, where the naive searcher has only so many steps to take.
+    pub fn within(volume: &[u8], plan: &[u32], most: u64) -> Option<Subject> {
+        (naive_steps(volume, plan) <= most).then(|| Subject::new(volume, plan))
+    }
+
     pub fn volume(&self) -> &[u8] {
         &self.bytes[AMID..self.bytes.len() - AMID]
     }
@@ -45,6 +50,16 @@ impl Subject {
     #[track_caller]
     pub fn searcher(&self) -> &Searcher {
         self.naive.as_ref().unwrap_or_else(|refused| panic!("refused {refused:?}"))
+    }
+
+    /// The words of a row, or of that of a small plan where this one is refused.
+    pub fn width(&self) -> usize {
+        self.naive.as_ref().map_or(4, Searcher::width)
+    }
+
+    /// The documents that have a posting; none where volume or plan is refused.
+    pub fn docs(&self) -> BTreeSet<u32> {
+        self.naive.as_ref().map_or(BTreeSet::new(), Searcher::docs)
     }
 
     /// Nothing is written in volume or plan, nor beside them.
@@ -92,6 +107,7 @@ impl Trial {
         }
         subject.assert_kept(&case);
         self.count(Call::List, &answer);
+        self.listed += answer.map_or(0, |listed| listed.rows as usize);
         answer
     }
 
@@ -105,7 +121,7 @@ impl Trial {
     ) -> Result<(Vec<u32>, Listed), Refused> {
         let (mut memory, lent) = memory_for(room);
         let answer = self.list(subject, start, &mut memory, lent.clone())?;
-        let words = answer.rows as usize * subject.searcher().width();
+        let words = answer.rows as usize * subject.width();
         Ok((memory[lent][..words].to_vec(), answer))
     }
 
@@ -322,6 +338,39 @@ pub fn most_positions(rng: &mut Rng, vars: usize) -> usize {
     rng.pick(&[few, few, few, few, few, many])[vars]
 }
 
+/// About how many steps the naive searcher takes over a volume and a plan. A look at sixteen
+/// postings is one; a choice, also of the first few variables, is one for each predicate and start.
+pub fn naive_steps(volume: &[u8], plan: &[u32]) -> u64 {
+    let (Ok(lists), Ok(checked)) = (plain::lists(volume), plain::plan::check(volume, plan)) else {
+        return 0;
+    };
+    let counts: Vec<BTreeMap<u32, u64>> = { lists.iter() }
+        .map(|list| {
+            let mut counts = BTreeMap::new();
+            list.iter().for_each(|posting| *counts.entry(posting / 65_536).or_default() += 1);
+            counts
+        })
+        .collect();
+    let docs: BTreeSet<u32> = counts.iter().flat_map(BTreeMap::keys).copied().collect();
+    let mut steps = 0u64;
+    for part in checked.patterns {
+        let (vars, others): (Vec<&[u32]>, Vec<&[u32]>) =
+            plan[part].chunks(4).partition(|row| row[0] == lihambozy::kind::VOICE);
+        for doc in &docs {
+            let of_list = |list: usize| counts[list].get(doc).copied().unwrap_or(0);
+            let mut choices = 1u64;
+            for var in &vars {
+                let list = var[1] as usize;
+                choices = choices.saturating_mul(of_list(list));
+                steps = steps.saturating_add(choices).saturating_add(lists[list].len() as u64 / 16);
+            }
+            let each = others.len() as u64 * (1 + of_list(0));
+            steps = steps.saturating_add(choices.saturating_mul(each));
+        }
+    }
+    steps
+}
+
 /// A predicate that some positions meet and some do not: most limits are small.
 fn small_predicate(rng: &mut Rng, vars: usize) -> Row {
     let a = rng.below(vars);
@@ -382,9 +431,80 @@ pub fn random_subject(rng: &mut Rng) -> Subject {
     Subject::new(&archive.lists.volume(), &rows.concat())
 }
 
+/// Hundreds of documents in many blocks, and a plan over them.
+pub fn random_large_subject(rng: &mut Rng) -> Subject {
+    let (mut rows, _) = random_query(rng);
+    let count = 100 + rng.below(400);
+    let apart = 1 + rng.below(65_535 / count) as u32;
+    let mut list = |most: usize| -> Vec<u32> {
+        let positions: Vec<u32> = (0..20).collect();
+        let docs = (0..count as u32).map(|i| i * apart).filter(|_| rng.below(3) > 0);
+        let docs: Vec<u32> = docs.collect();
+        random_positions(rng, &docs, &positions, most)
+    };
+    let lists: Vec<Vec<u32>> = [4, 2, 2, 2, 1, 1, 1].into_iter().map(&mut list).collect();
+    for row in rows.iter_mut().filter(|row| row[0] == lihambozy::kind::VOICE) {
+        row[1] = 1 + rng.below(6) as u32;
+    }
+    Subject::new(&Lists::new(&lists).volume(), &rows.concat())
+}
+
 /// A number of words for a buffer: too few for a row, or as many as some rows have or nearly so.
 pub fn random_room(rng: &mut Rng, width: usize) -> usize {
     let rows = width * (1 + rng.below(9));
     let short = rng.below(width);
     rng.pick(&[short, width, width, width + 1, 2 * width - 1, 2 * width, rows, rows + short])
+}
+
+/// One search, to DONE or to some call before it. Its buffers are all of one length or of many, in
+/// memory of their own or all in the same.
+pub fn random_search(rng: &mut Rng, trial: &mut Trial, met: &mut Met, subject: &Subject) {
+    let width = subject.searcher().width();
+    let mut search = Search::new(subject);
+    let (mut shared, all) = memory_for(12 * width);
+    let is_shared = rng.below(2) == 0;
+    let one_length = if rng.below(3) == 0 { Some(width * (1 + rng.below(3))) } else { None };
+    let most_calls = rng.pick(&[0, 1, 2, 3, 1_000, 1_000, 1_000, 1_000]);
+    for _ in 0..most_calls {
+        let room = one_length.unwrap_or_else(|| random_room(rng, width));
+        let answer = if is_shared {
+            let first = all.start + rng.below(all.len() - room + 1);
+            search.call(trial, &mut shared, first..first + room)
+        } else {
+            let (mut memory, lent) = memory_for(room);
+            search.call(trial, &mut memory, lent)
+        };
+        match answer {
+            Err(_) => met.count("short buffers", 1),
+            Ok(listed) => {
+                met.count("more", usize::from(listed.more.is_some()));
+                met.count("several rows and more", {
+                    usize::from(listed.rows > 1 && listed.more.is_some())
+                });
+                met.count("done with no row", usize::from(search.done && listed.rows == 0));
+                met.count("a buffer used again", usize::from(is_shared && search.answered > 1));
+            }
+        }
+        if search.done {
+            break;
+        }
+    }
+    search.assert_whole(&trial.case);
+    met.count("searches", 1);
+    met.count("searches to done", usize::from(search.done));
+    met.count("searches of several calls", usize::from(search.answered > 1));
+}
+
+/// Calls from documents that no search would start from.
+pub fn other_starts(rng: &mut Rng, trial: &mut Trial, subject: &Subject, count: usize) {
+    let docs: Vec<u32> = subject.docs().into_iter().chain([65_535]).collect();
+    let behind = subject.docs().last().map_or(0, |doc| doc + 1);
+    for _ in 0..count {
+        let near = rng.pick(&docs).saturating_add_signed(rng.pick(&[-1, 0, 1, 1]));
+        let any = rng.word() % 65_536;
+        let starts = [near, near, near, any, behind, 65_535, 65_536, 65_536 + near, u32::MAX];
+        let room = random_room(rng, subject.width());
+        let start = rng.pick(&starts);
+        let _ = trial.list_rows(subject, start, room);
+    }
 }
