@@ -2,13 +2,14 @@
 #               sample listing
 # make test     the gate (rt ci), then every other test; the last line is the gate's own, if all passed
 # make bench    times the library beside plain Rust and beside a copy
+# make soak     random and damaged input beside the naive searcher, for ten minutes or as SECONDS=60 says
 # make install  copies the command, the header and the library to bin/, include/ and lib/ of PREFIX
 # make clean    removes all that these made
 
 SHELL := bash
 .SHELLFLAGS := -euo pipefail -c
 .NOTPARALLEL:
-.PHONY: all test bench install clean
+.PHONY: all test bench soak install clean
 
 PREFIX := /usr/local
 CARGO := cargo
@@ -17,6 +18,7 @@ HEADER := include/lihambozy.h
 WARNINGS := -Wall -Wextra -Werror
 GATE_LOG := build/ci.log
 LIBRARY_LOG := build/staticlib.log
+SECONDS := 600
 
 all:
 	rt check
@@ -41,6 +43,10 @@ test:
 bench:
 	rt staticlib lihambozy
 	$(CARGO) bench --no-fail-fast $(PACKAGE) --bench volume --bench search
+
+soak:
+	rt staticlib lihambozy
+	$(CARGO) test --release $(PACKAGE) --test soak -- --seconds $(SECONDS)
 
 install:
 	install -d $(DESTDIR)$(PREFIX)/bin $(DESTDIR)$(PREFIX)/include $(DESTDIR)$(PREFIX)/lib

@@ -1,12 +1,13 @@
 //! A plain reader and writer of volumes, straight from document 01 ("Volume", "Calls" and "Who can
 //! cause which refusal"). It shares nothing with the library or its wrappers: a remainder for each
 //! byte, a look at the whole input for each refusal, sums in 64 bits. `plan` reads plans, `search`
-//! lists documents.
+//! lists documents, `text` reads lists and plans as text.
 
 #![allow(dead_code)]
 
 pub mod plan;
 pub mod search;
+pub mod text;
 
 /// A refusal: its number and its place.
 pub type Refused = (u32, u32);

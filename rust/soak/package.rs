@@ -1,0 +1,171 @@
+//! The Rust package: volumes, plans, and searches that page by themselves.
+
+use crate::plain::search::Searcher;
+use crate::plain::{self, Refused};
+use crate::plans::any_plan;
+use crate::report::Counts;
+use crate::support::searches::{random_large_subject, random_subject, Subject};
+use crate::support::{pair, Lists, Rng};
+use crate::volumes::{any_lists, any_volume, spoil_lists};
+use crate::{Case, NAIVE_STEPS};
+use lihambozy::{Plan, Posting, Search, Volume};
+use std::fmt::Debug;
+
+/// Compares one answer of the package.
+#[track_caller]
+pub fn same<T: PartialEq + Debug>(counts: &mut Counts, what: &str, answer: T, expected: T) {
+    assert_eq!(answer, expected, "{}: {what}", counts.trial.case);
+    counts.package.count(what, 1);
+}
+
+/// The lists as the package takes them, where their counts sum to the number of postings.
+pub fn postings_of(lists: &Lists) -> Option<Vec<Vec<Posting>>> {
+    let sum: u64 = lists.counts.iter().map(|&count| u64::from(count)).sum();
+    (sum == lists.postings.len() as u64).then(|| {
+        let (parts, _) = plain::cut(&lists.counts, &lists.postings);
+        let postings = |list: &&[u32]| list.iter().map(|&word| Posting::from_word(word)).collect();
+        parts.iter().map(postings).collect()
+    })
+}
+
+/// Lists that become a volume or are refused; a volume and a plan, and a search where they are
+/// accepted.
+pub fn package(case: &mut Case) {
+    let Case { rng, counts } = case;
+    let mut lists = any_lists(rng);
+    for _ in 0..rng.below(3) {
+        spoil_lists(rng, &mut lists);
+    }
+    if let Some(postings) = postings_of(&lists) {
+        let mut volume = vec![0; lists.room()];
+        let written = plain::write_volume(&lists.counts, &lists.postings, &mut volume);
+        let answer = Volume::of_lists(&postings).map(Volume::into_bytes).map_err(pair);
+        same(counts, "Volume::of_lists", answer, written.map(|_| volume));
+    }
+
+    let subject = match rng.below(60) {
+        0 => Some(random_large_subject(rng)),
+        1..=20 => {
+            let (volume, lists) = any_volume(rng);
+            let mut plan = any_plan(rng, lists);
+            plan.truncate(plan.len() / 4 * 4);
+            Subject::within(&volume, &plan, NAIVE_STEPS)
+        }
+        _ => Some(random_subject(rng)),
+    };
+    if let Some(subject) = subject {
+        counts.trial.case += &format!(", {:?}", subject.plan());
+        ask(rng, counts, &subject);
+    }
+}
+
+/// All that a volume and a plan are asked.
+fn ask(rng: &mut Rng, counts: &mut Counts, subject: &Subject) {
+    let volume = match rng.below(2) {
+        0 => Volume::new(subject.volume()),
+        _ => Volume::new(subject.volume().to_vec()),
+    };
+    let sizes = |volume: &Volume| (volume.list_count(), volume.posting_count());
+    let answer = volume.as_ref().map(sizes).map_err(|refusal| pair(*refusal));
+    same(counts, "Volume::new", answer, plain::check_volume(subject.volume()));
+    let (Ok(volume), Ok(lists)) = (volume, plain::lists(subject.volume())) else { return };
+
+    let words = |list: Vec<Posting>| list.into_iter().map(Posting::word).collect::<Vec<u32>>();
+    same(counts, "Volume::lists", volume.lists().map(words).collect(), lists.clone());
+    let list = rng.pick(&[0, 1, lists.len() as u32, u32::MAX]);
+    let expected = lists.get(list as usize).cloned().ok_or((17, 0));
+    same(counts, "Volume::list", volume.list(list).map(words).map_err(pair), expected);
+
+    let plan = Plan::new(subject.plan().as_chunks().0);
+    let mut bytes = plan.to_bytes();
+    let read = Plan::from_bytes(&bytes).map_err(pair);
+    let fits = (1..=64).contains(&plan.rows().len());
+    same(counts, "Plan::from_bytes", read, if fits { Ok(plan.clone()) } else { Err((9, 0)) });
+    bytes.extend(vec![1; 1 + rng.below(15)]);
+    same(counts, "Plan::from_bytes", Plan::from_bytes(&bytes).map_err(pair), Err((9, 0)));
+    let checked = plain::plan::check(subject.volume(), subject.plan());
+    let answer = volume.check(&plan).map(|checked| (checked.patterns, checked.vars));
+    let sizes = |plan: &plain::plan::Plan| (plan.patterns.len() as u32, plan.vars);
+    let expected = checked.as_ref().map(sizes).map_err(|refused| *refused);
+    same(counts, "Volume::check", answer.map_err(pair), expected);
+
+    let pattern = rng.below(9) as u32;
+    let part = plain::plan::part(&checked, pattern);
+    let expected = match part.is_empty() {
+        true => Err(checked.err().unwrap_or((17, 0))),
+        false => Ok(subject.plan()[part].to_vec()),
+    };
+    let answer = volume.pattern_rows(&plan, pattern).map(<[_]>::concat).map_err(pair);
+    same(counts, "Volume::pattern_rows", answer, expected);
+
+    let positions = vec![rng.word() % 9; 1 + rng.below(3)];
+    let expected = naive(subject, |searcher| searcher.test(pattern, 1, &positions));
+    let answer = volume.test(&plan, pattern, 1, &positions).map_err(pair);
+    same(counts, "Volume::test", answer, expected);
+
+    let search = volume.search(&plan).map_err(pair);
+    let refused = search.as_ref().map(|_| ()).map_err(|refused| *refused);
+    same(counts, "Volume::search", refused, naive(subject, |_| Ok(())));
+    if let Ok(search) = search {
+        walk(rng, counts, subject, search);
+    }
+}
+
+/// What the naive searcher answers, or why it refuses.
+fn naive<T>(
+    subject: &Subject,
+    answer: impl FnOnce(&Searcher) -> Result<T, Refused>,
+) -> Result<T, Refused> {
+    subject.naive.as_ref().map_err(|refused| *refused).and_then(answer)
+}
+
+/// The rows of a search are those of the naive searcher, and its tally is theirs at any time,
+/// whatever the length of its pages is and becomes.
+pub fn walk(rng: &mut Rng, counts: &mut Counts, subject: &Subject, search: Search) {
+    let searcher = subject.searcher();
+    let case = &counts.trial.case;
+    let page_rows = |rng: &mut Rng| match rng.below(40) {
+        0 => rng.pick(&[1_024, 65_536, usize::MAX]),
+        1..=20 => rng.below(4),
+        _ => rng.below(70),
+    };
+    let mut search = match rng.below(2) {
+        0 => search.page_rows(page_rows(rng)),
+        _ => search,
+    };
+    let seldom = rng.pick(&[1, 4, 4, 20]);
+    let most = rng.pick(&[3, usize::MAX, usize::MAX, usize::MAX]);
+    for (handed, row) in searcher.rows.iter().enumerate().take(most) {
+        if rng.below(seldom) == 0 {
+            search = search.page_rows(page_rows(rng));
+        }
+        if rng.below(seldom) == 0 {
+            search = search.clone();
+        }
+        let left = searcher.rows.len() - handed;
+        let (least, greatest) = search.size_hint();
+        assert!(least <= left && greatest >= Some(left), "{case}: {left}, {least}, {greatest:?}");
+
+        let answer = search.next().unwrap_or_else(|| panic!("{case}: {row:?} is missing"));
+        assert_eq!((answer.words(), answer.doc()), (&row[..], row[0]), "{case}");
+        let shown: String = row.iter().map(|word| format!(" {word}")).collect();
+        assert_eq!(answer.to_string(), format!("scene{shown}"), "{case}");
+        let mut rest = &row[1..];
+        for (pattern, answer) in searcher.patterns.iter().zip(answer.patterns()) {
+            let positions = &rest[1..][..pattern.lists.len()];
+            assert_eq!(answer, (rest[0] == 1).then_some(positions), "{case}");
+            rest = &rest[1 + pattern.lists.len()..];
+        }
+        assert!(row[0] < search.reached() && search.reached() <= 65_536, "{case}");
+        assert_eq!(search.tally(), searcher.tally(0, search.reached()).into(), "{case}");
+        counts.searches.count("rows of Search", 1);
+    }
+    if searcher.rows.len() <= most {
+        assert!(search.next().is_none(), "{case}: a row too many");
+        assert!(search.next().is_none(), "{case}: a row behind the end");
+        assert_eq!(search.size_hint(), (0, Some(0)), "{case}");
+        let tally = searcher.tally(0, 65_536).into();
+        assert_eq!((search.reached(), search.tally()), (65_536, tally), "{case}");
+        counts.searches.count("Search to its end", 1);
+    }
+}

@@ -1,0 +1,112 @@
+//! What a run counts, and what it tells.
+
+use crate::support::{Call, Met, Trial};
+use crate::{Kind, KINDS};
+use std::collections::BTreeMap;
+use std::time::Duration;
+
+/// The calls by their names in the header, with the numbers that each of them can tell; 0 stands
+/// for an answer that is no refusal. `lhz_pattern_rows` tells none: an empty part counts as the
+/// refusal that it stands for.
+const CALLS: [(&str, Call, &[u32]); 7] = [
+    ("check_volume", Call::Check, &[0, 1, 2, 3, 4, 5, 6, 7, 8]),
+    ("read_list", Call::Read, &[0, 1, 2, 3, 4, 5, 6, 7, 8, 16, 17]),
+    ("write_volume", Call::Write, &[0, 5, 7, 18, 19, 20]),
+    ("check_plan", Call::Plan, &[0, 1, 2, 3, 4, 5, 6, 7, 8, 9, 10, 11, 12, 13, 14]),
+    ("pattern_rows", Call::Rows, &[0, 1, 2, 3, 4, 5, 6, 7, 8, 9, 10, 11, 12, 13, 14, 17]),
+    ("test_positions", Call::Test, &[0, 1, 2, 3, 4, 5, 6, 7, 8, 9, 10, 11, 12, 13, 14, 17]),
+    ("list", Call::List, &[0, 1, 2, 3, 4, 5, 6, 7, 8, 9, 10, 11, 12, 13, 14, 15, 16]),
+];
+
+/// The counts of a run.
+#[derive(Default)]
+pub struct Counts {
+    /// The calls of the library.
+    pub trial: Trial,
+    /// The searches, through these calls and through the package, and what they met.
+    pub searches: Met,
+    /// The calls of the package.
+    pub package: Met,
+    /// The cases of each kind, the time that they took, and that of the longest.
+    kinds: BTreeMap<&'static str, (u64, Duration, Duration)>,
+}
+
+impl Counts {
+    pub fn case(&mut self, kind: &Kind, time: Duration) {
+        let (cases, all, longest) = self.kinds.entry(kind.name).or_default();
+        *cases += 1;
+        *all += time;
+        *longest = time.max(*longest);
+    }
+
+    fn cases(&self) -> u64 {
+        self.kinds.values().map(|(cases, ..)| cases).sum()
+    }
+
+    fn compared(&self) -> usize {
+        let calls = CALLS.iter().map(|&(_, call, _)| self.trial.made(call));
+        calls.chain(self.package.0.values().copied()).sum()
+    }
+
+    /// How far a run is, on one line.
+    pub fn line(&self, elapsed: Duration) -> String {
+        format!(
+            "{:5} s: {} cases, {} calls compared, {} rows listed, {} searches to done",
+            elapsed.as_secs(),
+            self.cases(),
+            self.compared(),
+            self.trial.listed,
+            self.searches.0.get("searches to done").copied().unwrap_or(0)
+        )
+    }
+
+    /// What a run found: a difference would have ended it.
+    pub fn last_line(&self, elapsed: Duration) -> String {
+        format!(
+            "soak: {} cases, {} calls compared, 0 differences, {} s",
+            self.cases(),
+            self.compared(),
+            elapsed.as_secs()
+        )
+    }
+
+    /// Prints all counts.
+    pub fn print(&self) {
+        println!("\n{:16}{:>9}{:>11}{:>13}", "kind of case", "cases", "seconds", "longest ms");
+        for kind in &KINDS {
+            let (cases, all, longest) = self.kinds.get(kind.name).copied().unwrap_or_default();
+            let (all, longest) = (all.as_secs_f64(), longest.as_secs_f64() * 1e3);
+            println!("{:16}{cases:>9}{all:>11.1}{longest:>13.1}", kind.name);
+        }
+
+        let met = CALLS.map(|(_, call, _)| self.trial.met(call));
+        println!("\n{:16}{}", "calls", CALLS.map(|(name, ..)| format!("{name:>15}")).concat());
+        for number in 0..=20 {
+            let cells = met.iter().zip(CALLS).map(|(met, (_, _, can))| match met.get(&number) {
+                Some(times) => format!("{times:>15}"),
+                None if can.contains(&number) => format!("{:>15}", 0),
+                None => format!("{:>15}", "-"),
+            });
+            let name = if number == 0 { "answered".into() } else { format!("refused {number}") };
+            println!("{name:16}{}", cells.collect::<String>());
+        }
+        let all = met.each_ref().map(|met| format!("{:>15}", met.values().sum::<usize>()));
+        println!("{:16}{}", "all", all.concat());
+
+        println!("\n{:10} rows listed and compared", self.trial.listed);
+        for Met(counts) in [&self.searches, &self.package] {
+            counts.iter().for_each(|(what, times)| println!("{times:10} {what}"));
+            println!();
+        }
+    }
+
+    /// The numbers that a call can tell and never did.
+    pub fn missed(&self) -> Vec<String> {
+        let of_call = |(name, call, can): (&str, Call, &[u32])| {
+            let met = self.trial.met(call);
+            let never = can.iter().filter(|number| !met.contains_key(number));
+            never.map(|number| format!("{name} never met {number}")).collect::<Vec<_>>()
+        };
+        CALLS.into_iter().flat_map(of_call).collect()
+    }
+}
