@@ -8,19 +8,6 @@ use support::*;
 const BLOCKS: usize = 8_192;
 const WORDS: usize = 1_032_192;
 
-/// So many lists that fill so many stream words, each starting below the one before it.
-fn filling(lists: usize, words: usize) -> Lists {
-    let postings = words - 2 - lists;
-    let mut counts = vec![(postings / lists) as u32; lists];
-    counts[lists / 2] += (postings % lists) as u32;
-    let mut postings = Vec::new();
-    for (list, &count) in counts.iter().enumerate() {
-        let first = (lists - list) as u32 * 1_000;
-        postings.extend((0..count).map(|i| first + 2 * i));
-    }
-    Lists { counts, postings }
-}
-
 #[test]
 fn the_largest_volume() {
     let mut trial = Trial::default();

@@ -5,11 +5,10 @@ mod plain;
 mod support;
 
 use std::fs;
-use std::path::{Path, PathBuf};
-use std::process::{Command, Stdio};
-use support::files::{assert_printed, listing, plan_bytes, word_bytes, Folder};
+use support::command;
+use support::files::{assert_printed, lister, listing, plan_bytes, word_bytes, Folder};
 use support::plans::*;
-use support::searches::random_subject;
+use support::searches::random_run;
 use support::*;
 
 /// The words of the buffer that the program lists into.
@@ -28,31 +27,20 @@ impl Entry<'_> {
     fn put(self, folder: &Folder, name: &str) {
         match self {
             Absent => {}
-            Entry::Folder => fs::create_dir(folder.0.join(name)).unwrap(),
+            Entry::Folder => fs::create_dir(folder.path(name)).unwrap(),
             File(bytes) => folder.write(name, bytes),
         }
     }
 
     /// Whether the entry is as it was put.
     fn stands(self, folder: &Folder, name: &str) -> bool {
-        let path = folder.0.join(name);
+        let path = folder.path(name);
         match self {
             Absent => !path.exists(),
             Entry::Folder => path.is_dir() && fs::read_dir(path).unwrap().next().is_none(),
             File(bytes) => fs::read(path).is_ok_and(|read| read == bytes),
         }
     }
-}
-
-/// The program, which `rt check lister` writes to `target/bin` of the repository.
-fn program() -> PathBuf {
-    let path = Path::new(env!("CARGO_MANIFEST_DIR")).join("../target/bin/lister");
-    assert!(
-        path.is_file(),
-        "{} is absent: run `rt check lister` in the repository first",
-        path.display()
-    );
-    path
 }
 
 /// Runs the program: what it prints. It ends well and leaves its folder as it was.
@@ -63,18 +51,13 @@ fn run(volume: Entry, plan: Entry) -> String {
     for (name, entry) in entries {
         entry.put(&folder, name);
     }
-    let ended = Command::new(program())
-        .current_dir(&folder.0)
-        .stdin(Stdio::null())
-        .output()
-        .expect("the program starts");
-    let told = String::from_utf8_lossy(&ended.stderr);
-    assert!(ended.status.success(), "the program ended with {}: {told}", ended.status);
+    let ended = command::run(&mut folder.command(lister()));
+    assert_eq!(ended.status, 0, "{}", ended.stderr);
     for (name, entry) in entries {
         assert!(entry.stands(&folder, name), "{name} is not as it was");
     }
     let present = entries.iter().filter(|(_, entry)| *entry != Absent).count();
-    assert_eq!(fs::read_dir(&folder.0).unwrap().count(), present, "something was added");
+    assert_eq!(folder.names().len(), present, "something was added");
     String::from_utf8(ended.stdout).expect("the output is text")
 }
 
@@ -346,25 +329,13 @@ fn random_runs() {
     let mut rng = Rng::new(seed);
     let [mut listed, mut empty, mut refused] = [0; 3];
     for round in 0..400 {
-        let subject = random_subject(&mut rng);
-        let (mut volume, mut plan) = (subject.volume().to_vec(), subject.plan().to_vec());
-        match rng.below(8) {
-            0 => {
-                let at = rng.below(volume.len());
-                volume[at] ^= 1 << rng.below(8);
-            }
-            1 => {
-                let at = rng.below(plan.len());
-                plan[at] = rng.pick(&[0, 1, 2, 7, 8, 9, 65_536]);
-            }
-            _ => {}
-        }
-        let mut plan = word_bytes(&plan);
+        let subject = random_run(&mut rng);
+        let mut plan = word_bytes(subject.plan());
         if rng.below(20) == 0 {
             plan.truncate(rng.below(plan.len()));
         }
         let case = format!("seed {seed}, round {round}");
-        let output = compare(&case, File(&volume), File(&plan));
+        let output = compare(&case, File(subject.volume()), File(&plan));
         match output.get(..5) {
             Some("scene") => listed += 1,
             Some("done ") => empty += 1,

@@ -3,9 +3,21 @@
 
 use super::plans::Row;
 use crate::plain::search::Searcher;
-use std::path::PathBuf;
+use std::ffi::OsString;
+use std::path::{Path, PathBuf};
 use std::sync::atomic::{AtomicU32, Ordering};
-use std::{env, fs, process};
+use std::{fs, process};
+
+/// The program `lister`, which `rt check lister` writes to `target/bin` of the repository.
+pub fn lister() -> PathBuf {
+    let path = Path::new(env!("CARGO_MANIFEST_DIR")).join("../target/bin/lister");
+    assert!(
+        path.is_file(),
+        "{} is absent: run `rt check lister` in the repository first",
+        path.display()
+    );
+    path
+}
 
 /// A fresh folder, which is removed at the end.
 pub struct Folder(pub PathBuf);
@@ -14,13 +26,34 @@ impl Folder {
     pub fn new() -> Folder {
         static MADE: AtomicU32 = AtomicU32::new(0);
         let number = MADE.fetch_add(1, Ordering::Relaxed);
-        let path = env::temp_dir().join(format!("lihambozy-{}-{number}", process::id()));
+        let name = format!("{}-{number}", process::id());
+        let path = Path::new(env!("CARGO_TARGET_TMPDIR")).join(name);
+        // A run that was stopped may have left one.
+        let _ = fs::remove_dir_all(&path);
         fs::create_dir(&path).unwrap_or_else(|error| panic!("{}: {error}", path.display()));
         Folder(path)
     }
 
-    pub fn write(&self, name: &str, bytes: &[u8]) {
-        fs::write(self.0.join(name), bytes).unwrap();
+    pub fn path(&self, name: impl AsRef<Path>) -> PathBuf {
+        self.0.join(name)
+    }
+
+    pub fn write(&self, name: impl AsRef<Path>, bytes: impl AsRef<[u8]>) {
+        fs::write(self.path(name), bytes).unwrap();
+    }
+
+    #[track_caller]
+    pub fn read(&self, name: impl AsRef<Path>) -> Vec<u8> {
+        let path = self.path(name);
+        fs::read(&path).unwrap_or_else(|error| panic!("{}: {error}", path.display()))
+    }
+
+    /// The names of all that stands in the folder, in order.
+    pub fn names(&self) -> Vec<OsString> {
+        let entries = fs::read_dir(&self.0).unwrap();
+        let mut names: Vec<OsString> = entries.map(|entry| entry.unwrap().file_name()).collect();
+        names.sort();
+        names
     }
 }
 

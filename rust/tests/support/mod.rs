@@ -1,12 +1,13 @@
 //! What the tests share: a seeded generator, lists and damage made with it, plans (in `plans`), and
 //! the comparison of the library with the plain reader and writer, call by call. `searches` has the
 //! same for listing documents and testing positions, and whole searches. `refused` has volumes and
-//! plans that are refused, `files` what the programs that print a listing are run with, and `cc`
-//! compiles C programs.
+//! plans that are refused, `files` what the programs that print a listing are run with; `command` runs
+//! programs, and `cc` compiles those in C.
 
 #![allow(dead_code)]
 
 pub mod cc;
+pub mod command;
 pub mod files;
 pub mod plans;
 pub mod refused;
@@ -107,6 +108,16 @@ impl Lists {
         plain::write_volume(&self.counts, &self.postings, &mut volume).unwrap();
         volume
     }
+
+    /// The text of the lists: a line for each, its postings as `scene:place`, or `-` where it is empty.
+    pub fn text(&self) -> String {
+        let posting = |&word: &u32| format!("{}:{}", word / 65_536, word % 65_536);
+        let line = |list: &&[u32]| match list {
+            [] => "-\n".to_string(),
+            _ => list.iter().map(posting).collect::<Vec<_>>().join(" ") + "\n",
+        };
+        plain::cut(&self.counts, &self.postings).0.iter().map(line).collect()
+    }
 }
 
 /// The sample volume's lists in document 01.
@@ -124,6 +135,19 @@ pub fn sample() -> Lists {
 pub fn four_blocks() -> Lists {
     let list = |first: u32, count: u32| (0..count).map(|i| first + 3 * i).collect::<Vec<u32>>();
     Lists::new(&[list(9_000, 10), vec![], list(7_000, 150), list(6_000, 200), list(5_000, 20)])
+}
+
+/// So many lists that fill so many stream words, each starting below the one before it.
+pub fn filling(lists: usize, words: usize) -> Lists {
+    let postings = words - 2 - lists;
+    let mut counts = vec![(postings / lists) as u32; lists];
+    counts[lists / 2] += (postings % lists) as u32;
+    let mut postings = Vec::new();
+    for (list, &count) in counts.iter().enumerate() {
+        let first = (lists - list) as u32 * 1_000;
+        postings.extend((0..count).map(|i| first + 2 * i));
+    }
+    Lists { counts, postings }
 }
 
 /// A strictly rising list: dense or spread, at either end of the 32-bit numbers or between.

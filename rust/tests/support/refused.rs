@@ -6,11 +6,18 @@ use crate::plain::Refused;
 
 /// A volume for each of 1 to 8, or several.
 pub fn volumes() -> Vec<(Vec<u8>, Refused)> {
+    type Change<'a> = &'a dyn Fn(&mut Vec<u8>);
     let lists = four_blocks();
-    let changed = |change: &dyn Fn(&mut Vec<u8>)| {
+    let changed = |change: Change| {
         let mut volume = lists.volume();
         change(&mut volume);
         volume
+    };
+    let both = |one: Change, other: Change| {
+        changed(&|volume| {
+            one(volume);
+            other(volume);
+        })
     };
     let start = lists.start(3);
     vec![
@@ -31,6 +38,12 @@ pub fn volumes() -> Vec<(Vec<u8>, Refused)> {
         (changed(&|volume| set(volume, 7, 9_003)), (7, 0)),
         (changed(&|volume| set(volume, 503, 1)), (8, 503)),
         (changed(&|volume| set(volume, lists.words(), 1)), (8, 387)),
+        // Two faults: blocks go upward, 2 before 3 in each, then 4 to 8 in order.
+        (both(&|volume| renumber(volume, 1, 0), &|volume| volume[100] ^= 1), (3, 0)),
+        (both(&|volume| volume[512] ^= 1, &|volume| volume[600] ^= 1), (2, 1)),
+        (both(&|volume| set(volume, 0, 2), &|volume| volume[2_047] ^= 1), (3, 3)),
+        (both(&|volume| set(volume, 0, 2), &|volume| set(volume, 1, 0)), (4, 0)),
+        (both(&|volume| set(volume, start + 1, 0), &|volume| set(volume, 503, 1)), (7, 3)),
     ]
 }
 
@@ -55,5 +68,11 @@ pub fn plans() -> Vec<(Vec<Row>, Refused)> {
         (vec![voice(1), END, BOTH], (13, 2)),
         (vec![voice(1), END, voice(2), END], (14, 0)),
         (vec![voice(1), END, voice(2)], (14, 0)),
+        // Two faults: rows go upward, 10 to 13 in order in each, then 14.
+        (vec![END, [0; 4]], (13, 0)),
+        (vec![[0; 4], END], (10, 0)),
+        (vec![[1, 0, 1, 0]], (10, 0)),
+        (vec![voice(1), span(1), voice(9)], (11, 2)),
+        (vec![voice(1), [0; 4]], (10, 1)),
     ]
 }

@@ -449,6 +449,24 @@ pub fn random_large_subject(rng: &mut Rng) -> Subject {
     Subject::new(&Lists::new(&lists).volume(), &rows.concat())
 }
 
+/// An archive and a plan over it, sometimes with a bit of the volume or a word of the plan changed.
+pub fn random_run(rng: &mut Rng) -> Subject {
+    let subject = random_subject(rng);
+    let (mut volume, mut plan) = (subject.volume().to_vec(), subject.plan().to_vec());
+    match rng.below(8) {
+        0 => {
+            let at = rng.below(volume.len());
+            volume[at] ^= 1 << rng.below(8);
+        }
+        1 => {
+            let at = rng.below(plan.len());
+            plan[at] = rng.pick(&[0, 1, 2, 7, 8, 9, 65_536]);
+        }
+        _ => return subject,
+    }
+    Subject::new(&volume, &plan)
+}
+
 /// A number of words for a buffer: too few for a row, or as many as some rows have or nearly so.
 pub fn random_room(rng: &mut Rng, width: usize) -> usize {
     let rows = width * (1 + rng.below(9));
