@@ -201,8 +201,8 @@ mod tests {
     use crate::Posting;
     use std::panic;
 
-    /// A word at position 0 of the documents 0, 3, 6 and on, so many in all, and another at positions
-    /// 0 and 1 of each second of them.
+    /// A word at position 0 of the documents 0, 3, 6 and on, so many in all, and another at
+    /// positions 0 and 1 of each second of them.
     fn volume(docs: u16) -> Volume<'static> {
         let word = (0..docs).map(|i| Posting::new(3 * i, 0)).collect();
         let every_second = (0..docs).step_by(2);

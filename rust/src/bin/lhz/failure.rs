@@ -67,8 +67,8 @@ impl Failure {
     }
 }
 
-/// A sentence on one line. A file's name or a word of a text may hold signs that break the line, that
-/// a terminal obeys, or that cannot be seen: they are told as `\n` or `\u{200b}`.
+/// A sentence on one line. A file's name or a word of a text may hold signs that break the line,
+/// that a terminal obeys, or that cannot be seen: they are told as `\n` or `\u{200b}`.
 fn on_one_line(sentence: &str) -> String {
     let mut line = String::new();
     for sign in sentence.chars() {
