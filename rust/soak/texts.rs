@@ -7,7 +7,7 @@ use crate::report::Counts;
 use crate::support::Rng;
 use crate::volumes::{any_lists, spoil_lists};
 use crate::Case;
-use lihambozy::row::Row;
+use lihambozy::row::PlanRow;
 use lihambozy::text::{self, Mistake};
 use lihambozy::{Plan, Posting, Volume};
 
@@ -30,7 +30,7 @@ pub fn texts(case: &mut Case) {
     }
 
     let any_row = |rng: &mut Rng| [0; 4].map(|_| rng.word() >> rng.pick(&[0, 15, 16, 29, 31]));
-    let rows: Vec<Row> = match rng.below(3) {
+    let rows: Vec<PlanRow> = match rng.below(3) {
         0 => (0..rng.below(70)).map(|_| any_row(rng)).collect(),
         _ => any_plan(rng, 9).as_chunks().0.to_vec(),
     };

@@ -1,6 +1,6 @@
 //! Plans.
 
-use crate::row::Row;
+use crate::row::PlanRow;
 use crate::text::{self, Mistake};
 use crate::{Refusal, MAX_ROWS};
 use std::fmt;
@@ -30,12 +30,12 @@ use std::str::FromStr;
 /// ```
 #[derive(Clone, Debug, PartialEq, Eq)]
 pub struct Plan {
-    rows: Vec<Row>,
+    rows: Vec<PlanRow>,
 }
 
 impl Plan {
     /// The plan of these rows.
-    pub fn new(rows: impl Into<Vec<Row>>) -> Plan {
+    pub fn new(rows: impl Into<Vec<PlanRow>>) -> Plan {
         Plan { rows: rows.into() }
     }
 
@@ -59,7 +59,7 @@ impl Plan {
     }
 
     /// The plan's rows.
-    pub fn rows(&self) -> &[Row] {
+    pub fn rows(&self) -> &[PlanRow] {
         &self.rows
     }
 

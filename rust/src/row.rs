@@ -3,38 +3,38 @@
 use crate::{kind, ROW_WORDS};
 
 /// A row of a plan.
-pub type Row = [u32; ROW_WORDS];
+pub type PlanRow = [u32; ROW_WORDS];
 
 /// A variable of a pattern, with a list: see [`kind::VOICE`].
-pub const fn voice(list: u32) -> Row {
+pub const fn voice(list: u32) -> PlanRow {
     [kind::VOICE, list, 0, 0]
 }
 
 /// At most `c` positions between two variables: see [`kind::NEAR`].
-pub const fn near(a: u32, b: u32, c: u32) -> Row {
+pub const fn near(a: u32, b: u32, c: u32) -> PlanRow {
     [kind::NEAR, a, b, c]
 }
 
 /// One variable before another: see [`kind::BEFORE`].
-pub const fn before(a: u32, b: u32) -> Row {
+pub const fn before(a: u32, b: u32) -> PlanRow {
     [kind::BEFORE, a, b, 0]
 }
 
 /// Two variables in one title: see [`kind::SAME_TITLE`].
-pub const fn same_title(a: u32, b: u32) -> Row {
+pub const fn same_title(a: u32, b: u32) -> PlanRow {
     [kind::SAME_TITLE, a, b, 0]
 }
 
 /// All variables of the pattern within `c` positions: see [`kind::SPAN`].
-pub const fn span(c: u32) -> Row {
+pub const fn span(c: u32) -> PlanRow {
     [kind::SPAN, 0, 0, c]
 }
 
 /// See [`kind::END`].
-pub const END: Row = [kind::END, 0, 0, 0];
+pub const END: PlanRow = [kind::END, 0, 0, 0];
 /// See [`kind::BOTH`].
-pub const BOTH: Row = [kind::BOTH, 0, 0, 0];
+pub const BOTH: PlanRow = [kind::BOTH, 0, 0, 0];
 /// See [`kind::EITHER`].
-pub const EITHER: Row = [kind::EITHER, 0, 0, 0];
+pub const EITHER: PlanRow = [kind::EITHER, 0, 0, 0];
 /// See [`kind::FIRST_NOT_SECOND`].
-pub const FIRST_NOT_SECOND: Row = [kind::FIRST_NOT_SECOND, 0, 0, 0];
+pub const FIRST_NOT_SECOND: PlanRow = [kind::FIRST_NOT_SECOND, 0, 0, 0];

@@ -10,7 +10,7 @@
 //! A carriage return elsewhere is a mistake, in a comment too: some programs show a new line there,
 //! and what stands in it would belong to another list or to none.
 
-use crate::row::Row;
+use crate::row::PlanRow;
 use crate::{kind, Posting, Refusal, MAX_LISTS, MAX_WORDS, ROW_WORDS};
 use std::error::Error;
 use std::fmt;
@@ -106,7 +106,8 @@ fn check_line_ends(text: &str) -> Result<(), Mistake> {
     lines(text).find_map(within).map_or(Ok(()), Err)
 }
 
-/// The lists that a text tells.
+/// The lists that a text tells. A text of more lists than a volume may have is read to the first one
+/// that is too many: its lists are refused with 5.
 ///
 /// ```
 /// use lihambozy::{text, Posting};
@@ -122,7 +123,7 @@ fn check_line_ends(text: &str) -> Result<(), Mistake> {
 /// ```
 pub fn lists(text: &str) -> Result<Vec<Vec<Posting>>, Mistake> {
     check_line_ends(text)?;
-    list_lines(text).map(|(number, line)| list(number, line)).collect()
+    list_lines(text).take(MAX_LISTS + 1).map(|(number, line)| list(number, line)).collect()
 }
 
 /// The list that a line tells.
@@ -244,7 +245,7 @@ const KINDS: [(&str, u32, &[usize]); 9] = [
 ];
 
 /// A row of a plan, shown as a line of its text.
-pub(crate) struct RowText(pub Row);
+pub(crate) struct RowText(pub PlanRow);
 
 impl fmt::Display for RowText {
     fn fmt(&self, f: &mut fmt::Formatter<'_>) -> fmt::Result {
@@ -263,7 +264,7 @@ impl fmt::Display for RowText {
 }
 
 /// The rows that the text of a plan tells.
-pub(crate) fn plan_rows(text: &str) -> Result<Vec<Row>, Mistake> {
+pub(crate) fn plan_rows(text: &str) -> Result<Vec<PlanRow>, Mistake> {
     check_line_ends(text)?;
     let lines = lines(text).map(|(number, line)| {
         let row = line.split_once('#').map_or(line, |(row, _)| row);
@@ -273,7 +274,7 @@ pub(crate) fn plan_rows(text: &str) -> Result<Vec<Row>, Mistake> {
 }
 
 /// The row that a line with these words tells.
-fn row(line: &[Word<'_>]) -> Result<Row, Mistake> {
+fn row(line: &[Word<'_>]) -> Result<PlanRow, Mistake> {
     if is_number(line[0].text) {
         return numbers(line, line, &[0, 1, 2, 3], "a row told by numbers");
     }
@@ -291,7 +292,12 @@ fn row(line: &[Word<'_>]) -> Result<Row, Mistake> {
 }
 
 /// The row with these numbers at the indices `used`, as many as there are of them.
-fn numbers(line: &[Word<'_>], told: &[Word<'_>], used: &[usize], of: &str) -> Result<Row, Mistake> {
+fn numbers(
+    line: &[Word<'_>],
+    told: &[Word<'_>],
+    used: &[usize],
+    of: &str,
+) -> Result<PlanRow, Mistake> {
     let takes = || match used.len() {
         0 => format!("{of} takes no number"),
         1 => format!("{of} takes one number"),

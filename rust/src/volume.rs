@@ -1,7 +1,7 @@
 //! Volumes that are accepted.
 
 use crate::calls::{self, CheckedPlan, CheckedVolume};
-use crate::row::Row;
+use crate::row::PlanRow;
 use crate::{Plan, Posting, Refusal, Search};
 use std::borrow::Cow;
 use std::fmt;
@@ -131,7 +131,7 @@ impl<'a> Volume<'a> {
     /// assert_eq!(volume.pattern_rows(&plan, 2).unwrap_err().number, 17);
     /// # Ok::<(), lihambozy::Refusal>(())
     /// ```
-    pub fn pattern_rows<'p>(&self, plan: &'p Plan, pattern: u32) -> Result<&'p [Row], Refusal> {
+    pub fn pattern_rows<'p>(&self, plan: &'p Plan, pattern: u32) -> Result<&'p [PlanRow], Refusal> {
         self.check(plan)?;
         match calls::pattern_rows(&self.bytes, plan.words(), pattern).as_chunks().0 {
             [] => Err(Refusal::NO_SUCH),

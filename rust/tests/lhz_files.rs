@@ -95,7 +95,8 @@ fn files_without_an_end() {
                 let ended = folder.sh(&format!("ulimit -v 500000; lhz {line} {from}"));
                 let sentence = ended.failure(status, stdout);
                 assert!(sentence.starts_with(&format!("{name}: ")), "lhz {line}: {sentence}");
-                assert!(status == 1 || sentence.contains("over 64 MiB"), "lhz {line}: {sentence}");
+                let over = if line.starts_with("plan") { "over 1 MiB" } else { "over 64 MiB" };
+                assert!(status == 1 || sentence.contains(over), "lhz {line}: {sentence}");
             }
         }
     }
@@ -164,12 +165,20 @@ fn a_full_standard_output() {
         "plan sample.txt -",
         "write lists.txt written.vol",
         "plan sample.txt written.plan",
-        "check bad.vol",
-        "read titles.vol 9",
     ] {
         let full = OpenOptions::new().write(true).open("/dev/full").unwrap();
         let ended = to(&folder, line, full);
         assert_eq!(ended.failure(2, ""), "standard output: No space left on device", "lhz {line}");
+    }
+    // A refusal that cannot be printed is still told.
+    for (line, refused) in [("check bad.vol", "refused 1 0"), ("read titles.vol 9", "refused 17 0")]
+    {
+        let full = OpenOptions::new().write(true).open("/dev/full").unwrap();
+        let ended = to(&folder, line, full);
+        let (told, output) = ended.stderr.split_once('\n').unwrap();
+        assert!(told.starts_with("lhz: ") && told.contains(refused), "lhz {line}: {told}");
+        assert_eq!(output, "lhz: standard output: No space left on device\n", "lhz {line}");
+        assert_eq!((ended.told().0, ended.told().1), (2, ""), "lhz {line}");
     }
     // What was written before it was told is in place.
     assert_eq!(folder.read("written.vol"), sample().volume());

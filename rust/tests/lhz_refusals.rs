@@ -146,12 +146,20 @@ fn of_a_number() {
     let two = [voice(1), END, voice(2), voice(1), END, BOTH];
     folder.write("two.plan", plan_bytes(&two));
     for (line, file, words) in [
-        ("read titles.vol 3", "titles.vol", ["lists", "0 to 2", "3 is none"]),
-        ("read titles.vol 1024", "titles.vol", ["lists", "0 to 2", "1024 is none"]),
-        ("show titles.vol sample.plan 1", "sample.plan", ["figures", "0 to 0", "1 is none"]),
-        ("show titles.vol two.plan 2", "two.plan", ["figures", "0 to 1", "2 is none"]),
-        ("test titles.vol sample.plan 1 1 2 5", "sample.plan", ["figures", "0 to 0", "1 is none"]),
-        ("test titles.vol two.plan 2 1 2", "two.plan", ["figures", "0 to 1", "2 is none"]),
+        ("read titles.vol 3", "titles.vol", ["no list 3;", "lists", "0 to 2"]),
+        ("read titles.vol 1024", "titles.vol", ["no list 1024;", "lists", "0 to 2"]),
+        (
+            "show titles.vol sample.plan 1",
+            "sample.plan",
+            ["no figure 1;", "only figure", "figure 0"],
+        ),
+        ("show titles.vol two.plan 2", "two.plan", ["no figure 2;", "figures", "0 to 1"]),
+        (
+            "test titles.vol sample.plan 1 1 2 5",
+            "sample.plan",
+            ["no figure 1;", "only figure", "figure 0"],
+        ),
+        ("test titles.vol two.plan 2 1 2", "two.plan", ["no figure 2;", "figures", "0 to 1"]),
         (
             "test titles.vol sample.plan 0 1",
             "sample.plan",

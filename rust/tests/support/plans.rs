@@ -1,7 +1,7 @@
 //! Plans for the tests: rows by name, random plans, and changes of them.
 
 use super::Rng;
-pub use lihambozy::row::*;
+pub use lihambozy::row::{PlanRow as Row, *};
 
 /// The sample plan of document 01.
 pub const SAMPLE: [Row; 5] = [voice(1), voice(2), before(0, 1), same_title(0, 1), END];

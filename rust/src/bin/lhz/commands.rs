@@ -136,8 +136,7 @@ fn read(path: &OsStr, list: Option<&OsStr>, out: &mut impl Write) -> Result<(), 
         Some(list) => match volume.list(list.value) {
             Ok(list) => print(out, format_args!("{}\n", ListLine(&list))),
             Err(refusal) => {
-                let last = volume.list_count() - 1;
-                Err(no_such(path, refusal, format!("its lists are 0 to {last}; {list} is none")))
+                Err(no_such(path, refusal, not_there("list", list, volume.list_count())))
             }
         },
     }
@@ -161,7 +160,7 @@ fn test(
         Ok(passes) => print(out, if passes { "yes\n" } else { "no\n" }),
         Err(refusal) => {
             let Ok(rows) = volume.pattern_rows(&plan, pattern.value) else {
-                return Err(no_such(path, refusal, no_pattern(checked, pattern)));
+                return Err(no_such(path, refusal, not_there("figure", pattern, checked.patterns)));
             };
             let vars = rows.iter().filter(|row| row[0] == kind::VOICE).count();
             let over = [doc].into_iter().chain(places).find(|number| number.value > 65_535);
@@ -180,13 +179,17 @@ fn test(
     }
 }
 
-fn no_pattern(checked: CheckedPlan, pattern: Number<'_>) -> String {
-    format!("its figures are 0 to {}; {pattern} is none", checked.patterns - 1)
+/// There is no list or figure of that number among so many.
+fn not_there(what: &str, number: Number<'_>, count: u32) -> String {
+    match count {
+        1 => format!("there is no {what} {number}; its only {what} is {what} 0"),
+        _ => format!("there is no {what} {number}; its {what}s are 0 to {}", count - 1),
+    }
 }
 
 fn write(path: &OsStr, volume: &OsStr, out: &mut impl Write) -> Result<(), Failure> {
     apart(path, volume)?;
-    let text = files::text(path)?;
+    let text = files::lists_text(path)?;
     let wrong = |mistake, refusal| Failure::Text { file: files::name(path), mistake, refusal };
     let lists = text::lists(&text).map_err(|mistake| wrong(mistake, None))?;
     let written =
@@ -206,7 +209,7 @@ fn write(path: &OsStr, volume: &OsStr, out: &mut impl Write) -> Result<(), Failu
 fn write_plan(path: &OsStr, plan: &OsStr, out: &mut impl Write) -> Result<(), Failure> {
     apart(path, plan)?;
     let wrong = |mistake| Failure::Text { file: files::name(path), mistake, refusal: None };
-    let written: Plan = files::text(path)?.parse().map_err(wrong)?;
+    let written: Plan = files::plan_text(path)?.parse().map_err(wrong)?;
     let bytes = written.to_bytes();
     // Not every number of rows makes a plan file.
     Plan::from_bytes(&bytes).map_err(|refusal| Failure::refused(files::name(path), refusal))?;
@@ -220,7 +223,8 @@ fn write_plan(path: &OsStr, plan: &OsStr, out: &mut impl Write) -> Result<(), Fa
 /// What is read is not written over.
 fn apart(read: &OsStr, written: &OsStr) -> Result<(), Failure> {
     if files::same(read, written) {
-        return Err(Failure::Usage(format!("{} is read and would be written", files::name(read))));
+        let why = "it is what is read, and is not written over".into();
+        return Err(Failure::File { file: files::name(read), why });
     }
     Ok(())
 }
@@ -237,8 +241,8 @@ fn show_pattern(
 ) -> Result<(), Failure> {
     let pattern = number("FIGURE", pattern)?;
     let (volume, plan, checked) = open_both(volume, path)?;
-    let rows = volume
-        .pattern_rows(&plan, pattern.value)
-        .map_err(|refusal| no_such(path, refusal, no_pattern(checked, pattern)))?;
+    let rows = volume.pattern_rows(&plan, pattern.value).map_err(|refusal| {
+        no_such(path, refusal, not_there("figure", pattern, checked.patterns))
+    })?;
     print(out, Plan::new(rows))
 }

@@ -48,12 +48,10 @@ impl Failure {
             Failure::Text { refusal, .. } => *refusal,
             _ => None,
         };
-        if let Some(Refusal { number, at }) = refusal {
+        let unprinted = refusal.and_then(|Refusal { number, at }| {
             let printed = writeln!(out, "refused {number} {at}").and_then(|()| out.flush());
-            if let Err(error) = printed {
-                return Failure::output(error).tell(&mut io::sink());
-            }
-        }
+            printed.err().map(Failure::output)
+        });
         let (status, sentence) = match self {
             Failure::Refused { file, sentence, .. } => (1, format!("{file}: {sentence}")),
             Failure::Text { file, mistake, .. } => (1, format!("{file}:{mistake}")),
@@ -63,7 +61,10 @@ impl Failure {
         };
         // A sentence that standard error does not take has nowhere else to go.
         let _ = writeln!(io::stderr(), "lhz: {}", on_one_line(&sentence));
-        ExitCode::from(status)
+        match unprinted {
+            Some(failure) => failure.tell(&mut io::sink()),
+            None => ExitCode::from(status),
+        }
     }
 }
 

@@ -9,8 +9,9 @@ use std::io::{self, Read, Write};
 use std::path::{Path, PathBuf};
 use std::process;
 
-/// Bytes of the longest text that is read.
-const MAX_TEXT: usize = 64 << 20;
+/// Mebibytes of the longest texts that are read.
+const MAX_LISTS_TEXT: usize = 64;
+const MAX_PLAN_TEXT: usize = 1;
 
 /// A file as its argument names it, for a person.
 pub fn name(path: &OsStr) -> String {
@@ -32,11 +33,24 @@ pub fn plan(path: &OsStr) -> Result<Vec<u8>, Failure> {
     read(path, MAX_ROWS * ROW_WORDS * 4 + 1)
 }
 
-/// A text file.
-pub fn text(path: &OsStr) -> Result<String, Failure> {
-    let mut bytes = read(path, MAX_TEXT + 1)?;
-    if bytes.len() > MAX_TEXT {
-        return Err(Failure::File { file: name(path), why: "the text is over 64 MiB".into() });
+/// The text of lists.
+pub fn lists_text(path: &OsStr) -> Result<String, Failure> {
+    text(path, MAX_LISTS_TEXT)
+}
+
+/// The text of a plan.
+pub fn plan_text(path: &OsStr) -> Result<String, Failure> {
+    text(path, MAX_PLAN_TEXT)
+}
+
+/// A text file of so many mebibytes at most.
+fn text(path: &OsStr, most: usize) -> Result<String, Failure> {
+    let mut bytes = read(path, (most << 20) + 1)?;
+    if bytes.len() > most << 20 {
+        return Err(Failure::File {
+            file: name(path),
+            why: format!("the text is over {most} MiB"),
+        });
     }
     // Some editors put this mark in front of a text.
     if bytes.starts_with("\u{feff}".as_bytes()) {
