@@ -106,8 +106,7 @@ fn check_line_ends(text: &str) -> Result<(), Mistake> {
     lines(text).find_map(within).map_or(Ok(()), Err)
 }
 
-/// The lists that a text tells. A text of more lists than a volume may have is read to the first one
-/// that is too many: its lists are refused with 5.
+/// The lists that a text tells.
 ///
 /// ```
 /// use lihambozy::{text, Posting};
@@ -123,7 +122,7 @@ fn check_line_ends(text: &str) -> Result<(), Mistake> {
 /// ```
 pub fn lists(text: &str) -> Result<Vec<Vec<Posting>>, Mistake> {
     check_line_ends(text)?;
-    list_lines(text).take(MAX_LISTS + 1).map(|(number, line)| list(number, line)).collect()
+    list_lines(text).map(|(number, line)| list(number, line)).collect()
 }
 
 /// The list that a line tells.
