@@ -57,8 +57,8 @@ impl<'a> Volume<'a> {
     /// ```
     pub fn of_lists<L: AsRef<[Posting]>>(lists: &[L]) -> Result<Volume<'static>, Refusal> {
         let lists = lists.iter().map(AsRef::as_ref);
-        // A count over 32 bits does not fit a volume, and its sum with the others is not the number
-        // of postings.
+        // A count over 32 bits fits no volume. Told as the largest of these, it is refused with 18:
+        // the counts do not sum to the number of postings.
         let count = |list: &[Posting]| u32::try_from(list.len()).unwrap_or(u32::MAX);
         let counts: Vec<u32> = lists.clone().map(count).collect();
         let postings: Vec<u32> = lists.flatten().map(|posting| posting.word()).collect();
