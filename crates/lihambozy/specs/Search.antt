@@ -8,9 +8,9 @@ use mathlib.Core.List.{List, [], _∷_}
 use lib.ListN.{length, getD, take}
 use lib.Dec.{eqb, leb}
 use Rattle.seq.specs.Lists.{keep}
-use Rattle.search.specs.Positions.{limit}
-use Rattle.search.specs.Documents.{Work}
-use Rattle.search.specs.Listing.{docsIn, rowsOfDocs, work, listAnswer, listOut}
+use Rattle.fulltext.specs.Positions.{limit}
+use Rattle.fulltext.specs.Documents.{Work, docsIn, rowsOfDocs, work}
+use Rattle.search.specs.Listing.{listAnswer, listOut}
 use Rattle.search.specs.Search.{Outcome, stopped, andThen}
 use Rattle.lihambozy.specs.declared.Listing.{Listing}
 use Rattle.lihambozy.specs.Flat.{flatListing}

@@ -11,7 +11,7 @@ ghost use Rattle.volume.specs.Read.{readAnswer, readOut};
 ghost use Rattle.volume.specs.Write.{writeAnswer, writeOut};
 ghost use Rattle.plan.specs.Check as planned;
 ghost use Rattle.plan.specs.Parts.{spanOf};
-ghost use Rattle.search.specs.Testing.{testAnswer};
+ghost use Rattle.matcher.specs.Testing.{testAnswer};
 ghost use Rattle.lihambozy.specs.Flat.{flatSizes, flatList, flatVolume, flatPlan, flatSpan, flatTest};
 ghost use Rattle.lihambozy.specs.Search.{Kept};
 use plan::Checked as PlanChecked;

@@ -11,7 +11,7 @@ use Rattle.volume.specs.Bytes.{bytes32}
 use Rattle.volume.specs.Write.{volumeOf}
 use Rattle.volume.specs.Demands.{sampleLists}
 use Rattle.plan.specs.Demands.{samplePlan}
-use Rattle.search.specs.Positions.{limit}
+use Rattle.fulltext.specs.Positions.{limit}
 use Rattle.lister.specs.Printed.{printed}
 use Rattle.lister.specs.Turns.{textFrom}
 

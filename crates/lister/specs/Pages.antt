@@ -6,7 +6,7 @@ use lib.ListN.{length, take, drop}
 use Rattle.seq.specs.Lists.{joined}
 use Rattle.seq.specs.Numbers.{run}
 use Rattle.seq.specs.Refusals.{Said, refused, answered}
-use Rattle.search.specs.Positions.{limit}
+use Rattle.fulltext.specs.Positions.{limit}
 use Rattle.search.specs.Answers.{Next, done, more, Page}
 use Rattle.lister.specs.declared.pages.Paged.{Paged}
 use Rattle.lister.specs.declared.pages.Paged.the-variants.{Last, More}

@@ -10,9 +10,8 @@ use Rattle.seq.specs.Refusals.{Said, refused, answered}
 use Rattle.volume.specs.Bytes.{le32}
 use Rattle.plan.specs.Answers.{Sizes}
 use Rattle.plan.specs.Check.{verdict}
-use Rattle.search.specs.Positions.{limit}
-use Rattle.search.specs.Documents.{Work}
-use Rattle.search.specs.Listing.{docsIn, work}
+use Rattle.fulltext.specs.Positions.{limit}
+use Rattle.fulltext.specs.Documents.{Work, docsIn, work}
 use Rattle.lister.specs.Text.{line, sceneWord, doneWord, refusedWord, tooLong}
 
 -- a plan file has 1 to 64 rows of 16 bytes

@@ -5,10 +5,10 @@ use mathlib.Core.List.{List, [], _∷_, _++_}
 use lib.ListN.{length}
 use lib.Dec.{ltb}
 use Rattle.seq.specs.Refusals.{Said, refused, answered}
-use Rattle.search.specs.Positions.{limit}
-use Rattle.search.specs.Documents.{Work}
+use Rattle.fulltext.specs.Positions.{limit}
+use Rattle.fulltext.specs.Documents.{Work, docsIn, work}
 use Rattle.search.specs.Answers.{Next, done, more, Page}
-use Rattle.search.specs.Listing.{docsIn, work, listAnswer}
+use Rattle.search.specs.Listing.{listAnswer}
 use Rattle.lister.specs.Text.{line, doneWord, refusedWord, tooLong}
 use Rattle.lister.specs.Printed.{planWords, docLines}
 

@@ -4,7 +4,7 @@ ghost use mathlib.Core.List.{_∷_, []};
 ghost use Prim.Native.Nat.{_+_, _*_, _≤_};
 ghost use lib.ListN.{length};
 ghost use Rattle.search.specs.Answers.{saidListed};
-ghost use Rattle.search.specs.Listing.{work};
+ghost use Rattle.fulltext.specs.Documents.{work};
 ghost use Rattle.lister.specs.Text.{line, refusedWord};
 ghost use Rattle.lister.specs.Turns.{listTurn, turnAt};
 ghost use Rattle.lister.specs.Stored.{Stored};

@@ -31,37 +31,19 @@
 --     Tally          the postings passed, variable by variable
 --     Visits         the listing loop, document by document
 --     Cases          the starred cases
-pub mod Positions
-pub mod Needs
-pub mod Least
-pub mod Calculus
-pub mod Docs
 pub mod Pages
-pub mod Counts
-pub mod Skips
 pub mod Loop
 pub mod Listing
 pub mod Calls
 pub mod Search
 pub mod Whole
 pub mod Answers
-pub mod Stages
 pub mod ListFirst
-pub mod TestFirst
-pub mod Volume
-pub mod Cursors
-pub mod Paragraphs
-pub mod Shortfall
 pub mod Answering
-pub mod Tables
-pub mod Placed
 pub mod Align
-pub mod Settling
-pub mod Matching
-pub mod Settled
-pub mod Testing
 pub mod Walk
 pub mod Filling
 pub mod Tally
 pub mod Visits
 pub mod Cases
+pub mod Stages

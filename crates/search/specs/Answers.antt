@@ -5,8 +5,8 @@ use Rattle.seq.specs.Refusals.{Said, refused, answered}
 use Rattle.plan.specs.Answers.{saidRefusal}
 use Rattle.search.specs.declared.answers.Listed.{Listed}
 use Rattle.search.specs.declared.answers.Listed.the-variants as listed
-use Rattle.search.specs.declared.answers.Tested.{Tested}
-use Rattle.search.specs.declared.answers.Tested.the-variants as tested
+use Rattle.matcher.specs.declared.answers.Tested.{Tested}
+use Rattle.matcher.specs.declared.answers.Tested.the-variants as tested
 
 -- DONE, or MORE and a document
 pub data Next : Type 0 where
@@ -25,8 +25,3 @@ saidListed (listed.More s n t) = answered (record { rows = n; tally = t; next = 
 saidListed (listed.Refused r) = saidRefusal r
 saidListed listed.Start = refused 15 0
 saidListed listed.Short = refused 16 0
-
-abbrev pub saidTested : Tested → Said Bool
-saidTested (tested.Answer b) = answered b
-saidTested (tested.Refused r) = saidRefusal r
-saidTested tested.OutOfRange = refused 17 0

@@ -21,21 +21,19 @@ use Rattle.plan.specs.Check as plan
 use Rattle.plan.specs.Patterns.{Pattern}
 use Rattle.plan.specs.Accepted.{patternAt}
 use Rattle.search.specs.declared.answers.Listed.{Listed}
-use Rattle.search.specs.declared.answers.Tested.{Tested}
-use Rattle.search.specs.Positions.{limit}
-use Rattle.search.specs.Calculus.{True, openFormula, patternFormula, planFormula}
-use Rattle.search.specs.Matches.{matchesAt, leastIn, Least}
-use Rattle.search.specs.Documents.{found, matching, varsOf}
-use Rattle.search.specs.Answers.{Page, saidListed, saidTested}
-use Rattle.search.specs.Testing.{testAnswer}
-use Rattle.search.specs.Listing.{pageOf, rowsFrom, work, listAnswer, listOut}
-use Rattle.search.specs.Refusals.{TestApplies, ListApplies, testStages, listStages}
+use Rattle.matcher.specs.declared.answers.Tested.{Tested}
+use Rattle.fulltext.specs.Positions.{limit}
+use Rattle.fulltext.specs.Calculus.{True, openFormula, patternFormula, planFormula}
+use Rattle.fulltext.specs.Matches.{matchesAt, leastIn, Least}
+use Rattle.fulltext.specs.Documents.{found, matching, varsOf, work}
+use Rattle.search.specs.Answers.{Page, saidListed}
+use Rattle.matcher.specs.Answers.{saidTested}
+use Rattle.matcher.specs.Testing.{testAnswer}
+use Rattle.search.specs.Listing.{pageOf, rowsFrom, listAnswer, listOut}
+use Rattle.matcher.specs.Refusals.{TestApplies, testStages}
+use Rattle.search.specs.Refusals.{ListApplies, listStages}
 use Rattle.search.specs.Search.{Call, IsSearch, outcome, Searched}
 use Rattle.search.specs.Cases.{Case, told, table}
-
--- Demand 1, testing: the first of 1 to 14, 17 that applies, or whether the positions match exactly if none applies
-unfoldable pub TestRefuses : Type 0
-TestRefuses = (v p : List ℕ) (k d : ℕ) (ps : List ℕ) → FirstRefusal (stageIn testStages) (TestApplies v p k d ps) (matchesAt (listsOf v) d (patternAt p k) ps) (testAnswer v p k d ps)
 
 -- listing: the first of 1 to 14, 15, 16 that applies, or the page exactly if none applies
 -- a refusal leaves the buffer as it was; an answer leaves the rows at its front and the rest as it was
@@ -48,20 +46,6 @@ pub record ListCall (v p : List ℕ) (start : ℕ) (out : List ℕ) : Type 0 whe
 -- Demand 1, listing
 unfoldable pub ListRefuses : Type 0
 ListRefuses = (v p : List ℕ) (start : ℕ) (out : List ℕ) → ListCall v p start out
-
--- the tests and the calculus, over an accepted volume and plan
-pub record Agrees (v p : List ℕ) : Type 0 where
-  -- positions match a pattern exactly if there is one for each variable and the pattern's open formula is true of them
-  pub tuples : (k d : ℕ) (ps : List ℕ) → k < plan.sizes p .patterns
-      → (matchesAt (listsOf v) d (patternAt p k) ps ≡ true) ↔ ((length ps ≡ length (patternAt p k .vars)) × True (listsOf v) d (openFormula (patternAt p k)) ps)
-  -- a pattern is found exactly if its formula is true
-  pub patterns : (k d : ℕ) → k < plan.sizes p .patterns → (found (listsOf v) d (patternAt p k) ≡ true) ↔ True (listsOf v) d (patternFormula (patternAt p k)) []
-  -- a document is true exactly if the plan's formula is true there
-  pub documents : (d : ℕ) → (matching (listsOf v) (rowsOf p) d ≡ true) ↔ True (listsOf v) d (planFormula (rowsOf p)) []
-
--- Demand 2, patterns and plans
-unfoldable pub Demand2 : Type 0
-Demand2 = (v p : List ℕ) → volume.Accepted v → plan.Accepted v p → Agrees v p
 
 -- what demand 3 says of an accepted volume and plan
 pub record Holds3 (v p : List ℕ) : Type 0 where
@@ -82,7 +66,6 @@ Demand3 = (v p : List ℕ) → IsBytes v → volume.Accepted v → plan.Accepted
 -- no two answers have document 01's number and values in common
 pub record OneToOne : Type 0 where
   pub listed : (a b : Listed) → saidListed a ≡ saidListed b → a ≡ b
-  pub tested : (a b : Tested) → saidTested a ≡ saidTested b → a ≡ b
 
 -- the starred cases: on each row of the table the calls' definitions say what is wanted
 unfoldable pub Cases : Type 0

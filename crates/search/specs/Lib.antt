@@ -15,19 +15,11 @@
 --     Tables       what is laid out of a plan before its documents are walked, for the contracts inside the crate
 --     Walk         where the cursors of a pattern stand, for the contracts inside the crate
 --     Settling     where the variables of a pattern stand in a document, for the contracts inside the crate
-pub mod Positions
-pub mod Calculus
-pub mod Matches
-pub mod Documents
 pub mod Answers
-pub mod Testing
 pub mod Listing
 pub mod Refusals
 pub mod Search
 pub mod Cases
 pub mod Demands
-pub mod Shortfall
-pub mod Cursors
-pub mod Tables
 pub mod Walk
-pub mod Settling
+pub mod Flags

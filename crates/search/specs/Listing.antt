@@ -12,19 +12,9 @@ use Rattle.volume.specs.Layout.{listsOf}
 use Rattle.plan.specs.Answers.{Sizes}
 use Rattle.plan.specs.Rows.{rowsOf}
 use Rattle.plan.specs.Check.{verdict}
-use Rattle.search.specs.Positions.{limit}
-use Rattle.search.specs.Documents.{Work, workOf}
+use Rattle.fulltext.specs.Positions.{limit}
+use Rattle.fulltext.specs.Documents.{Work, docsIn, rowsOfDocs, work}
 use Rattle.search.specs.Answers.{Page, done, more}
-
--- the true documents from a up to b, b not counted, rising
-unfoldable pub docsIn : Work → ℕ → ℕ → List ℕ
-unfolding keep run
-docsIn w a b = keep (w .isTrue) (run (λ d. d) a (b - a))
-
--- the rows of some documents, joined
-unfoldable pub rowsOfDocs : Work → List ℕ → List ℕ
-unfolding joined
-rowsOfDocs w ds = joined (map (w .rowOf) ds)
 
 -- by the number of true documents that remain, and the first of them behind the m that fit: all are written and DONE, with the postings to
 -- the end; or m are written and MORE with that document, with the postings up to it
@@ -46,11 +36,6 @@ rowsFrom w start m = rowsOfDocs w (take m (docsIn w start limit))
 abbrev pub listBy : Said Sizes → Work → ℕ → ℕ → Said Page
 listBy (refused n q) w start room = refused n q
 listBy (answered s) w start room = cond (ltb 65535 start) (refused 15 0) (cond (ltb room (w .width)) (refused 16 0) (answered (pageOf w start (room / w .width))))
-
--- a plan over a volume
-unfoldable pub work : List ℕ → List ℕ → Work
-unfolding workOf
-work v p = workOf (listsOf v) (rowsOf p)
 
 -- the answer to listing from document `start` on into a buffer of so many words
 unfoldable pub listAnswer : List ℕ → List ℕ → ℕ → ℕ → Said Page

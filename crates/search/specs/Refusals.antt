@@ -6,17 +6,7 @@ use lib.ListN.{length, getD}
 use Rattle.plan.specs.Check.{sizes}
 use Rattle.plan.specs.Accepted.{patternAt}
 use Rattle.plan.specs.Refusals.{PlanApplies, planStages}
-use Rattle.search.specs.Listing.{work}
-
--- the refusals of testing positions ps of pattern k in document d: those of the volume and the plan, then 17
-pub data TestApplies (v p : List ℕ) (k d : ℕ) (ps : List ℕ) : ℕ → ℕ → Type 0 where
-  -- 1 to 14
-  ofPlan : (n q : ℕ) → PlanApplies v p n q → TestApplies v p k d ps n q
-  -- 17: figure number not below F, wrong number of places, or a scene or place over 65,535
-  noPattern : sizes p .patterns ≤ k → TestApplies v p k d ps 17 0
-  wrongNumber : length ps ≢ length (patternAt p k .vars) → TestApplies v p k d ps 17 0
-  wrongDoc : 65535 < d → TestApplies v p k d ps 17 0
-  wrongPos : (i : ℕ) → i < length ps → 65535 < getD ps i 0 → TestApplies v p k d ps 17 0
+use Rattle.fulltext.specs.Documents.{work}
 
 -- the refusals of listing from document `start` on into a buffer of so many words: those of the volume and the plan, then 15, then 16
 pub data ListApplies (v p : List ℕ) (start room : ℕ) : ℕ → ℕ → Type 0 where
@@ -26,10 +16,6 @@ pub data ListApplies (v p : List ℕ) (start room : ℕ) : ℕ → ℕ → Type 
   wrongStart : 65535 < start → ListApplies v p start room 15 0
   -- 16: buffer shorter than one row
   short : room < work v p .width → ListApplies v p start room 16 0
-
--- the stages of the two calls
-abbrev pub testStages : List (List ℕ)
-testStages = planStages ++ ((17 ∷ []) ∷ [])
 
 abbrev pub listStages : List (List ℕ)
 listStages = planStages ++ ((15 ∷ []) ∷ (16 ∷ []) ∷ [])

@@ -7,10 +7,10 @@ use lib.ListN.{length, getD, take}
 use lib.Dec.{leb}
 use Rattle.seq.specs.Lists.{keep}
 use Rattle.seq.specs.Refusals.{Said, refused, answered}
-use Rattle.search.specs.Positions.{limit}
-use Rattle.search.specs.Documents.{Work}
+use Rattle.fulltext.specs.Positions.{limit}
+use Rattle.fulltext.specs.Documents.{Work, docsIn, rowsOfDocs, work}
 use Rattle.search.specs.Answers.{Next, done, more, Page}
-use Rattle.search.specs.Listing.{docsIn, rowsOfDocs, work, listAnswer, listOut}
+use Rattle.search.specs.Listing.{listAnswer, listOut}
 
 -- one listing call
 pub record Call : Type 0 where

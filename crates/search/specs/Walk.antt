@@ -10,14 +10,11 @@ use Rattle.volume.specs.Posting.{docOf}
 use Rattle.volume.specs.Layout.{word, listsOf}
 use Rattle.plan.specs.Check.{Accepted, sizes}
 use Rattle.plan.specs.Accepted.{patternAt}
-use Rattle.search.specs.Positions.{limit}
-use Rattle.search.specs.Documents.{found}
-use Rattle.search.specs.Cursors.{listEnd, Stands}
-use Rattle.search.specs.Tables.{varsBefore, Tabled, varAt}
-
--- x is one of n variables from `first` on
-abbrev pub Among : ℕ → ℕ → ℕ → Type 0
-Among first n x = (first ≤ x) × (x < first + n)
+use Rattle.fulltext.specs.Positions.{limit}
+use Rattle.fulltext.specs.Documents.{found}
+use Rattle.matcher.specs.Cursors.{listEnd, Stands}
+use Rattle.matcher.specs.Tables.{varsBefore, Tabled, varAt}
+use Rattle.matcher.specs.Settling.{Among, Candidate}
 
 -- the variable behind variable i of n, in turn
 abbrev pub turned : ℕ → ℕ → ℕ
@@ -43,14 +40,6 @@ pub record Aligned (v ends olds : List ℕ) (first n d r : ℕ) (ats : List ℕ)
   pub moved : (x : ℕ) → Among first n x → Moved v r (getD olds x 0) (getD ats x 0) (getD ends x 0)
   pub here : r < limit → (x : ℕ) → Among first n x → (getD ats x 0 < getD ends x 0) × (docOf (word v (getD ats x 0)) ≡ r)
   pub missing : (e : ℕ) → d ≤ e → e < r → (x : ℕ) × (Among first n x × (Has v (getD olds x 0) (getD ends x 0) e → ⊥))
-
--- pattern k can be found in document r and in none from document d up to r; its cursors stand there. r is 65,536 where no document is left
-pub record Candidate (v p ats ends : List ℕ) (k d r : ℕ) : Type 0 where
-  pub from : d ≤ r
-  pub to : r ≤ limit
-  pub absent : (e : ℕ) → d ≤ e → e < r → found (listsOf v) e (patternAt p k) ≡ false
-  pub stands : (x : ℕ) → Among (varsBefore p k) (length (patternAt p k .vars)) x → Stands v (varAt p x) r (getD ats x 0) × (getD ends x 0 ≡ listEnd v (varAt p x))
-  pub here : r < limit → (x : ℕ) → Among (varsBefore p k) (length (patternAt p k .vars)) x → (getD ats x 0 < getD ends x 0) × (docOf (word v (getD ats x 0)) ≡ r)
 
 -- the cursors of pattern k have passed documents below d alone
 abbrev pub Stood : List ℕ → List ℕ → List ℕ → List ℕ → ℕ → ℕ → Type 0

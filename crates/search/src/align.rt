@@ -2,9 +2,10 @@
 ghost use mathlib.Core.Path.{_≡_};
 ghost use Prim.Native.Nat.{ℕ, _+_, _<_, _≤_};
 ghost use lib.ListN.{length, getD};
-ghost use Rattle.search.specs.Cursors.{Stretch};
-ghost use Rattle.search.specs.Walk.{Among, Aligned, turned};
-use super::cursor::Cursor;
+ghost use Rattle.matcher.specs.Cursors.{Stretch};
+ghost use Rattle.matcher.specs.Settling.{Among};
+ghost use Rattle.search.specs.Walk.{Aligned, turned};
+use matcher::Cursor;
 
 // The variable behind variable i of n, in turn.
 fn turn(i: usize, n: usize) -> usize
@@ -29,7 +30,12 @@ pub fn align(
     n: usize,
     doc: u32,
 ) -> u32
-    requires { ⌜ (first + n ≤ length (now ats)) × ((first + n ≤ length (now ends)) × ((1 ≤ n) × ((n ≤ 8) × ((doc ≤ 65536) × ((x : ℕ) → Among first n x → Stretch (now volume) (getD (now ats) x 0) (getD (now ends) x 0)))))) ⌝ }
+    requires { ⌜ first + n ≤ length (now ats) ⌝ }
+    requires { ⌜ first + n ≤ length (now ends) ⌝ }
+    requires { ⌜ 1 ≤ n ⌝ }
+    requires { ⌜ n ≤ 8 ⌝ }
+    requires { ⌜ doc ≤ 65536 ⌝ }
+    requires { ⌜ ((x : ℕ) → Among first n x → Stretch (now volume) (getD (now ats) x 0) (getD (now ends) x 0)) ⌝ }
     ensures { λ r. ⌜ Aligned (now (volume .entry)) (now (ends .entry)) (now (ats .entry)) first n doc r (now (ats .exit)) ⌝ }
 {
     let mut d = doc;

@@ -7,7 +7,7 @@ ghost use lib.ListN.{length, getD};
 ghost use Rattle.plan.specs.Rows.{rowsOf};
 ghost use Rattle.plan.specs.Patterns.{Pattern, answer};
 ghost use Rattle.plan.specs.Check.{Accepted, sizes};
-ghost use Rattle.search.specs.Tables.{Flags, joinsTwo, operated};
+ghost use Rattle.search.specs.Flags.{Flags, joinsTwo, operated};
 
 // Whether the operator of a kind, 7 to 9, answers yes to the two bits of its answers, the second
 // answer the lower one.
@@ -36,7 +36,9 @@ fn operate(kind: u32, stack: u32) -> u32
 
 // The one answer left, where the flag of each pattern is 1 if it is found and 0 if not.
 pub fn answer_of(plan: &[u32], flags: &[u32]) -> bool
-    requires { ⌜ ((v : List ℕ) × Accepted v (now plan)) × ((sizes (now plan) .patterns ≤ length (now flags)) × ((k : ℕ) → k < sizes (now plan) .patterns → getD (now flags) k 0 ≤ 1)) ⌝ }
+    requires { ⌜ ((v : List ℕ) × Accepted v (now plan)) ⌝ }
+    requires { ⌜ sizes (now plan) .patterns ≤ length (now flags) ⌝ }
+    requires { ⌜ ((k : ℕ) → k < sizes (now plan) .patterns → getD (now flags) k 0 ≤ 1) ⌝ }
     ensures { λ r. ⌜ ((found : Pattern → Bool) → Flags found (now (plan .entry)) (now (flags .entry)) → r ≡ answer found (rowsOf (now (plan .entry)))) ⌝ }
 {
     let n = plan.len() / 4;

@@ -14,14 +14,3 @@ pub enum Listed {
     // The buffer is shorter than a row.
     Short,
 }
-
-// What testing positions answers.
-pub enum Tested {
-    // Whether they match.
-    Answer(bool),
-    // The volume or the plan is refused.
-    Refused(Refusal),
-    // The plan has no pattern of this number, the pattern has another number of variables, or the
-    // document or a position is over 65,535.
-    OutOfRange,
-}

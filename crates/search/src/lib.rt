@@ -11,15 +11,11 @@
 mod align;
 mod answering;
 mod answers;
-mod cursor;
 mod listing;
-mod predicates;
-mod settle;
 mod setup;
-mod testing;
 mod walk;
 
 pub use answers::Listed;
-pub use answers::Tested;
 pub use listing::list;
-pub use testing::test;
+pub use matcher::Tested;
+pub use matcher::test;

@@ -6,21 +6,21 @@ ghost use lib.ListN.{length, getD, take, drop};
 ghost use Rattle.volume.specs.Layout.{listsOf};
 ghost use Rattle.plan.specs.Rows.{rowsOf};
 ghost use Rattle.plan.specs.Check.{Accepted, sizes};
-ghost use Rattle.search.specs.Documents.{postingsIn};
+ghost use Rattle.fulltext.specs.Documents.{postingsIn};
 ghost use Rattle.search.specs.Answers.{saidListed};
 ghost use Rattle.search.specs.Search.{Kept};
-ghost use Rattle.search.specs.Tables.{Cursors};
+ghost use Rattle.matcher.specs.Tables.{Cursors};
 ghost use Rattle.search.specs.Walk.{LeastDoc, Walks};
 use super::answering::answer_of;
 use super::answers::Listed;
-use super::cursor::Cursor;
 use super::setup::has_samepara;
-use super::setup::lay_out;
 use super::setup::set_cursors;
-use super::setup::starts_of;
 use super::walk::bring_starts;
 use super::walk::fill_row;
 use super::walk::next_docs;
+use matcher::Cursor;
+use matcher::lay_out;
+use matcher::starts_of;
 use plan::Checked;
 
 // The least of the first n documents, each at most 65,536; 65,536 where n is 0.
@@ -63,7 +63,13 @@ fn tally(
     ats: &[usize],
     ends: &[usize],
 ) -> u32
-    requires { ⌜ Accepted (now volume) (now plan) × ((vars ≡ sizes (now plan) .vars) × ((start ≤ doc) × ((doc ≤ 65536) × ((vars ≤ length (now ats)) × ((vars ≤ length (now ends)) × Cursors (now volume) (now plan) start (now ats) (now ends)))))) ⌝ }
+    requires { ⌜ Accepted (now volume) (now plan) ⌝ }
+    requires { ⌜ vars ≡ sizes (now plan) .vars ⌝ }
+    requires { ⌜ start ≤ doc ⌝ }
+    requires { ⌜ doc ≤ 65536 ⌝ }
+    requires { ⌜ vars ≤ length (now ats) ⌝ }
+    requires { ⌜ vars ≤ length (now ends) ⌝ }
+    requires { ⌜ Cursors (now volume) (now plan) start (now ats) (now ends) ⌝ }
     ensures { λ r. ⌜ r ≡ postingsIn (listsOf (now (volume .entry))) (rowsOf (now (plan .entry))) start doc ⌝ }
 {
     let mut sum: usize = 0;
@@ -94,7 +100,14 @@ fn list_docs(
     ats: &mut [usize],
     out: &mut [u32],
 ) -> Listed
-    requires { ⌜ Walks (now volume) (now plan) (now table) (now ends) × ((patterns ≡ sizes (now plan) .patterns) × ((vars ≡ sizes (now plan) .vars) × ((start ≤ 65535) × ((vars ≤ length (now firsts)) × (Cursors (now volume) (now plan) start (now firsts) (now ends) × ((now ats ≡ now firsts) × (1 + patterns + vars ≤ length (now out)))))))) ⌝ }
+    requires { ⌜ Walks (now volume) (now plan) (now table) (now ends) ⌝ }
+    requires { ⌜ patterns ≡ sizes (now plan) .patterns ⌝ }
+    requires { ⌜ vars ≡ sizes (now plan) .vars ⌝ }
+    requires { ⌜ start ≤ 65535 ⌝ }
+    requires { ⌜ vars ≤ length (now firsts) ⌝ }
+    requires { ⌜ Cursors (now volume) (now plan) start (now firsts) (now ends) ⌝ }
+    requires { ⌜ now ats ≡ now firsts ⌝ }
+    requires { ⌜ 1 + patterns + vars ≤ length (now out) ⌝ }
     ensures { λ r. ⌜ Kept (now (volume .entry)) (now (plan .entry)) start (record { lent = now (out .entry); says = saidListed r; back = now (out .exit) }) ⌝ }
 {
     let width = 1 + patterns + vars;
@@ -160,7 +173,11 @@ fn list_from(
     start: u32,
     out: &mut [u32],
 ) -> Listed
-    requires { ⌜ Accepted (now volume) (now plan) × ((patterns ≡ sizes (now plan) .patterns) × ((vars ≡ sizes (now plan) .vars) × ((start ≤ 65535) × (1 + patterns + vars ≤ length (now out))))) ⌝ }
+    requires { ⌜ Accepted (now volume) (now plan) ⌝ }
+    requires { ⌜ patterns ≡ sizes (now plan) .patterns ⌝ }
+    requires { ⌜ vars ≡ sizes (now plan) .vars ⌝ }
+    requires { ⌜ start ≤ 65535 ⌝ }
+    requires { ⌜ 1 + patterns + vars ≤ length (now out) ⌝ }
     ensures { λ r. ⌜ Kept (now (volume .entry)) (now (plan .entry)) start (record { lent = now (out .entry); says = saidListed r; back = now (out .exit) }) ⌝ }
 {
     let mut table: [usize; 32] = [0; 32];

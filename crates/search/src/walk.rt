@@ -8,15 +8,15 @@ ghost use Rattle.volume.specs.Layout.{listsOf};
 ghost use Rattle.plan.specs.Rows.{rowsOf};
 ghost use Rattle.plan.specs.Check.{sizes};
 ghost use Rattle.plan.specs.Accepted.{patternAt};
-ghost use Rattle.search.specs.Documents.{found, shownIn, rowIn};
-ghost use Rattle.search.specs.Cursors.{Stretch, listEnd, Stands};
-ghost use Rattle.search.specs.Tables.{flagOf, Flags};
-ghost use Rattle.search.specs.Settling.{Ready};
-ghost use Rattle.search.specs.Walk.{Candidate, Pending, Walks};
+ghost use Rattle.fulltext.specs.Documents.{found, shownIn, rowIn};
+ghost use Rattle.matcher.specs.Cursors.{Stretch, listEnd, Stands};
+ghost use Rattle.search.specs.Flags.{flagOf, Flags};
+ghost use Rattle.matcher.specs.Settling.{Ready, Candidate};
+ghost use Rattle.search.specs.Walk.{Pending, Walks};
 use super::align::align;
-use super::cursor::Cursor;
-use super::settle::settle;
-use super::settle::show;
+use matcher::Cursor;
+use matcher::settle;
+use matcher::show;
 
 // Brings each pattern that has no document yet, or one before `doc`, to the first document from `doc`
 // on in which it can be found; 65,536 where there is none.
@@ -31,8 +31,15 @@ pub fn next_docs(
     ends: &[usize],
     docs: &mut [u32],
 )
-    requires { ⌜ Walks (now volume) (now plan) (now table) (now ends) × ((patterns ≡ sizes (now plan) .patterns) × ((sizes (now plan) .vars ≤ length (now ats)) × ((patterns ≤ length (now docs)) × ((doc ≤ 65536) × ((k : ℕ) → k < patterns → Pending (now volume) (now plan) (now ats) (now ends) k doc (getD (now docs) k 0) fresh))))) ⌝ }
-    ensures { λ _. ⌜ (length (now (ats .exit)) ≡ length (now (ats .entry))) × ((length (now (docs .exit)) ≡ length (now (docs .entry))) × ((k : ℕ) → k < patterns → Candidate (now (volume .entry)) (now (plan .entry)) (now (ats .exit)) (now (ends .entry)) k doc (getD (now (docs .exit)) k 0))) ⌝ }
+    requires { ⌜ Walks (now volume) (now plan) (now table) (now ends) ⌝ }
+    requires { ⌜ patterns ≡ sizes (now plan) .patterns ⌝ }
+    requires { ⌜ sizes (now plan) .vars ≤ length (now ats) ⌝ }
+    requires { ⌜ patterns ≤ length (now docs) ⌝ }
+    requires { ⌜ doc ≤ 65536 ⌝ }
+    requires { ⌜ ((k : ℕ) → k < patterns → Pending (now volume) (now plan) (now ats) (now ends) k doc (getD (now docs) k 0) fresh) ⌝ }
+    ensures { λ _. ⌜ length (now (ats .exit)) ≡ length (now (ats .entry)) ⌝ }
+    ensures { λ _. ⌜ length (now (docs .exit)) ≡ length (now (docs .entry)) ⌝ }
+    ensures { λ _. ⌜ ((k : ℕ) → k < patterns → Candidate (now (volume .entry)) (now (plan .entry)) (now (ats .exit)) (now (ends .entry)) k doc (getD (now (docs .exit)) k 0)) ⌝ }
 {
     let mut k: usize = 0;
     while k < patterns {
@@ -51,7 +58,9 @@ pub fn next_docs(
 
 // A cursor on list 0 that has not passed a document, brought there if it is needed.
 pub fn bring_starts(volume: &[u8], starts: Cursor, needed: bool, doc: u32) -> Cursor
-    requires { ⌜ Stands (now volume) 0 doc (starts .at) × ((starts .end ≡ listEnd (now volume) 0) × Stretch (now volume) (starts .at) (starts .end)) ⌝ }
+    requires { ⌜ Stands (now volume) 0 doc (starts .at) ⌝ }
+    requires { ⌜ starts .end ≡ listEnd (now volume) 0 ⌝ }
+    requires { ⌜ Stretch (now volume) (starts .at) (starts .end) ⌝ }
     ensures { λ r. ⌜ Stands (now (volume .entry)) 0 doc (r .at) × (r .end ≡ listEnd (now (volume .entry)) 0) ⌝ }
 {
     if !needed {
@@ -75,8 +84,10 @@ fn show_pattern(
     row: &mut [u32],
     to: usize,
 ) -> u32
-    requires { ⌜ Ready (now volume) (now plan) (now table) (now ats) (now ends) k doc next starts × (to + (1 + length (patternAt (now plan) k .vars)) ≤ length (now row)) ⌝ }
-    ensures { λ r. ⌜ (r ≡ flagOf (found (listsOf (now (volume .entry))) doc (patternAt (now (plan .entry)) k))) × (now (row .exit) ≡ take to (now (row .entry)) ++ (shownIn (listsOf (now (volume .entry))) doc (patternAt (now (plan .entry)) k) ++ drop (to + (1 + length (patternAt (now (plan .entry)) k .vars))) (now (row .entry)))) ⌝ }
+    requires { ⌜ Ready (now volume) (now plan) (now table) (now ats) (now ends) k doc next starts ⌝ }
+    requires { ⌜ to + (1 + length (patternAt (now plan) k .vars)) ≤ length (now row) ⌝ }
+    ensures { λ r. ⌜ r ≡ flagOf (found (listsOf (now (volume .entry))) doc (patternAt (now (plan .entry)) k)) ⌝ }
+    ensures { λ r. ⌜ now (row .exit) ≡ take to (now (row .entry)) ++ (shownIn (listsOf (now (volume .entry))) doc (patternAt (now (plan .entry)) k) ++ drop (to + (1 + length (patternAt (now (plan .entry)) k .vars))) (now (row .entry))) ⌝ }
 {
     if next == doc {
         if settle(volume, plan, table, k, starts, doc, ats, ends, row, to) {
@@ -104,8 +115,15 @@ pub fn fill_row(
     row: &mut [u32],
     flags: &mut [u32],
 )
-    requires { ⌜ (patterns ≡ sizes (now plan) .patterns) × ((patterns ≤ length (now docs)) × ((patterns ≤ length (now flags)) × ((1 + sizes (now plan) .patterns + sizes (now plan) .vars ≤ length (now row)) × ((k : ℕ) → k < patterns → Ready (now volume) (now plan) (now table) (now ats) (now ends) k doc (getD (now docs) k 0) starts)))) ⌝ }
-    ensures { λ _. ⌜ (length (now (row .exit)) ≡ length (now (row .entry))) × ((length (now (flags .exit)) ≡ length (now (flags .entry))) × ((take (1 + sizes (now (plan .entry)) .patterns + sizes (now (plan .entry)) .vars) (now (row .exit)) ≡ rowIn (listsOf (now (volume .entry))) (rowsOf (now (plan .entry))) doc) × Flags (found (listsOf (now (volume .entry))) doc) (now (plan .entry)) (now (flags .exit)))) ⌝ }
+    requires { ⌜ patterns ≡ sizes (now plan) .patterns ⌝ }
+    requires { ⌜ patterns ≤ length (now docs) ⌝ }
+    requires { ⌜ patterns ≤ length (now flags) ⌝ }
+    requires { ⌜ 1 + sizes (now plan) .patterns + sizes (now plan) .vars ≤ length (now row) ⌝ }
+    requires { ⌜ ((k : ℕ) → k < patterns → Ready (now volume) (now plan) (now table) (now ats) (now ends) k doc (getD (now docs) k 0) starts) ⌝ }
+    ensures { λ _. ⌜ length (now (row .exit)) ≡ length (now (row .entry)) ⌝ }
+    ensures { λ _. ⌜ length (now (flags .exit)) ≡ length (now (flags .entry)) ⌝ }
+    ensures { λ _. ⌜ take (1 + sizes (now (plan .entry)) .patterns + sizes (now (plan .entry)) .vars) (now (row .exit)) ≡ rowIn (listsOf (now (volume .entry))) (rowsOf (now (plan .entry))) doc ⌝ }
+    ensures { λ _. ⌜ Flags (found (listsOf (now (volume .entry))) doc) (now (plan .entry)) (now (flags .exit)) ⌝ }
 {
     row[0] = doc;
     let mut to: usize = 1;

@@ -13,7 +13,7 @@ use lib.ListN.{length}
 use lib.Dec.{eqb}
 use borrow.Author.Tests.{eq-eqb, ne-eqb}
 use Rattle.seq.specs.Refusals.{Said, refused, answered}
-use Rattle.search.specs.Positions.{limit}
+use Rattle.fulltext.specs.Positions.{limit}
 use Rattle.search.specs.Answers.{Next, done, more, Page}
 use Rattle.search.specs.Listing.{listAnswer}
 use Rattle.search.proofs.Laws.Stages.{list-number}

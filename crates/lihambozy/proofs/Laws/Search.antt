@@ -18,14 +18,13 @@ use Rattle.volume.specs.Bytes.{IsBytes}
 use Rattle.volume.specs.Check as volume
 use Rattle.plan.specs.Check as plan
 use Rattle.plan.proofs.Laws.CheckFirst.{check-sound}
-use Rattle.search.specs.Positions.{limit}
-use Rattle.search.specs.Documents.{Work}
+use Rattle.fulltext.specs.Positions.{limit}
+use Rattle.fulltext.specs.Documents.{Work, docsIn, work}
 use Rattle.search.specs.Answers.{done, more, Page}
-use Rattle.search.specs.Listing.{docsIn, work}
 use Rattle.search.specs.Search as search
-use Rattle.search.proofs.Laws.Docs.{docs-at}
-use Rattle.search.proofs.Laws.Counts as counts
-use Rattle.search.proofs.Laws.Stages.{plan-number}
+use Rattle.fulltext.proofs.Laws.Docs.{docs-at}
+use Rattle.fulltext.proofs.Laws.Counts as counts
+use Rattle.matcher.proofs.Laws.Stages.{plan-number}
 use Rattle.search.proofs.Laws.Search as laws
 use Rattle.lihambozy.specs.declared.Listing.{Listing}
 use Rattle.lihambozy.specs.Flat.{flatSizes, flatPlan, flatListing}

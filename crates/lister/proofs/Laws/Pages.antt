@@ -22,12 +22,12 @@ use Rattle.seq.proofs.Laws.Stores.{drop-past}
 use Rattle.plan.specs.Answers.{Sizes}
 use Rattle.plan.specs.Check.{verdict, sizes}
 use Rattle.plan.proofs.Laws.Check.{verdict-sizes}
-use Rattle.search.specs.Positions.{limit}
-use Rattle.search.specs.Documents.{Work, workOf}
+use Rattle.fulltext.specs.Positions.{limit}
+use Rattle.fulltext.specs.Documents.{Work, workOf, docsIn, rowsOfDocs, work}
 use Rattle.search.specs.Answers.{Next, done, more, Page}
-use Rattle.search.specs.Listing.{docsIn, rowsOfDocs, work, listAnswer, listOut}
+use Rattle.search.specs.Listing.{listAnswer, listOut}
 use Rattle.search.specs.Search.{Kept}
-use Rattle.search.proofs.Laws.Counts.{work-even, work-wide}
+use Rattle.fulltext.proofs.Laws.Counts.{work-even, work-wide}
 use Rattle.search.proofs.Laws.Calls.{Later, All, more-later, done-all}
 use Rattle.lister.specs.declared.pages.Paged.{Paged}
 use Rattle.lister.specs.declared.pages.Paged.the-variants.{Last, More}

@@ -17,11 +17,10 @@ use Rattle.plan.specs.Check.{verdict, Accepted}
 use Rattle.plan.specs.Demands.{samplePlan}
 use Rattle.plan.proofs.Laws.Check.{verdict-sizes}
 use Rattle.plan.proofs.Demands as plan
-use Rattle.search.specs.Positions.{limit}
-use Rattle.search.specs.Documents.{Work, workOf}
-use Rattle.search.specs.Listing.{docsIn, work}
-use Rattle.search.proofs.Laws.Docs.{docs-parts, docs-none}
-use Rattle.search.proofs.Laws.Skips.{skip}
+use Rattle.fulltext.specs.Positions.{limit}
+use Rattle.fulltext.specs.Documents.{Work, workOf, docsIn, work}
+use Rattle.fulltext.proofs.Laws.Docs.{docs-parts, docs-none}
+use Rattle.fulltext.proofs.Laws.Skips.{skip}
 use Rattle.lister.specs.Text.{line, doneWord}
 use Rattle.lister.specs.Printed.{planWords, docLines, printed}
 use Rattle.lister.specs.Demands.{samplePlanFile, sampleText}

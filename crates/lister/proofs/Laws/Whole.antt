@@ -19,12 +19,12 @@ use Rattle.plan.specs.Answers.{Sizes}
 use Rattle.plan.specs.Check.{verdict, sizes, Accepted}
 use Rattle.plan.proofs.Laws.Check.{verdict-sizes}
 use Rattle.plan.proofs.Laws.Accepted.{given}
-use Rattle.search.specs.Positions.{limit}
-use Rattle.search.specs.Documents.{Work}
+use Rattle.fulltext.specs.Positions.{limit}
+use Rattle.fulltext.specs.Documents.{Work, docsIn, work}
 use Rattle.search.specs.Answers.{Next, done, more, Page}
-use Rattle.search.specs.Listing.{docsIn, pageOf, work, listAnswer}
-use Rattle.search.proofs.Laws.Docs.{docs-parts}
-use Rattle.search.proofs.Laws.Counts.{work-add, work-none}
+use Rattle.search.specs.Listing.{pageOf, listAnswer}
+use Rattle.fulltext.proofs.Laws.Docs.{docs-parts}
+use Rattle.fulltext.proofs.Laws.Counts.{work-add, work-none}
 use Rattle.search.proofs.Laws.Listing.{accepted-answer}
 use Rattle.lister.specs.Text.{line, sceneWord, doneWord, refusedWord, tooLong}
 use Rattle.lister.specs.Printed.{planWords, docLines, listing, printed}

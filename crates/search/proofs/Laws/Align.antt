@@ -20,10 +20,11 @@ use Rattle.seq.proofs.Laws.Tests.{below-or}
 use Rattle.seq.proofs.Laws.Decides.{decided, eqb-decides}
 use Rattle.volume.specs.Posting.{docOf}
 use Rattle.volume.specs.Layout.{word}
-use Rattle.search.specs.Positions.{limit}
-use Rattle.search.specs.Cursors.{seekFrom, Stretch}
-use Rattle.search.specs.Walk.{Among, Has, Moved, Aligned, turned}
-use Rattle.search.proofs.Laws.Cursors.{seek-ge, seek-le, seek-at, seek-below}
+use Rattle.fulltext.specs.Positions.{limit}
+use Rattle.matcher.specs.Cursors.{seekFrom, Stretch}
+use Rattle.matcher.specs.Settling.{Among}
+use Rattle.search.specs.Walk.{Has, Moved, Aligned, turned}
+use Rattle.matcher.proofs.Laws.Cursors.{seek-ge, seek-le, seek-at, seek-below}
 
 -- two numbers are the same or not
 same-or : (a b : ℕ) → (a ≡ b) ⊎ (a ≢ b)

@@ -35,7 +35,7 @@ use Rattle.plan.specs.Accepted.{patternAt}
 use Rattle.plan.proofs.Laws.Rows.{numberOf, number-at}
 use Rattle.plan.proofs.Laws.Standing.{standing-first, standing-next, takes-two, operator-stands}
 use Rattle.plan.proofs.Laws.Patterns.{operate-length}
-use Rattle.search.specs.Tables.{flagOf, Flags, bitsOf, joinsTwo, operated}
+use Rattle.search.specs.Flags.{flagOf, Flags, bitsOf, joinsTwo, operated}
 
 flag-le : (t : Bool) → flagOf t ≤ 1
 flag-le true = omega arith

@@ -15,9 +15,10 @@ use Rattle.plan.specs.declared.answers.Refusal.the-variants.{Volume, Length, Ro
 use Rattle.plan.proofs.Laws.Answers.{heard}
 use Rattle.search.specs.declared.answers.Listed.{Listed}
 use Rattle.search.specs.declared.answers.Listed.the-variants as listed
-use Rattle.search.specs.declared.answers.Tested.{Tested}
-use Rattle.search.specs.declared.answers.Tested.the-variants as tested
-use Rattle.search.specs.Answers.{Next, done, more, Page, saidListed, saidTested}
+use Rattle.matcher.specs.declared.answers.Tested.{Tested}
+use Rattle.matcher.specs.declared.answers.Tested.the-variants as tested
+use Rattle.search.specs.Answers.{Next, done, more, Page, saidListed}
+use Rattle.matcher.specs.Answers.{saidTested}
 use Rattle.search.specs.Demands.{OneToOne}
 
 -- by what is next, the rows and the tally
@@ -28,10 +29,6 @@ heardNext (more s) n t = listed.More s n t
 abbrev heardListed : Said Page → Listed
 heardListed (refused n q) = cond (eqb n 15) listed.Start (cond (eqb n 16) listed.Short (listed.Refused (heard n q)))
 heardListed (answered page) = heardNext (page .next) (page .rows) (page .tally)
-
-abbrev heardTested : Said Bool → Tested
-heardTested (refused n q) = cond (eqb n 17) tested.OutOfRange (tested.Refused (heard n q))
-heardTested (answered b) = tested.Answer b
 
 heard-listed : (a : Listed) → heardListed (saidListed a) ≡ a
 heard-listed (listed.Done n t) = refl
@@ -53,23 +50,5 @@ heard-listed (listed.Refused Unfinished) = refl
 heard-listed listed.Start = refl
 heard-listed listed.Short = refl
 
-heard-tested : (a : Tested) → heardTested (saidTested a) ≡ a
-heard-tested (tested.Answer b) = refl
-heard-tested (tested.Refused (Volume volume.Length)) = refl
-heard-tested (tested.Refused (Volume (volume.Number k))) = refl
-heard-tested (tested.Refused (Volume (volume.Checksum k))) = refl
-heard-tested (tested.Refused (Volume volume.Version)) = refl
-heard-tested (tested.Refused (Volume volume.ListCount)) = refl
-heard-tested (tested.Refused (Volume volume.Extent)) = refl
-heard-tested (tested.Refused (Volume (volume.Order i))) = refl
-heard-tested (tested.Refused (Volume (volume.Padding i))) = refl
-heard-tested (tested.Refused Length) = refl
-heard-tested (tested.Refused (Row fault.Form i)) = refl
-heard-tested (tested.Refused (Row fault.List i)) = refl
-heard-tested (tested.Refused (Row fault.TooMany i)) = refl
-heard-tested (tested.Refused (Row fault.Order i)) = refl
-heard-tested (tested.Refused Unfinished) = refl
-heard-tested tested.OutOfRange = refl
-
 pub one-to-one : OneToOne
-one-to-one = record { listed = alike saidListed heardListed heard-listed; tested = alike saidTested heardTested heard-tested }
+one-to-one = record { listed = alike saidListed heardListed heard-listed }

@@ -16,14 +16,14 @@ use Rattle.seq.specs.Refusals.{Said, refused, answered}
 use Rattle.seq.proofs.Laws.Tests.{below-or}
 use Rattle.seq.proofs.Laws.Refusals.{not-both}
 use Rattle.plan.specs.Check as plan
-use Rattle.search.specs.Positions.{limit}
-use Rattle.search.specs.Documents.{Work}
+use Rattle.fulltext.specs.Positions.{limit}
+use Rattle.fulltext.specs.Documents.{Work, docsIn, rowsOfDocs, work}
 use Rattle.search.specs.Answers.{Next, done, more, Page}
-use Rattle.search.specs.Listing.{docsIn, rowsOfDocs, rowsFrom, work, listAnswer, listOut}
+use Rattle.search.specs.Listing.{rowsFrom, listAnswer, listOut}
 use Rattle.search.specs.Search.{Call, Kept, room, Answers}
-use Rattle.search.proofs.Laws.Docs.{IsAt, docs-at, at-front, at-later, length-rows}
+use Rattle.fulltext.proofs.Laws.Docs.{IsAt, docs-at, at-front, at-later, length-rows}
 use Rattle.search.proofs.Laws.Pages.{page-done, rows-done, page-more, rows-more}
-use Rattle.search.proofs.Laws.Counts.{work-even, work-wide}
+use Rattle.fulltext.proofs.Laws.Counts.{work-even, work-wide}
 use Rattle.search.proofs.Laws.Listing.{out-answered, list-short, accepted-answer, answered-given}
 
 -- the page at DONE, with n rows, and at MORE t

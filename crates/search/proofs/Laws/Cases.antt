@@ -28,15 +28,15 @@ use Rattle.plan.specs.Standing.{stand, standing, step}
 use Rattle.plan.specs.Patterns.{patternsFrom, answersFrom, answer}
 use Rattle.plan.specs.Check.{lengthWrong, rowWrong, rowFault, rowsWrong, unfinished, sizes, rowsVerdict, planVerdict, verdictBy, verdict, Accepted}
 use Rattle.plan.proofs.Laws.CheckFirst.{check-sound}
-use Rattle.search.specs.Positions.{limit, listOf, positionsIn, countIn}
-use Rattle.search.specs.Matches.{holds, withEach, tuples, matches, leastIn}
-use Rattle.search.specs.Documents.{found, matching, rowIn, varsOf, postingsIn, Work, workOf}
+use Rattle.fulltext.specs.Positions.{limit, listOf, positionsIn, countIn}
+use Rattle.fulltext.specs.Matches.{holds, withEach, tuples, matches, leastIn}
+use Rattle.fulltext.specs.Documents.{found, matching, rowIn, varsOf, postingsIn, Work, workOf, docsIn, rowsOfDocs, work}
 use Rattle.search.specs.Answers.{Page}
-use Rattle.search.specs.Listing.{docsIn, rowsOfDocs, pageBy, pageOf, rowsFrom, listBy, work, listAnswer, listOut}
+use Rattle.search.specs.Listing.{pageBy, pageOf, rowsFrom, listBy, listAnswer, listOut}
 use Rattle.search.specs.Cases.{sample, untouched, Question, zeroBytes, checkSample, list, Result, checked, listed, told, Case, table}
 use Rattle.search.specs.Demands.{Cases}
-use Rattle.search.proofs.Laws.Docs.{docs-parts, docs-none}
-use Rattle.search.proofs.Laws.Skips.{skip}
+use Rattle.fulltext.proofs.Laws.Docs.{docs-parts, docs-none}
+use Rattle.fulltext.proofs.Laws.Skips.{skip}
 
 -- a list of the sample has no posting from document 3 on
 list-later : (l : ℕ) → countIn 3 limit (listOf sampleLists l) ≡ 0

@@ -19,10 +19,11 @@ use Rattle.plan.specs.Rows.{rowsOf}
 use Rattle.plan.specs.Patterns.{Pattern, noRow, patternsOf}
 use Rattle.plan.specs.Check.{sizes}
 use Rattle.plan.specs.Accepted.{patternAt}
-use Rattle.search.specs.Documents.{found, shownIn, rowIn}
-use Rattle.search.specs.Tables.{varsBefore, flagOf, Flags}
-use Rattle.search.proofs.Laws.Tables.{varsBefore-first, varsBefore-next, varsBefore-end, vars-within}
-use Rattle.search.proofs.Laws.Counts.{length-shown}
+use Rattle.fulltext.specs.Documents.{found, shownIn, rowIn}
+use Rattle.matcher.specs.Tables.{varsBefore}
+use Rattle.search.specs.Flags.{flagOf, Flags}
+use Rattle.matcher.proofs.Laws.Tables.{varsBefore-first, varsBefore-next, varsBefore-end, vars-within}
+use Rattle.fulltext.proofs.Laws.Counts.{length-shown}
 
 -- what the row shows of the first k patterns
 abbrev front : List ℕ → List ℕ → ℕ → ℕ → List ℕ

@@ -20,10 +20,11 @@ use Rattle.plan.specs.Check.{sizes, verdict}
 use Rattle.plan.specs.Refusals.{PlanApplies, planStages}
 use Rattle.plan.proofs.Laws.CheckFirst.{check-sound}
 use Rattle.search.specs.Answers.{Page}
-use Rattle.search.specs.Listing.{pageOf, work, listBy, listAnswer}
+use Rattle.search.specs.Listing.{pageOf, listBy, listAnswer}
+use Rattle.fulltext.specs.Documents.{work}
 use Rattle.search.specs.Refusals.{ListApplies, ofPlan, wrongStart, short, listStages}
 use Rattle.search.specs.Demands.{ListCall}
-use Rattle.search.proofs.Laws.Stages.{plan-stage}
+use Rattle.matcher.proofs.Laws.Stages.{plan-stage}
 use Rattle.search.proofs.Laws.Listing.{out-refused, out-answered}
 
 module _ (v p : List ℕ) (start room : ℕ) where

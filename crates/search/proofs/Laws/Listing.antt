@@ -20,12 +20,13 @@ use Rattle.seq.proofs.Laws.Tests.{below-or}
 use Rattle.plan.specs.Answers.{Sizes}
 use Rattle.plan.specs.Check.{sizes, verdict, Accepted}
 use Rattle.plan.proofs.Laws.CheckFirst.{check-sound}
-use Rattle.search.specs.Positions.{limit}
+use Rattle.fulltext.specs.Positions.{limit}
 use Rattle.search.specs.Answers.{Page, done, more}
-use Rattle.search.specs.Listing.{pageOf, rowsFrom, work, listAnswer, listOut}
+use Rattle.search.specs.Listing.{pageOf, rowsFrom, listAnswer, listOut}
+use Rattle.fulltext.specs.Documents.{work}
 use Rattle.search.specs.Search.{Kept}
 use Rattle.search.proofs.Laws.Loop.{Progress, stops, ends}
-use Rattle.search.proofs.Laws.Counts.{work-even, work-wide}
+use Rattle.fulltext.proofs.Laws.Counts.{work-even, work-wide}
 
 module _ (v p : List ℕ) (start : ℕ) (out : List ℕ) where
   -- a refusal leaves the buffer as it was, and an answer lays the rows

@@ -18,12 +18,12 @@ use lib.ListN.{length, take, drop, length-append, length-drop}
 use lib.Seq.{take-at, drop-at}
 use Rattle.seq.specs.Lists.{first}
 use Rattle.seq.proofs.Laws.Stores.{put-over}
-use Rattle.search.specs.Positions.{limit}
-use Rattle.search.specs.Documents.{Work}
+use Rattle.fulltext.specs.Positions.{limit}
+use Rattle.fulltext.specs.Documents.{Work, docsIn, rowsOfDocs}
 use Rattle.search.specs.Answers.{done, more}
-use Rattle.search.specs.Listing.{docsIn, rowsOfDocs, pageOf, rowsFrom}
+use Rattle.search.specs.Listing.{pageOf, rowsFrom}
 use Rattle.search.proofs.Laws.Pages.{page-by, rows-written, page-done, rows-done}
-use Rattle.search.proofs.Laws.Docs.{docs-parts, docs-none, docs-here, docs-empty, docs-end, rows-none, rows-one, rows-append, length-rows}
+use Rattle.fulltext.proofs.Laws.Docs.{docs-parts, docs-none, docs-here, docs-empty, docs-end, rows-none, rows-one, rows-append, length-rows}
 
 -- the documents from `start` up to d are listed: n rows stand at the front of the buffer, and behind them the words that were lent
 pub record Progress (w : Work) (start : ℕ) (out₀ : List ℕ) (d n : ℕ) (out : List ℕ) : Type 0 where

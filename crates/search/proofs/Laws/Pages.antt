@@ -10,11 +10,11 @@ use mathlib.Core.Option.{Option, none, some}
 use lib.ListN.{length, getD, take, drop, drop-of-length-le}
 use lib.Seq.{take-all, drop-cons}
 use Rattle.seq.specs.Lists.{first}
-use Rattle.search.specs.Positions.{limit}
-use Rattle.search.specs.Documents.{Work}
+use Rattle.fulltext.specs.Positions.{limit}
+use Rattle.fulltext.specs.Documents.{Work, docsIn, rowsOfDocs}
 use Rattle.search.specs.Answers.{done, more}
-use Rattle.search.specs.Listing.{docsIn, rowsOfDocs, pageBy, pageOf, rowsFrom}
-use Rattle.search.proofs.Laws.Docs.{IsAt}
+use Rattle.search.specs.Listing.{pageBy, pageOf, rowsFrom}
+use Rattle.fulltext.proofs.Laws.Docs.{IsAt}
 
 module _ (w : Work) (start m : ℕ) where
   pub page-by : (next : Option ℕ) → first (drop m (docsIn w start limit)) ≡ next → pageOf w start m ≡ pageBy w start m (length (docsIn w start limit)) next

@@ -14,13 +14,12 @@ use borrow.Author.Tests.{le-leb, lt-leb}
 use Rattle.seq.specs.Refusals.{Said, refused, answered}
 use Rattle.seq.proofs.Laws.Keep.{keep-pass, keep-fail, keep-le}
 use Rattle.plan.specs.Check as plan
-use Rattle.search.specs.Positions.{limit}
-use Rattle.search.specs.Documents.{Work}
+use Rattle.fulltext.specs.Positions.{limit}
+use Rattle.fulltext.specs.Documents.{Work, docsIn, rowsOfDocs, work}
 use Rattle.search.specs.Answers.{Page, done, more}
-use Rattle.search.specs.Listing.{docsIn, rowsOfDocs, work}
 use Rattle.search.specs.Search.{Call, Then, IsSearch, Outcome, outcomeFrom, follow, outcome, room, EachAnswers, unrefused, Searched}
-use Rattle.search.proofs.Laws.Docs.{docs-parts, docs-here, docs-empty, rows-none, rows-append, at-front}
-use Rattle.search.proofs.Laws.Counts.{work-wide, work-add, work-none}
+use Rattle.fulltext.proofs.Laws.Docs.{docs-parts, docs-here, docs-empty, rows-none, rows-append, at-front}
+use Rattle.fulltext.proofs.Laws.Counts.{work-wide, work-add, work-none}
 use Rattle.search.proofs.Laws.Calls.{Went, short, whole, part, went, answers}
 
 -- calls from document s on that come to an outcome

@@ -1,7 +1,4 @@
--- The refusals of a volume and a plan, by their numbers. No contract cites this file.
---     plan-number     they are 1 to 14
---     plan-stage      they have the first ten stages
---     list-number     those of listing are 1 to 16
+-- The refusals of listing, by their numbers. No contract cites this file.
 -- Assumes nothing.
 use Prim.Native.Nat.{ℕ, _≤_}
 use native.Mathlib.Omega.{arith}
@@ -12,49 +9,10 @@ use Rattle.volume.specs.Refusals.{VolumeApplies}
 use Rattle.volume.specs.Refusals as volume
 use Rattle.search.specs.Refusals as search
 use Rattle.plan.specs.Refusals.{PlanApplies, ofVolume, wrongLength, wrongForm, wrongList, ninth, wrongOrder, unfinished, planStages}
-
-volume-number : (v : List ℕ) (n q : ℕ) → VolumeApplies v n q → (1 ≤ n) × (n ≤ 8)
-volume-number v n q (volume.wrongLength h) = (omega arith, omega arith)
-volume-number v n q (volume.wrongNumber k l h) = (omega arith, omega arith)
-volume-number v n q (volume.wrongChecksum k l h) = (omega arith, omega arith)
-volume-number v n q (volume.wrongVersion h) = (omega arith, omega arith)
-volume-number v n q (volume.wrongListCount h) = (omega arith, omega arith)
-volume-number v n q (volume.wrongExtent h) = (omega arith, omega arith)
-volume-number v n q (volume.wrongOrder i l h) = (omega arith, omega arith)
-volume-number v n q (volume.wrongPadding i l r h) = (omega arith, omega arith)
-
-volume-stage : (v : List ℕ) (n q : ℕ) → VolumeApplies v n q → stageIn planStages n ≤ 6
-unfolding stageIn elem
-volume-stage v n q (volume.wrongLength h) = omega arith
-volume-stage v n q (volume.wrongNumber k l h) = omega arith
-volume-stage v n q (volume.wrongChecksum k l h) = omega arith
-volume-stage v n q (volume.wrongVersion h) = omega arith
-volume-stage v n q (volume.wrongListCount h) = omega arith
-volume-stage v n q (volume.wrongExtent h) = omega arith
-volume-stage v n q (volume.wrongOrder i l h) = omega arith
-volume-stage v n q (volume.wrongPadding i l r h) = omega arith
+use Rattle.matcher.proofs.Laws.Stages.{plan-number}
 
 module _ (v p : List ℕ) where
-  pub plan-number : (n q : ℕ) → PlanApplies v p n q → (1 ≤ n) × (n ≤ 14)
-  plan-number n q (ofVolume m i a) = let h = volume-number v n q a in (h .0, omega (arith, h .1))
-  plan-number n q (wrongLength h) = (omega arith, omega arith)
-  plan-number n q (wrongForm i l h) = (omega arith, omega arith)
-  plan-number n q (wrongList i l h) = (omega arith, omega arith)
-  plan-number n q (ninth i l h) = (omega arith, omega arith)
-  plan-number n q (wrongOrder i l h) = (omega arith, omega arith)
-  plan-number n q (unfinished h) = (omega arith, omega arith)
-
-  pub plan-stage : (n q : ℕ) → PlanApplies v p n q → stageIn planStages n ≤ 9
-  unfolding stageIn elem
-  plan-stage n q (ofVolume m i a) = let h = volume-stage v n q a in omega arith
-  plan-stage n q (wrongLength h) = omega arith
-  plan-stage n q (wrongForm i l h) = omega arith
-  plan-stage n q (wrongList i l h) = omega arith
-  plan-stage n q (ninth i l h) = omega arith
-  plan-stage n q (wrongOrder i l h) = omega arith
-  plan-stage n q (unfinished h) = omega arith
-
   pub list-number : (start room n q : ℕ) → search.ListApplies v p start room n q → (1 ≤ n) × (n ≤ 16)
-  list-number start room n q (search.ofPlan m i a) = let h = plan-number n q a in (h .0, omega (arith, h .1))
+  list-number start room n q (search.ofPlan m i a) = let h = plan-number v p n q a in (h .0, omega (arith, h .1))
   list-number start room n q (search.wrongStart h) = (omega arith, omega arith)
   list-number start room n q (search.short h) = (omega arith, omega arith)

@@ -25,14 +25,14 @@ use Rattle.plan.specs.Rows.{rowsOf}
 use Rattle.plan.specs.Patterns.{Pattern, noRow, patternsOf}
 use Rattle.plan.specs.Check.{Accepted, sizes}
 use Rattle.plan.proofs.Laws.Accepted.{given}
-use Rattle.search.specs.Positions.{limit, listOf, countIn}
-use Rattle.search.specs.Documents.{varsOf, postingsIn}
-use Rattle.search.specs.Cursors.{seekFrom, Stretch, listEnd}
-use Rattle.search.specs.Tables.{varAt, Cursors}
+use Rattle.fulltext.specs.Positions.{limit, listOf, countIn}
+use Rattle.fulltext.specs.Documents.{varsOf, postingsIn}
+use Rattle.matcher.specs.Cursors.{seekFrom, Stretch, listEnd}
+use Rattle.matcher.specs.Tables.{varAt, Cursors}
 use Rattle.search.specs.Walk.{LeastDoc}
-use Rattle.search.proofs.Laws.Cursors.{seek-ge, seek-le, seek-below, stretch-within, galloped-end}
-use Rattle.search.proofs.Laws.Counts.{count-index}
-use Rattle.search.proofs.Laws.Volume.{list-is, list-stretch}
+use Rattle.matcher.proofs.Laws.Cursors.{seek-ge, seek-le, seek-below, stretch-within, galloped-end}
+use Rattle.fulltext.proofs.Laws.Counts.{count-index}
+use Rattle.matcher.proofs.Laws.Volume.{list-is, list-stretch}
 
 -- the least of no documents; of one more, which is below the least, or is not
 module _ (docs : List ℕ) where

@@ -32,22 +32,22 @@ use Rattle.plan.specs.Rows.{rowsOf}
 use Rattle.plan.specs.Patterns.{Pattern, answer}
 use Rattle.plan.specs.Check.{sizes}
 use Rattle.plan.proofs.Laws.Accepted.{given}
-use Rattle.search.specs.declared.cursor.Cursor.{Cursor}
-use Rattle.search.specs.Positions.{limit}
-use Rattle.search.specs.Documents.{Work, found, matching, rowIn, postingsIn, workOf}
+use Rattle.matcher.specs.declared.cursor.Cursor.{Cursor}
+use Rattle.fulltext.specs.Positions.{limit}
+use Rattle.fulltext.specs.Documents.{Work, found, matching, rowIn, postingsIn, workOf, docsIn, work}
 use Rattle.search.specs.Answers.{done, more}
 use Rattle.search.specs.Search.{Kept}
-use Rattle.search.specs.Listing.{docsIn, work}
-use Rattle.search.specs.Cursors.{seekFrom, Stretch, listEnd, Stands, listCursor}
-use Rattle.search.specs.Tables.{varAt, Placed, Cursors, flagOf, Flags}
-use Rattle.search.specs.Walk.{Candidate, Stood, Pending, LeastDoc, Walks}
-use Rattle.search.specs.Settling.{Ready}
-use Rattle.search.proofs.Laws.Counts.{work-even, work-wide}
-use Rattle.search.proofs.Laws.Cursors.{seek-ge, seek-le, seek-below}
-use Rattle.search.proofs.Laws.Volume.{list-stretch}
-use Rattle.search.proofs.Laws.Tables.{vars-within}
+use Rattle.matcher.specs.Cursors.{seekFrom, Stretch, listEnd, Stands, listCursor}
+use Rattle.matcher.specs.Tables.{varAt, Placed, Cursors}
+use Rattle.search.specs.Flags.{flagOf, Flags}
+use Rattle.matcher.specs.Settling.{Candidate, Ready}
+use Rattle.search.specs.Walk.{Stood, Pending, LeastDoc, Walks}
+use Rattle.fulltext.proofs.Laws.Counts.{work-even, work-wide}
+use Rattle.matcher.proofs.Laws.Cursors.{seek-ge, seek-le, seek-below}
+use Rattle.matcher.proofs.Laws.Volume.{list-stretch}
+use Rattle.matcher.proofs.Laws.Tables.{vars-within}
 use Rattle.search.proofs.Laws.Tally.{var-there}
-use Rattle.search.proofs.Laws.Skips.{matching-none}
+use Rattle.fulltext.proofs.Laws.Skips.{matching-none}
 use Rattle.search.proofs.Laws.Loop.{Progress, begins, same-size, room-rows, over, wrote}
 use Rattle.search.proofs.Laws.Listing.{stops-kept, ends-kept}
 

@@ -18,17 +18,18 @@ use Rattle.volume.specs.Layout.{word, listCount, listsOf}
 use Rattle.plan.specs.Check.{sizes}
 use Rattle.plan.specs.Accepted.{patternAt, Given, WellMade}
 use Rattle.plan.proofs.Laws.Accepted.{given}
-use Rattle.search.specs.Calculus.{at}
-use Rattle.search.specs.Matches.{allHold, fits, startsIn, varsIn, matchesAt}
-use Rattle.search.specs.Documents.{found}
-use Rattle.search.specs.Cursors.{Stretch, Stands}
-use Rattle.search.specs.Tables.{varsBefore, Entry, varAt}
-use Rattle.search.specs.Walk.{Among, Has, Aligned, Candidate, Stood, Pending, Walks}
-use Rattle.search.proofs.Laws.Positions.{lists-rise}
-use Rattle.search.proofs.Laws.Least.{fits-iff, found-iff}
-use Rattle.search.proofs.Laws.Volume.{list-stretch, held}
-use Rattle.search.proofs.Laws.Tables.{varsBefore-next, vars-within}
-use Rattle.search.proofs.Laws.Placed.{varAt-is}
+use Rattle.fulltext.specs.Calculus.{at}
+use Rattle.fulltext.specs.Matches.{allHold, fits, startsIn, varsIn, matchesAt}
+use Rattle.fulltext.specs.Documents.{found}
+use Rattle.matcher.specs.Cursors.{Stretch, Stands}
+use Rattle.matcher.specs.Tables.{varsBefore, Entry, varAt}
+use Rattle.matcher.specs.Settling.{Among, Candidate}
+use Rattle.search.specs.Walk.{Has, Aligned, Stood, Pending, Walks}
+use Rattle.fulltext.proofs.Laws.Positions.{lists-rise}
+use Rattle.fulltext.proofs.Laws.Least.{fits-iff, found-iff}
+use Rattle.matcher.proofs.Laws.Volume.{list-stretch, held}
+use Rattle.matcher.proofs.Laws.Tables.{varsBefore-next, vars-within}
+use Rattle.matcher.proofs.Laws.Placed.{varAt-is}
 
 -- the variables of a later pattern stand behind those of an earlier one
 vars-behind : (p : List ℕ) (j k : ℕ) → j < k → k ≤ sizes p .patterns → varsBefore p j + length (patternAt p j .vars) ≤ varsBefore p k

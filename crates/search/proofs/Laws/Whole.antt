@@ -8,12 +8,12 @@ use Rattle.volume.specs.Bytes.{IsBytes}
 use Rattle.volume.specs.Layout.{listsOf}
 use Rattle.volume.specs.Check as volume
 use Rattle.plan.specs.Check as plan
-use Rattle.search.specs.Positions.{listOf}
+use Rattle.fulltext.specs.Positions.{listOf}
 use Rattle.search.specs.Demands.{Holds3}
-use Rattle.search.proofs.Laws.Positions.{lists-rise}
-use Rattle.search.proofs.Laws.Least.{least-iff, unfound-iff, found-iff}
+use Rattle.fulltext.proofs.Laws.Positions.{lists-rise}
+use Rattle.fulltext.proofs.Laws.Least.{least-iff, unfound-iff, found-iff}
 use Rattle.search.proofs.Laws.Search.{searched}
-use Rattle.search.proofs.Laws.Counts as counts
+use Rattle.fulltext.proofs.Laws.Counts as counts
 
 pub holds3 : (v p : List ℕ) → IsBytes v → volume.Accepted v → plan.Accepted v p → Holds3 v p
 holds3 v p bytes ok given = record {

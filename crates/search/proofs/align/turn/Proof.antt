@@ -5,15 +5,12 @@ use borrow.Author.Tests.{eq-eqb, ne-eqb}
 use Rattle.search.proofs.align.turn.Statement.{statement}
 use Rattle.search.proofs.align.turn.Tie as tie
 
--- src/align.rt:14:16
 add-next : tie.Need-add-next
 add-next c = search needs
 
--- src/align.rt:16:9
 returns : tie.Need-returns
 returns c = let a = c .before .args in rw (eq-eqb (a .i + 1) (a .n) (c .if1 .taken)) refl
 
--- src/align.rt:10:1
 returns-2 : tie.Need-returns-2
 returns-2 c = let a = c .before .args in rw (ne-eqb (a .i + 1) (a .n) (c .if1 .left)) refl
 

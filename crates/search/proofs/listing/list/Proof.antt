@@ -11,39 +11,30 @@ use Rattle.plan.proofs.Laws.Check.{verdict-sizes}
 use Rattle.search.proofs.Laws.Listing.{refused-kept, start-kept, short-kept}
 use Rattle.search.proofs.Laws.Visits.{work-words}
 
--- src/listing.rt:136:9
 check-requires : tie.Need-check-requires
 check-requires c κs = search needs
 
--- src/listing.rt:138:26
 enum-known-checked : tie.Need-enum-known-checked
 enum-known-checked c = search needs
 
--- src/listing.rt:139:27
 enum-known-checked-2 : tie.Need-enum-known-checked-2
 enum-known-checked-2 c = search needs
 
--- src/listing.rt:141:17
 returns : tie.Need-returns
 returns c = start-kept _ _ _ _ _ (sym (c .before .before .before .before .check .ensures) ∙ ap saidChecked (c .before .before .checked2 .given .1)) (c .if1 .taken)
 
--- src/listing.rt:143:32
 cast-if2 : tie.Need-cast-if2
 cast-if2 c = search needs
 
--- src/listing.rt:143:28
 add-if2 : tie.Need-add-if2
 add-if2 c = search needs
 
--- src/listing.rt:143:52
 cast-if2-2 : tie.Need-cast-if2-2
 cast-if2-2 c = search needs
 
--- src/listing.rt:143:28
 add-if2-2 : tie.Need-add-if2-2
 add-if2-2 c = search needs
 
--- src/listing.rt:144:17
 returns-2 : tie.Need-returns-2
 returns-2 c = let e = sym (c .before .before .before .before .before .check .ensures) ∙ ap saidChecked (c .before .before .before .checked2 .given .1) in
     let q = verdict-sizes (now (c .before .before .before .before .before .before .before .before .before .args .volume)) (now (c .before .before .before .before .before .before .before .before .before .args .plan)) _ e in
@@ -52,29 +43,23 @@ returns-2 c = let e = sym (c .before .before .before .before .before .check .ens
     let w = work-words (now (c .before .before .before .before .before .before .before .before .before .args .volume)) (now (c .before .before .before .before .before .before .before .before .before .args .plan)) in
     short-kept _ _ _ (now (c .before .before .before .before .before .before .before .before .before .args .out)) _ e (c .before .if1 .left) (omega arith)
 
--- src/listing.rt:146:37
 cast-list-from : tie.Need-cast-list-from
 cast-list-from c = search needs
 
--- src/listing.rt:146:56
 cast-list-from-2 : tie.Need-cast-list-from-2
 cast-list-from-2 c = search needs
 
--- src/listing.rt:146:13
 list-from-requires : tie.Need-list-from-requires
 list-from-requires c κs = let e = sym (c .before .before .before .before .before .before .check .ensures) ∙ ap saidChecked (c .before .before .before .before .checked2 .given .1) in
     let q = verdict-sizes (now (c .before .before .before .before .before .before .before .before .before .before .args .volume)) (now (c .before .before .before .before .before .before .before .before .before .before .args .plan)) _ e in
     (rw q at e, (ap (λ (s : Sizes). s .patterns) q, (ap (λ (s : Sizes). s .vars) q, (c .before .before .if1 .left, c .before .if2 .left))))
 
--- src/listing.rt:133:1
 returns-3 : tie.Need-returns-3
 returns-3 c = refused-kept _ _ _ _ _ _ (sym (c .before .before .before .check .ensures) ∙ ap saidChecked (c .before .checked .given .1))
 
--- src/listing.rt:133:1
 same-length : tie.Need-same-length
 same-length c = search needs
 
--- src/listing.rt:133:1
 returns-4 : tie.Need-returns-4
 returns-4 c = search needs
 

@@ -7,27 +7,21 @@ use mathlib.Core.Path.{refl}
 use denote.Ref.{now}
 use Rattle.plan.proofs.Laws.Accepted.{given}
 
--- src/listing.rt:124:29
 slice-aggregate-lay-out : tie.Need-slice-aggregate-lay-out
 slice-aggregate-lay-out c = search needs
 
--- src/listing.rt:124:5
 lay-out-requires : tie.Need-lay-out-requires
 lay-out-requires c κs = let p = c .before .before .before .before .pre in let e = p .1 .0 in let m = given _ _ (p .0) .most-patterns in ((now (c .before .before .before .before .args .volume), p .0), (p .1 .0, omega arith))
 
--- src/listing.rt:127:41
 slice-aggregate-set-cursors : tie.Need-slice-aggregate-set-cursors
 slice-aggregate-set-cursors c = search needs
 
--- src/listing.rt:127:56
 slice-aggregate-set-cursors-2 : tie.Need-slice-aggregate-set-cursors-2
 slice-aggregate-set-cursors-2 c = search needs
 
--- src/listing.rt:127:69
 slice-aggregate-set-cursors-3 : tie.Need-slice-aggregate-set-cursors-3
 slice-aggregate-set-cursors-3 c = search needs
 
--- src/listing.rt:127:5
 set-cursors-requires : tie.Need-set-cursors-requires
 set-cursors-requires c κs = let p = c .before .before .before .before .before .before .before .before .before .pre in
     let e = p .1 .0 in
@@ -35,23 +29,18 @@ set-cursors-requires c κs = let p = c .before .before .before .before .before .
     let t = c .before .before .before .before .lay-out .kept .1 .1 .0 in
     (p .0, (p .1 .0, (c .before .before .before .before .lay-out .ensures, (omega arith, (p .1 .1 .1 .0, (omega arith, omega arith))))))
 
--- src/listing.rt:129:29
 slice-aggregate-list-docs : tie.Need-slice-aggregate-list-docs
 slice-aggregate-list-docs c = search needs
 
--- src/listing.rt:129:60
 slice-aggregate-list-docs-2 : tie.Need-slice-aggregate-list-docs-2
 slice-aggregate-list-docs-2 c = search needs
 
--- src/listing.rt:129:69
 slice-aggregate-list-docs-3 : tie.Need-slice-aggregate-list-docs-3
 slice-aggregate-list-docs-3 c = search needs
 
--- src/listing.rt:129:76
 slice-aggregate-list-docs-4 : tie.Need-slice-aggregate-list-docs-4
 slice-aggregate-list-docs-4 c = search needs
 
--- src/listing.rt:129:5
 list-docs-requires : tie.Need-list-docs-requires
 list-docs-requires c κs = let p = c .before .before .before .before .before .before .before .before .before .before .before .before .before .before .before .before .before .pre in
     let e = p .1 .0 in
@@ -65,11 +54,9 @@ list-docs-requires c κs = let p = c .before .before .before .before .before .be
       (p .1 .0, (p .1 .1 .0, (p .1 .1 .1 .0, (omega arith, (c .before .before .before .before .before .before .before .set-cursors .ensures, (refl, p .1 .1 .1 .1)))))),
     )
 
--- src/listing.rt:119:1
 same-length : tie.Need-same-length
 same-length c = search needs
 
--- src/listing.rt:119:1
 returns : tie.Need-returns
 returns c = search needs
 

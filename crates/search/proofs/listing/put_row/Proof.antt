@@ -3,7 +3,7 @@ use native.Mathlib.Omega.{arith}
 use Prim.Native.Nat.{_-_, _≤_}
 use mathlib.Core.Path.{_≡_}
 use denote.Ref.{now}
-use Rattle.search.proofs.Laws.Settling.{Shown, shown-first, shown-next}
+use Rattle.matcher.proofs.Laws.Settling.{Shown, shown-first, shown-next}
 use Rattle.search.proofs.listing.put_row.Statement.{statement}
 use Rattle.search.proofs.listing.put_row.Tie as tie
 

@@ -6,8 +6,8 @@ use mathlib.Core.Path.{_≡_, ap}
 use lib.ListN.{getD}
 use denote.Ref.{now}
 use Rattle.plan.proofs.Laws.Accepted.{given}
-use Rattle.search.specs.declared.cursor.Cursor.{Cursor}
-use Rattle.search.specs.Cursors.{seekFrom}
+use Rattle.matcher.specs.declared.cursor.Cursor.{Cursor}
+use Rattle.matcher.specs.Cursors.{seekFrom}
 use Rattle.search.proofs.Laws.Tally.{Turn, turn, Tallied, tallied-first, tallied-next, tallied-done}
 use Rattle.search.proofs.listing.tally.Statement.{statement}
 use Rattle.search.proofs.listing.tally.Tie as tie
@@ -18,19 +18,30 @@ Inv-loop volume plan vars start doc ats ends sum₀ x₀ sum x = Tallied volume 
 abbrev μ-loop : tie.MeasureT-loop
 μ-loop volume plan vars start doc ats ends sum₀ x₀ sum x = vars - x
 
+-- the places that the answers speak of, each from the one behind it
+abbrev start-of : tie.At-loop Inv-loop μ-loop → tie.Start Inv-loop μ-loop
+start-of c = c .before .before .before .before .before
+
+abbrev turn-of : tie.After-seek Inv-loop μ-loop → tie.At-loop Inv-loop μ-loop
+turn-of c = c .before .before .before .before
+
 -- what a turn knows of its variable
-turned : (c : tie.In-loop Inv-loop μ-loop) → Turn (now (c .before .before .before .before .before .before .args .volume)) (now (c .before .before .before .before .before .before .args .plan)) (c .before .before .before .before .before .before .args .start) (c .before .before .before .before .before .before .args .doc) (c .before .loop .x) (getD (now (c .before .before .before .before .before .before .args .ats)) (c .before .loop .x) 0) (getD (now (c .before .before .before .before .before .before .args .ends)) (c .before .loop .x) 0)
+turned : (c : tie.In-loop Inv-loop μ-loop) → let start = start-of (c .before) in
+    Turn (now (start .args .volume)) (now (start .args .plan)) (start .args .start) (start .args .doc) (c .before .loop .x) (getD (now (start .args .ats)) (c .before .loop .x) 0) (getD (now (start .args .ends)) (c .before .loop .x) 0)
 turned c =
-    let s = c .before .before .before .before .before .before in
+    let start = start-of (c .before) in
+    let s = start in
     turn (now (s .args .volume)) (now (s .args .plan)) (s .pre .0) (s .args .start) (s .args .doc) (s .pre .1 .1 .0) (now (s .args .ats)) (now (s .args .ends)) (s .pre .1 .1 .1 .1 .1 .1) (c .before .loop .x) (omega arith)
 
 -- where its cursor comes to
-at-is : (c : tie.After-struct-known Inv-loop μ-loop) → c .before .before .seek .result .at ≡ seekFrom (now (c .before .before .before .before .before .before .before .before .before .before .before .args .volume)) (c .before .before .before .before .before .before .before .before .before .before .before .args .doc * 65536) (getD (now (c .before .before .before .before .before .before .before .before .before .before .before .args .ats)) (c .before .before .before .before .before .before .loop .x) 0) (getD (now (c .before .before .before .before .before .before .before .before .before .before .before .args .ends)) (c .before .before .before .before .before .before .loop .x) 0)
+at-is : (c : tie.After-struct-known Inv-loop μ-loop) → let turn = turn-of (c .before .before) in let start = start-of turn in
+    c .before .before .seek .result .at ≡ seekFrom (now (start .args .volume)) (start .args .doc * 65536) (getD (now (start .args .ats)) (turn .loop .x) 0) (getD (now (start .args .ends)) (turn .loop .x) 0)
 at-is c = ap (λ (r : Cursor). r .at) (c .before .before .seek .ensures .0)
 
 loop-holds : tie.Need-loop-holds Inv-loop μ-loop
 loop-holds c =
-    let a = c .before .before .before .before .args in
+    let start = c .before .before .before .before in
+    let a = start .args in
     tallied-first (now (a .volume)) (now (a .plan)) (a .start) (a .doc)
 
 mul-t13 : tie.Need-mul-t13 Inv-loop μ-loop
@@ -56,15 +67,18 @@ shared-slice-read-sum-2 c = omega arith
 
 sub-sum : tie.Need-sub-sum Inv-loop μ-loop
 sub-sum c =
-    let t = turned (c .before .before .before .before .before) in
+    let sought = c .before .before in
+    let t = turned (sought .before .before .before) in
     let e = at-is c in
     omega arith
 
 add-sum : tie.Need-add-sum Inv-loop μ-loop
 add-sum c =
-    let t = turned (c .before .before .before .before .before) in
+    let sought = c .before .before in
+    let start = start-of (turn-of sought) in
+    let t = turned (sought .before .before .before) in
     let e = at-is c in
-    let g = given _ _ (c .before .before .before .before .before .before .before .before .before .before .before .pre .0) .most-vars in
+    let g = given _ _ (start .pre .0) .most-vars in
     omega arith
 
 add-x : tie.Need-add-x Inv-loop μ-loop
@@ -75,19 +89,24 @@ loop-less c = omega arith
 
 loop-again : tie.Need-loop-again Inv-loop μ-loop
 loop-again c =
-    let l = c .before .before .before .before .before .before .loop in
-    let a = c .before .before .before .before .before .before .before .before .before .before .before .args in
-    tallied-next (now (a .volume)) (now (a .plan)) (a .start) (a .doc) (getD (now (a .ats)) (l .x) 0) (getD (now (a .ends)) (l .x) 0) (l .sum) (l .x) (c .before .before .seek .result .at) (l .inv) (omega arith) (turned (c .before .before .before .before .before)) (at-is c)
+    let sought = c .before .before in
+    let turn = turn-of sought in
+    let start = start-of turn in
+    let l = turn .loop in
+    let a = start .args in
+    tallied-next (now (a .volume)) (now (a .plan)) (a .start) (a .doc) (getD (now (a .ats)) (l .x) 0) (getD (now (a .ends)) (l .x) 0) (l .sum) (l .x) (c .before .before .seek .result .at) (l .inv) (omega arith) (turned (sought .before .before .before)) (at-is c)
 
 cast-result : tie.Need-cast-result Inv-loop μ-loop
 cast-result c =
-    let g = given _ _ (c .before .before .before .before .before .before .pre .0) .most-vars in
+    let start = start-of (c .before) in
+    let g = given _ _ (start .pre .0) .most-vars in
     omega arith
 
 returns : tie.Need-returns Inv-loop μ-loop
 returns c =
+    let start = start-of (c .before) in
     let l = c .before .loop in
-    let a = c .before .before .before .before .before .before .args in
+    let a = start .args in
     tallied-done (now (a .volume)) (now (a .plan)) (a .start) (a .doc) (l .sum) (l .x) (l .inv) (omega arith)
 
 pub tally-spec : {M : Type 1} → statement M

@@ -7,8 +7,8 @@ use denote.Ref.{now}
 use Rattle.volume.specs.declared.reading.Span.{Span}
 use Rattle.volume.specs.Layout.{listCount, spanOf}
 use Rattle.volume.specs.Check.{Accepted}
-use Rattle.search.specs.Cursors.{Stretch, sought}
-use Rattle.search.proofs.Laws.Volume.{list-stretch}
+use Rattle.matcher.specs.Cursors.{Stretch, sought}
+use Rattle.matcher.proofs.Laws.Volume.{list-stretch}
 use borrow.Author.Needs.{needs}
 use Rattle.search.proofs.setup.cursor_on.Statement.{statement}
 use Rattle.search.proofs.setup.cursor_on.Tie as tie

@@ -10,7 +10,7 @@ use borrow.Author.Tests.{eq-eqb, ne-eqb, lt-ltb, le-ltb}
 use Rattle.seq.specs.Numbers.{firstFrom}
 use Rattle.seq.proofs.Laws.Numbers.{first-hit, first-miss, first-end}
 use Rattle.plan.specs.Rows.{rowCount, kindAt}
-use Rattle.search.specs.Tables.{hasSamepara}
+use Rattle.search.specs.Flags.{hasSamepara}
 
 abbrev Inv-loop : tie.InvT-loop
 Inv-loop plan n i₀ i = firstFrom (λ j. eqb (kindAt plan j) 4) i (rowCount plan - i) ≡ firstFrom (λ j. eqb (kindAt plan j) 4) 0 (rowCount plan)
@@ -18,44 +18,35 @@ Inv-loop plan n i₀ i = firstFrom (λ j. eqb (kindAt plan j) 4) i (rowCount pla
 abbrev μ-loop : tie.MeasureT-loop
 μ-loop plan n i₀ i = rowCount plan - i
 
--- src/setup.rt:116:5
 loop-holds : tie.Need-loop-holds Inv-loop μ-loop
 loop-holds c = let p = now (c .args .plan) in ap (firstFrom (λ j. eqb (kindAt p j) 4) 0) (let e : rowCount p - 0 ≡ rowCount p = omega arith in e)
 
--- src/setup.rt:117:17
 mul-if1 : tie.Need-mul-if1 Inv-loop μ-loop
 mul-if1 c = omega arith
 
--- src/setup.rt:117:12
 mul-if1-2 : tie.Need-mul-if1-2 Inv-loop μ-loop
 mul-if1-2 c = omega arith
 
--- src/setup.rt:117:12
 shared-slice-read-if1 : tie.Need-shared-slice-read-if1 Inv-loop μ-loop
 shared-slice-read-if1 c = omega arith
 
--- src/setup.rt:118:13
 returns : tie.Need-returns Inv-loop μ-loop
 unfolding hasSamepara
 returns c = let l = c .before .before .before .loop in
     let p = now (c .before .before .before .before .args .plan) in
     sym (ap (λ (k : ℕ). ltb k (rowCount p)) (sym (l .inv) ∙ first-hit (λ j. eqb (kindAt p j) 4) (l .i) (rowCount p) (c .before .before .loop-test .taken) (eq-eqb _ _ (c .if1 .taken))) ∙ lt-ltb (l .i) (rowCount p) (c .before .before .loop-test .taken))
 
--- src/setup.rt:120:9
 add-i : tie.Need-add-i Inv-loop μ-loop
 add-i c = omega arith
 
--- src/setup.rt:116:5
 loop-less : tie.Need-loop-less Inv-loop μ-loop
 loop-less c = omega arith
 
--- src/setup.rt:116:5
 loop-again : tie.Need-loop-again Inv-loop μ-loop
 loop-again c = let l = c .before .before .before .loop in
     let p = now (c .before .before .before .before .args .plan) in
     sym (first-miss (λ j. eqb (kindAt p j) 4) (l .i) (rowCount p) (c .before .before .loop-test .taken) (ne-eqb _ _ (c .if1 .left))) ∙ l .inv
 
--- src/setup.rt:111:1
 returns-2 : tie.Need-returns-2 Inv-loop μ-loop
 unfolding hasSamepara
 returns-2 c = let l = c .before .loop in

@@ -4,18 +4,15 @@ use Rattle.search.proofs.walk.bring_starts.Tie as tie
 use native.Mathlib.Omega.{arith}
 use mathlib.Core.Path.{ap, _∙_}
 use denote.Ref.{now}
-use Rattle.search.specs.declared.cursor.Cursor.{Cursor}
+use Rattle.matcher.specs.declared.cursor.Cursor.{Cursor}
 use Rattle.search.proofs.Laws.Visits.{visit-starts}
 
--- src/walk.rt:58:9
 returns : tie.Need-returns
 returns c = (c .before .before .pre .0, c .before .before .pre .1 .0)
 
--- src/walk.rt:60:5
 seek-requires : tie.Need-seek-requires
 seek-requires c κs = c .before .before .pre .1 .1
 
--- src/walk.rt:53:1
 returns-2 : tie.Need-returns-2
 returns-2 c = let e = c .before .before .before .pre .1 .0 in (
   rw (c .seek .ensures .0, e) (visit-starts (now (c .before .before .before .args .volume)) (c .before .before .before .args .doc) (c .before .before .before .args .doc) (c .before .before .before .args .starts .at) (omega arith) (c .before .before .before .pre .0)),

@@ -6,7 +6,7 @@ use native.Mathlib.Omega.{arith}
 use mathlib.Core.Path.{refl, _∙_}
 use lib.ListN.{length-set}
 use denote.Ref.{now}
-use Rattle.search.proofs.Laws.Settled.{away-entry, away-pattern}
+use Rattle.matcher.proofs.Laws.Settled.{away-entry, away-pattern}
 use Rattle.search.proofs.Laws.Filling.{Filling, filling-first, filling-room, filling-next, filling-done}
 
 abbrev Inv-loop : tie.InvT-loop
@@ -15,67 +15,51 @@ Inv-loop volume plan table patterns starts doc ats ends docs row₀ flags₀ to�
 abbrev μ-loop : tie.MeasureT-loop
 μ-loop volume plan table patterns starts doc ats ends docs row₀ flags₀ to₀ k₀ row flags to k = patterns - k
 
--- src/walk.rt:65:5
 slice-write-row : tie.Need-slice-write-row Inv-loop μ-loop
 slice-write-row c = let w = c .before .before .before .before .before .before .before .before .pre .1 .1 .1 .0 in omega arith
 
--- src/walk.rt:68:5
 loop-holds : tie.Need-loop-holds Inv-loop μ-loop
 loop-holds c = let w = c .before .before .before .before .before .before .before .before .pre .1 .1 .1 .0 in filling-first _ _ _ _ _ (now (c .before .before .before .before .before .before .before .before .args .row)) (omega arith) refl
 
--- src/walk.rt:69:70
 mul-show-pattern : tie.Need-mul-show-pattern Inv-loop μ-loop
 mul-show-pattern c = omega arith
 
--- src/walk.rt:69:70
 shared-slice-read-show-pattern : tie.Need-shared-slice-read-show-pattern Inv-loop μ-loop
 shared-slice-read-show-pattern c = omega arith
 
--- src/walk.rt:69:20
 show-pattern-requires : tie.Need-show-pattern-requires Inv-loop μ-loop
 show-pattern-requires c κs = (c .before .before .before .before .before .before .before .before .before .before .before .before .pre .1 .1 .1 .1 (c .before .before .before .loop .k) (c .before .before .loop-test .taken), filling-room _ _ _ _ _ (c .before .before .before .loop .row) (c .before .before .before .loop .flags) (c .before .before .before .loop .to) (c .before .before .before .loop .k) (c .before .before .before .loop .inv) (let e = c .before .before .before .before .before .before .before .before .before .before .before .before .pre .0 in let t = c .before .before .loop-test .taken in omega arith) (let w = c .before .before .before .before .before .before .before .before .before .before .before .before .pre .1 .1 .1 .0 in let s = length-set (now (c .before .before .before .before .before .before .before .before .before .before .before .before .args .row)) 0 (c .before .before .before .before .before .before .before .before .before .before .before .before .args .doc) in omega arith))
 
--- src/walk.rt:69:9
 mul-flags : tie.Need-mul-flags Inv-loop μ-loop
 mul-flags c = omega arith
 
--- src/walk.rt:69:9
 slice-write-flags : tie.Need-slice-write-flags Inv-loop μ-loop
 slice-write-flags c = let r = c .before .before .before .before .before .before .before .before .before .before .before .before .before .before .before .pre .1 .1 .0 in let l = c .before .before .before .before .before .before .loop .inv .flags-length in let t = c .before .before .before .before .before .loop-test .taken in omega arith
 
--- src/walk.rt:70:14
 add-to : tie.Need-add-to Inv-loop μ-loop
 add-to c = let m = filling-room _ _ _ _ _ (c .before .before .before .before .before .before .loop .row) (c .before .before .before .before .before .before .loop .flags) (c .before .before .before .before .before .before .loop .to) (c .before .before .before .before .before .before .loop .k) (c .before .before .before .before .before .before .loop .inv) (let e = c .before .before .before .before .before .before .before .before .before .before .before .before .before .before .before .pre .0 in let t = c .before .before .before .before .before .loop-test .taken in omega arith) (let w = c .before .before .before .before .before .before .before .before .before .before .before .before .before .before .before .pre .1 .1 .1 .0 in let s = length-set (now (c .before .before .before .before .before .before .before .before .before .before .before .before .before .before .before .args .row)) 0 (c .before .before .before .before .before .before .before .before .before .before .before .before .before .before .before .args .doc) in omega arith) in let l = c .before .before .before .before .before .before .loop .inv .row-length in let s = length-set (now (c .before .before .before .before .before .before .before .before .before .before .before .before .before .before .before .args .row)) 0 (c .before .before .before .before .before .before .before .before .before .before .before .before .before .before .before .args .doc) in omega arith
 
--- src/walk.rt:70:29
 mul-to : tie.Need-mul-to Inv-loop μ-loop
 mul-to c = let p = away-pattern _ _ _ _ _ _ _ _ _ (c .before .before .before .before .before .before .before .before .before .before .before .before .before .before .before .pre .1 .1 .1 .1 (c .before .before .before .before .before .before .loop .k) (c .before .before .before .before .before .loop-test .taken)) in omega arith
 
--- src/walk.rt:70:29
 add-to-2 : tie.Need-add-to-2 Inv-loop μ-loop
 add-to-2 c = let p = away-pattern _ _ _ _ _ _ _ _ _ (c .before .before .before .before .before .before .before .before .before .before .before .before .before .before .before .pre .1 .1 .1 .1 (c .before .before .before .before .before .before .loop .k) (c .before .before .before .before .before .loop-test .taken)) in omega arith
 
--- src/walk.rt:70:23
 mul-to-2 : tie.Need-mul-to-2 Inv-loop μ-loop
 mul-to-2 c = let p = away-pattern _ _ _ _ _ _ _ _ _ (c .before .before .before .before .before .before .before .before .before .before .before .before .before .before .before .pre .1 .1 .1 .1 (c .before .before .before .before .before .before .loop .k) (c .before .before .before .before .before .loop-test .taken)) in omega arith
 
--- src/walk.rt:70:23
 shared-slice-read-to : tie.Need-shared-slice-read-to Inv-loop μ-loop
 shared-slice-read-to c = let r = c .before .before .before .before .before .before .before .before .before .before .before .before .before .before .before .before .pre .1 .1 .1 .1 (c .before .before .before .before .before .before .before .loop .k) (c .before .before .before .before .before .before .loop-test .taken) in let t = r .table-room in let q = r .pattern in omega arith
 
--- src/walk.rt:70:14
 add-to-3 : tie.Need-add-to-3 Inv-loop μ-loop
 add-to-3 c = let m = filling-room _ _ _ _ _ (c .before .before .before .before .before .before .before .loop .row) (c .before .before .before .before .before .before .before .loop .flags) (c .before .before .before .before .before .before .before .loop .to) (c .before .before .before .before .before .before .before .loop .k) (c .before .before .before .before .before .before .before .loop .inv) (let e = c .before .before .before .before .before .before .before .before .before .before .before .before .before .before .before .before .pre .0 in let t = c .before .before .before .before .before .before .loop-test .taken in omega arith) (let w = c .before .before .before .before .before .before .before .before .before .before .before .before .before .before .before .before .pre .1 .1 .1 .0 in let s = length-set (now (c .before .before .before .before .before .before .before .before .before .before .before .before .before .before .before .before .args .row)) 0 (c .before .before .before .before .before .before .before .before .before .before .before .before .before .before .before .before .args .doc) in omega arith) in let l = c .before .before .before .before .before .before .before .loop .inv .row-length in let s = length-set (now (c .before .before .before .before .before .before .before .before .before .before .before .before .before .before .before .before .args .row)) 0 (c .before .before .before .before .before .before .before .before .before .before .before .before .before .before .before .before .args .doc) in let e = away-entry _ _ _ _ _ _ _ _ _ (c .before .before .before .before .before .before .before .before .before .before .before .before .before .before .before .before .pre .1 .1 .1 .1 (c .before .before .before .before .before .before .before .loop .k) (c .before .before .before .before .before .before .loop-test .taken)) .vars-are in omega arith
 
--- src/walk.rt:71:9
 add-k : tie.Need-add-k Inv-loop μ-loop
 add-k c = omega arith
 
--- src/walk.rt:68:5
 loop-less : tie.Need-loop-less Inv-loop μ-loop
 loop-less c = omega arith
 
--- src/walk.rt:68:5
 loop-again : tie.Need-loop-again Inv-loop μ-loop
 loop-again c = let b = c .before .before .before .before .before .before .before .before .before .before .before .before .before .before .before .before in
     let a = b .args in
@@ -83,15 +67,12 @@ loop-again c = let b = c .before .before .before .before .before .before .before
     let r = b .pre .1 .1 .1 .1 (l .k) (c .before .before .before .before .before .before .loop-test .taken) in
     filling-next (now (a .volume)) (now (a .plan)) (a .doc) _ _ (l .row) (l .flags) (l .to) (l .k) (l .inv) (r .pattern) (let w = c .before .before .before .before .before .before .before .before .before .before .before .before .before .before .before .before .pre .1 .1 .1 .0 in let s = length-set (now (c .before .before .before .before .before .before .before .before .before .before .before .before .before .before .before .before .args .row)) 0 (c .before .before .before .before .before .before .before .before .before .before .before .before .before .before .before .before .args .doc) in omega arith) (let e = b .pre .0 in let f = b .pre .1 .1 .0 in omega arith) _ (c .before .before .before .show-pattern .result) _ (away-entry _ _ _ _ _ _ _ _ _ r .vars-are) (c .before .before .before .show-pattern .ensures .0) (c .before .before .before .show-pattern .ensures .1)
 
--- src/walk.rt:61:1
 same-length : tie.Need-same-length Inv-loop μ-loop
 same-length c = c .before .loop .inv .row-length ∙ length-set (now (c .before .before .before .before .before .before .before .before .before .before .args .row)) 0 (c .before .before .before .before .before .before .before .before .before .before .args .doc)
 
--- src/walk.rt:61:1
 same-length-2 : tie.Need-same-length-2 Inv-loop μ-loop
 same-length-2 c = c .before .loop .inv .flags-length
 
--- src/walk.rt:61:1
 returns : tie.Need-returns Inv-loop μ-loop
 returns c = let b = c .before .before .before .before .before .before .before .before .before .before in
     let l = c .before .loop in

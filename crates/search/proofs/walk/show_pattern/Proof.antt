@@ -9,52 +9,41 @@ use lib.ListN.{getD, take, drop}
 use denote.Ref.{now}
 use Rattle.volume.specs.Layout.{listsOf}
 use Rattle.plan.specs.Accepted.{patternAt}
-use Rattle.search.specs.Documents.{shownIn}
-use Rattle.search.specs.Tables.{flagOf}
-use Rattle.search.specs.Settling.{Ready}
-use Rattle.search.proofs.Laws.Settled.{away-entry, away-few, away-found, away-shown}
+use Rattle.fulltext.specs.Documents.{shownIn}
+use Rattle.search.specs.Flags.{flagOf}
+use Rattle.matcher.specs.Settling.{Ready}
+use Rattle.matcher.proofs.Laws.Settled.{away-entry, away-few, away-found, away-shown}
 
--- src/walk.rt:49:12
 settle-requires : tie.Need-settle-requires
 settle-requires c κs = let a = c .before .before .before .before .before .before .before .before in (subst (λ (r : ℕ). Ready (now (a .args .volume)) (now (a .args .plan)) (now (a .args .table)) (now (a .args .ats)) (now (a .args .ends)) (a .args .k) (a .args .doc) r (a .args .starts)) (c .before .if1 .taken) (a .pre .0), a .pre .1)
 
--- src/walk.rt:50:13
 same-length : tie.Need-same-length
 same-length c = omega arith
 
--- src/walk.rt:50:13
 returns : tie.Need-returns
 returns c = (ap flagOf (sym (c .if2 .taken) ∙ c .before .before .before .settle .ensures .0), c .before .before .before .settle .ensures .1)
 
--- src/walk.rt:52:9
 same-length-2 : tie.Need-same-length-2
 same-length-2 c = omega arith
 
--- src/walk.rt:52:9
 returns-2 : tie.Need-returns-2
 returns-2 c = (ap flagOf (sym (c .if2 .left) ∙ c .before .before .before .settle .ensures .0), c .before .before .before .settle .ensures .1)
 
--- src/walk.rt:55:13
 slice-aggregate-show : tie.Need-slice-aggregate-show
 slice-aggregate-show c = omega arith
 
--- src/walk.rt:55:27
 mul-show : tie.Need-mul-show
 mul-show c = omega arith
 
--- src/walk.rt:55:27
 add-show : tie.Need-add-show
 add-show c = omega arith
 
--- src/walk.rt:55:21
 mul-show-2 : tie.Need-mul-show-2
 mul-show-2 c = omega arith
 
--- src/walk.rt:55:21
 shared-slice-read-show : tie.Need-shared-slice-read-show
 shared-slice-read-show c = omega arith
 
--- src/walk.rt:55:5
 show-requires : tie.Need-show-requires
 show-requires c κs = let a = c .before .before .before .before .before .before .before .before .before .before in
     let n = away-few _ _ _ _ _ _ _ _ _ (a .pre .0) in
@@ -62,11 +51,9 @@ show-requires c κs = let a = c .before .before .before .before .before .before 
     let r = a .pre .1 in
     (omega arith, omega arith)
 
--- src/walk.rt:44:1
 same-length-3 : tie.Need-same-length-3
 same-length-3 c = omega arith
 
--- src/walk.rt:44:1
 returns-3 : tie.Need-returns-3
 returns-3 c = let b = c .before .before .before .before .before .before .before .before .before .before .before .before .before in
     let a = b .args in

@@ -1,0 +1,169 @@
+-- What each predicate says and needs. No other law knows the predicates' tests, and no contract cites this file.
+--     Fact, holds-decides          what a predicate says of positions; its test decides it
+--     distance-holds, ordered-holds, samepara-holds, window-holds
+--                                  the test is true where this is so
+--     distance-needs-first, distance-needs-second, ordered-needs, samepara-needs-first, samepara-needs-second, window-needs
+--                                  what a predicate needs of a variable
+--     meet, meet-at, length-meet   of each variable the lesser of two positions
+--     holds-meet                   a predicate that holds of two tuples holds of their meet
+-- Assumes nothing.
+use Prim.Native.Nat.{ℕ, zero, suc, _+_, _-_, min, max, _<_, _≤_}
+use native.Mathlib.Omega.{arith}
+use mathlib.Core.Path.{_≡_, refl}
+use mathlib.Core.Bool.{true, not}
+use mathlib.Core.Logic.{_⊎_, ⊎-elim, _↔_}
+use mathlib.Core.List.{List, [], _∷_}
+use lib.ListN.{length, getD}
+use lib.Dec.{leb}
+use Rattle.seq.proofs.Laws.Tests.{below-or, contrary}
+use Rattle.seq.proofs.Laws.Decides as decides
+use Rattle.seq.proofs.Laws.Decides.{Decides, leb-decides, ltb-decides, not-decides, and-decides, same-decides}
+use Rattle.seq.proofs.Laws.Lists.{all-each}
+use Rattle.plan.specs.declared.row.Predicate.{Predicate}
+use Rattle.plan.specs.declared.row.Predicate.the-variants.{Distance, Ordered, Samepara, Window}
+use Rattle.fulltext.specs.Calculus.{at, In}
+use Rattle.fulltext.specs.Matches.{apart, largest, smallestOf, smallest, parts, together, holds, Needs}
+
+-- what a predicate says of the variables' positions, in a document with these starts
+abbrev pub Fact : List ℕ → Predicate → List ℕ → Type 0
+Fact ss (Distance a b c) ps = (at ps a ≤ at ps b + (c + 1)) × (at ps b ≤ at ps a + (c + 1))
+Fact ss (Ordered a b) ps = at ps a < at ps b
+Fact ss (Samepara a b) ps = (s : ℕ) → In s ss → (s ≤ at ps a) ↔ (s ≤ at ps b)
+Fact ss (Window c) ps = (x y : ℕ) → x < length ps → y < length ps → at ps x ≤ at ps y + (c - 1)
+
+distance-decides : (p q n : ℕ) → Decides (leb (apart p q) n) ((p ≤ q + n) × (q ≤ p + n))
+distance-decides p q n = same-decides (leb-decides (apart p q) n) (λ h. omega arith) (λ h. omega arith)
+
+-- a start that does not part two positions stands at or in front of both or of neither
+module _ (p q s : ℕ) where
+  alike : ((min p q < s) × (s ≤ max p q) → ⊥) → (s ≤ p) ↔ (s ≤ q)
+  alike n = (
+    λ (h : s ≤ p). ⊎-elim (λ (l : q < s). absurd (n (omega arith, omega arith))) (λ l. l) (below-or q s),
+    λ (h : s ≤ q). ⊎-elim (λ (l : p < s). absurd (n (omega arith, omega arith))) (λ l. l) (below-or p s),
+  )
+
+  unparted : (s ≤ p) ↔ (s ≤ q) → (min p q < s) × (s ≤ max p q) → ⊥
+  unparted h w = ⊎-elim (λ (l : p < s). ⊎-elim (λ (k : q < s). omega arith) (λ (k : s ≤ q). omega (arith, h .1 k)) (below-or q s)) (λ (l : s ≤ p). omega (arith, h .0 l)) (below-or p s)
+
+  parts-decides : Decides (not (parts p q s)) ((s ≤ p) ↔ (s ≤ q))
+  parts-decides = same-decides (not-decides (and-decides (ltb-decides (min p q) s) (leb-decides s (max p q)))) alike unparted
+
+together-decides : (ss : List ℕ) (p q : ℕ) → Decides (together ss p q) ((s : ℕ) → In s ss → (s ≤ p) ↔ (s ≤ q))
+together-decides ss p q = record {
+  yes = λ e s i. rw (i .2) at (parts-decides p q (getD ss (i .0) 0) .yes (each .0 e (i .0) (i .1)));
+  no = λ e h. contrary (each .1 (λ i l. decides.holds (parts-decides p q (getD ss i 0)) (h (getD ss i 0) (i, l, refl)))) e;
+}
+  where
+    each : (together ss p q ≡ true) ↔ ((i : ℕ) → i < length ss → not (parts p q (getD ss i 0)) ≡ true)
+    each = all-each (λ s. not (parts p q s)) 0 ss
+
+-- positions lie between the smallest and the largest, and so do the bounds of all positions
+pub at-largest : (ps : List ℕ) (x : ℕ) → at ps x ≤ largest ps
+at-largest [] x = omega arith
+at-largest (p ∷ ps) zero = omega arith
+at-largest (p ∷ ps) (suc x) = let h : at ps x ≤ largest ps = at-largest ps x in omega arith
+
+smallest-at : (p : ℕ) (ps : List ℕ) (x : ℕ) → x < suc (length ps) → smallestOf p ps ≤ at (p ∷ ps) x
+smallest-at p [] zero h = omega arith
+smallest-at p [] (suc x) h = absurd (omega arith)
+smallest-at p (q ∷ ps) zero h = omega arith
+smallest-at p (q ∷ ps) (suc x) h = let l : smallestOf q ps ≤ at (q ∷ ps) x = smallest-at q ps x (omega arith) in omega arith
+
+largest-le : (ps : List ℕ) (b : ℕ) → ((x : ℕ) → x < length ps → at ps x ≤ b) → largest ps ≤ b
+largest-le [] b h = omega arith
+largest-le (p ∷ ps) b h =
+    let rest : largest ps ≤ b = largest-le ps b (λ x l. h (suc x) (omega arith)) in
+    let here : p ≤ b = h 0 (omega arith) in
+    omega arith
+
+le-smallest : (p : ℕ) (ps : List ℕ) (b : ℕ) → ((x : ℕ) → x < suc (length ps) → b ≤ at (p ∷ ps) x) → b ≤ smallestOf p ps
+le-smallest p [] b h = h 0 (omega arith)
+le-smallest p (q ∷ ps) b h =
+    let rest : b ≤ smallestOf q ps = le-smallest q ps b (λ x l. h (suc x) (omega arith)) in
+    let here : b ≤ p = h 0 (omega arith) in
+    omega arith
+
+window-decides : (ps : List ℕ) (n : ℕ) → Decides (leb (largest ps - smallest ps) n) ((x y : ℕ) → x < length ps → y < length ps → at ps x ≤ at ps y + n)
+window-decides [] n = same-decides (leb-decides 0 n) (λ h x y l. absurd (omega arith)) (λ h. omega arith)
+window-decides (p ∷ ps) n = same-decides (leb-decides (largest (p ∷ ps) - smallest (p ∷ ps)) n) within spread
+  where
+    within : largest (p ∷ ps) - smallest (p ∷ ps) ≤ n → (x y : ℕ) → x < suc (length ps) → y < suc (length ps) → at (p ∷ ps) x ≤ at (p ∷ ps) y + n
+    within h x y l k = omega (arith, at-largest (p ∷ ps) x, smallest-at p ps y k)
+
+    spread : ((x y : ℕ) → x < suc (length ps) → y < suc (length ps) → at (p ∷ ps) x ≤ at (p ∷ ps) y + n) → largest (p ∷ ps) - smallest (p ∷ ps) ≤ n
+    spread h = omega (arith, le-smallest p ps (largest (p ∷ ps) - n) (λ y k. omega (arith, largest-le (p ∷ ps) (at (p ∷ ps) y + n) (λ x l. h x y l k))))
+
+pub holds-decides : (ss : List ℕ) (c : Predicate) (ps : List ℕ) → Decides (holds ss c ps) (Fact ss c ps)
+unfolding holds
+holds-decides ss (Distance a b c) ps = distance-decides (at ps a) (at ps b) (c + 1)
+holds-decides ss (Ordered a b) ps = ltb-decides (at ps a) (at ps b)
+holds-decides ss (Samepara a b) ps = together-decides ss (at ps a) (at ps b)
+holds-decides ss (Window c) ps = window-decides ps (c - 1)
+
+module _ (ss : List ℕ) (c : Predicate) (ps : List ℕ) where
+  -- the test from what the predicate says, and back
+  fact-holds : Fact ss c ps → holds ss c ps ≡ true
+  fact-holds f = decides.holds (holds-decides ss c ps) f
+
+  fact-of : holds ss c ps ≡ true → Fact ss c ps
+  fact-of e = holds-decides ss c ps .yes e
+
+module _ (ss ps : List ℕ) where
+  pub distance-holds : (a b c : ℕ) → at ps a ≤ at ps b + (c + 1) → at ps b ≤ at ps a + (c + 1) → holds ss (Distance a b c) ps ≡ true
+  distance-holds a b c h l = fact-holds ss (Distance a b c) ps (h, l)
+
+  pub distance-needs-first : (a b c : ℕ) → Needs ss (Distance a b c) ps a (at ps b - (c + 1))
+  distance-needs-first a b c qs n le e = omega (arith, le b, fact-of ss (Distance a b c) qs e .1)
+
+  pub distance-needs-second : (a b c : ℕ) → Needs ss (Distance a b c) ps b (at ps a - (c + 1))
+  distance-needs-second a b c qs n le e = omega (arith, le a, fact-of ss (Distance a b c) qs e .0)
+
+  pub ordered-holds : (a b : ℕ) → at ps a < at ps b → holds ss (Ordered a b) ps ≡ true
+  ordered-holds a b h = fact-holds ss (Ordered a b) ps h
+
+  pub ordered-needs : (a b : ℕ) → Needs ss (Ordered a b) ps b (at ps a + 1)
+  ordered-needs a b qs n le e = omega (arith, le a, fact-of ss (Ordered a b) qs e)
+
+  pub samepara-holds : (a b : ℕ) → ((s : ℕ) → In s ss → min (at ps a) (at ps b) < s → s ≤ max (at ps a) (at ps b) → ⊥) → holds ss (Samepara a b) ps ≡ true
+  samepara-holds a b none = fact-holds ss (Samepara a b) ps (λ s i. alike (at ps a) (at ps b) s (λ w. none s i (w .0) (w .1)))
+
+  pub samepara-needs-first : (a b s : ℕ) → In s ss → s ≤ at ps b → Needs ss (Samepara a b) ps a s
+  samepara-needs-first a b s i h qs n le e = fact-of ss (Samepara a b) qs e s i .1 (omega (arith, le b))
+
+  pub samepara-needs-second : (a b s : ℕ) → In s ss → s ≤ at ps a → Needs ss (Samepara a b) ps b s
+  samepara-needs-second a b s i h qs n le e = fact-of ss (Samepara a b) qs e s i .0 (omega (arith, le a))
+
+  pub window-holds : (c : ℕ) → ((x y : ℕ) → x < length ps → y < length ps → at ps x ≤ at ps y + (c - 1)) → holds ss (Window c) ps ≡ true
+  window-holds c h = fact-holds ss (Window c) ps h
+
+  pub window-needs : (c x y : ℕ) → x < length ps → y < length ps → Needs ss (Window c) ps x (at ps y - (c - 1))
+  window-needs c x y h l qs n le e = omega (arith, le y, fact-of ss (Window c) qs e y x (omega arith) (omega arith))
+
+-- of each variable the lesser position
+abbrev pub meet : List ℕ → List ℕ → List ℕ
+meet [] qs = []
+meet (p ∷ ps) [] = []
+meet (p ∷ ps) (q ∷ qs) = min p q ∷ meet ps qs
+
+pub meet-at : (ps qs : List ℕ) (x : ℕ) → at (meet ps qs) x ≡ min (at ps x) (at qs x)
+meet-at [] qs x = omega arith
+meet-at (p ∷ ps) [] x = omega arith
+meet-at (p ∷ ps) (q ∷ qs) zero = refl
+meet-at (p ∷ ps) (q ∷ qs) (suc x) = meet-at ps qs x
+
+length-meet : (ps qs : List ℕ) → length (meet ps qs) ≡ min (length ps) (length qs)
+length-meet [] qs = omega arith
+length-meet (p ∷ ps) [] = omega arith
+length-meet (p ∷ ps) (q ∷ qs) = let e = length-meet ps qs in omega arith
+
+fact-meet : (ss : List ℕ) (c : Predicate) (ps qs : List ℕ) → Fact ss c ps → Fact ss c qs → Fact ss c (meet ps qs)
+fact-meet ss (Distance a b c) ps qs f g = rw (meet-at ps qs a, meet-at ps qs b) (omega arith)
+fact-meet ss (Ordered a b) ps qs f g = rw (meet-at ps qs a, meet-at ps qs b) (omega arith)
+fact-meet ss (Samepara a b) ps qs f g = λ s i. rw (meet-at ps qs a, meet-at ps qs b) (
+  λ (h : s ≤ min (at ps a) (at qs a)). omega (arith, f s i .0 (omega arith), g s i .0 (omega arith)),
+  λ (h : s ≤ min (at ps b) (at qs b)). omega (arith, f s i .1 (omega arith), g s i .1 (omega arith)),
+)
+fact-meet ss (Window c) ps qs f g = λ x y h l. let n = length-meet ps qs in rw (meet-at ps qs x, meet-at ps qs y) (omega (arith, f x y (omega arith) (omega arith), g x y (omega arith) (omega arith)))
+
+pub holds-meet : (ss : List ℕ) (c : Predicate) (ps qs : List ℕ) → holds ss c ps ≡ true → holds ss c qs ≡ true → holds ss c (meet ps qs) ≡ true
+holds-meet ss c ps qs d e = fact-holds ss c (meet ps qs) (fact-meet ss c ps qs (fact-of ss c ps d) (fact-of ss c qs e))

@@ -1,0 +1,6 @@
+-- What a plan finds, in reading order.
+pub mod Positions
+pub mod Calculus
+pub mod Matches
+pub mod Documents
+pub mod Demands

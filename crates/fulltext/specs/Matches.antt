@@ -1,0 +1,117 @@
+-- A pattern in one document: its predicates as tests, the tuples of positions that match, and the least of them. Assumes nothing.
+use Prim.Native.Nat.{ℕ, _+_, _-_, min, max, _≤_}
+use mathlib.Core.Path.{_≡_}
+use mathlib.Core.Bool.{Bool, true, false, not, _&&_}
+use mathlib.Core.List.{List, [], _∷_, _++_, map}
+use mathlib.Core.Option.{Option}
+use lib.ListN.{length}
+use lib.Dec.{leb, ltb}
+use Rattle.seq.specs.Lists.{keep, all, elem, first}
+use Rattle.plan.specs.declared.row.Predicate.{Predicate}
+use Rattle.plan.specs.declared.row.Predicate.the-variants.{Distance, Ordered, Samepara, Window}
+use Rattle.plan.specs.Patterns.{Pattern}
+use Rattle.fulltext.specs.Positions.{limit, listOf, positionsIn}
+use Rattle.fulltext.specs.Calculus.{at}
+
+-- how far two positions are apart
+abbrev pub apart : ℕ → ℕ → ℕ
+apart p q = (p - q) + (q - p)
+
+abbrev pub largest : List ℕ → ℕ
+largest [] = 0
+largest (p ∷ ps) = max p (largest ps)
+
+abbrev pub smallestOf : ℕ → List ℕ → ℕ
+smallestOf p [] = p
+smallestOf p (q ∷ qs) = min p (smallestOf q qs)
+
+abbrev pub smallest : List ℕ → ℕ
+smallest [] = 0
+smallest (p ∷ ps) = smallestOf p ps
+
+-- a start s parts two positions: smaller < s ≤ larger
+abbrev pub parts : ℕ → ℕ → ℕ → Bool
+parts p q s = ltb (min p q) s && leb s (max p q)
+
+-- no start parts them
+abbrev pub together : List ℕ → ℕ → ℕ → Bool
+together starts p q = all (λ s. not (parts p q s)) starts
+
+-- a predicate (01: condition) holds of the variables' positions, in a document with these starts
+unfoldable pub holds : List ℕ → Predicate → List ℕ → Bool
+unfolding all
+holds starts (Distance a b limit) ps = leb (apart (at ps a) (at ps b)) (limit + 1)
+holds starts (Ordered a b) ps = ltb (at ps a) (at ps b)
+holds starts (Samepara a b) ps = together starts (at ps a) (at ps b)
+holds starts (Window limit) ps = leb (largest ps - smallest ps) (limit - 1)
+
+abbrev pub allHold : List ℕ → List Predicate → List ℕ → Bool
+allHold starts cs ps = all (λ c. holds starts c ps) cs
+
+-- each variable's position is among those of its list: vs has the positions of each variable
+unfoldable pub fits : List (List ℕ) → List ℕ → Bool
+unfolding elem
+fits [] [] = true
+fits [] (p ∷ ps) = false
+fits (l ∷ vs) [] = false
+fits (l ∷ vs) (p ∷ ps) = elem p l && fits vs ps
+
+-- a tuple of positions (01: a choice of places) matches (01: passes)
+abbrev pub isMatch : List ℕ → List (List ℕ) → List Predicate → List ℕ → Bool
+isMatch starts vs cs ps = fits vs ps && allHold starts cs ps
+
+-- each of these positions in front of each of these tuples
+unfoldable pub withEach : List ℕ → List (List ℕ) → List (List ℕ)
+withEach [] rest = []
+withEach (p ∷ ps) rest = map (λ r. p ∷ r) rest ++ withEach ps rest
+
+-- every tuple with a position for each variable, smaller first variable first, then second, and so on
+unfoldable pub tuples : List (List ℕ) → List (List ℕ)
+unfolding withEach
+tuples [] = [] ∷ []
+tuples (l ∷ vs) = withEach l (tuples vs)
+
+-- the tuples that match, in that order
+unfoldable pub matches : List ℕ → List (List ℕ) → List Predicate → List (List ℕ)
+unfolding keep all holds tuples
+matches starts vs cs = keep (λ ps. allHold starts cs ps) (tuples vs)
+
+-- the starts of document d, and the positions there of a pattern's variables
+abbrev pub startsIn : List (List ℕ) → ℕ → List ℕ
+startsIn lists d = positionsIn d (listOf lists 0)
+
+abbrev pub varsIn : List (List ℕ) → ℕ → List ℕ → List (List ℕ)
+varsIn lists d vars = map (λ l. positionsIn d (listOf lists l)) vars
+
+-- a tuple matches a pattern in document d
+abbrev pub matchesAt : List (List ℕ) → ℕ → Pattern → List ℕ → Bool
+matchesAt lists d f ps = isMatch (startsIn lists d) (varsIn lists d (f .vars)) (f .predicates) ps
+
+-- the least match (01: earliest places) of a pattern in document d
+unfoldable pub leastIn : List (List ℕ) → ℕ → Pattern → Option (List ℕ)
+unfolding positionsIn matches
+leastIn lists d f = first (matches (startsIn lists d) (varsIn lists d (f .vars)) (f .predicates))
+
+-- each variable of ps at most as far as in qs
+infix 40 _⊑_
+abbrev pub _⊑_ : List ℕ → List ℕ → Type 0
+ps ⊑ qs = (x : ℕ) → at ps x ≤ at qs x
+
+-- ps is the least match: it matches, and every match has in each variable a position at least as large
+pub record Least (lists : List (List ℕ)) (d : ℕ) (f : Pattern) (ps : List ℕ) : Type 0 where
+  pub matching : matchesAt lists d f ps ≡ true
+  pub least : (qs : List ℕ) → matchesAt lists d f qs ≡ true → ps ⊑ qs
+
+-- variable x needs at least b: wherever the predicate holds and each variable is at least as far as in ps, x is at b or behind
+abbrev pub Needs : List ℕ → Predicate → List ℕ → ℕ → ℕ → Type 0
+Needs starts c ps x b = (qs : List ℕ) → length qs ≡ length ps → ps ⊑ qs → holds starts c qs ≡ true → b ≤ at qs x
+
+-- the greatest of some numbers, or 65,536 where there is none
+abbrev pub greatest : List ℕ → ℕ
+greatest [] = limit
+greatest (s ∷ ss) = largest (s ∷ ss)
+
+-- the start of the paragraph of position p: the greatest start not above it, or 65,536 where there is none
+unfoldable pub paraStart : List ℕ → ℕ → ℕ
+unfolding keep
+paraStart starts p = greatest (keep (λ s. leb s p) starts)

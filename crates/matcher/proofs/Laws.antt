@@ -1,0 +1,14 @@
+-- The laws of `specs/`. No contract cites these files.
+pub mod Volume
+pub mod Cursors
+pub mod Paragraphs
+pub mod Shortfall
+pub mod Tables
+pub mod Placed
+pub mod Settling
+pub mod Matching
+pub mod Settled
+pub mod Testing
+pub mod TestFirst
+pub mod Stages
+pub mod Answers

@@ -1,0 +1,107 @@
+-- The laws of `specs/Tables.antt` on cursors: the list of each variable of an accepted plan, and a cursor for each. No contract cites this file.
+--     varAt-is                                 the variables of a plan are those of its patterns in order
+--     Voiced, VoicedAt, voiced                 what the VOICE row of a variable gives
+--     Placing, placing-first, placing-as, placing-next, placing-done     cursors that are set one by one
+-- Assumes nothing.
+use Prim.Native.Nat.{ℕ, zero, suc, _+_, _-_, _*_, _<_, _≤_}
+use native.Mathlib.Nat.{zero-add, add-assoc}
+use native.Mathlib.Omega.{arith}
+use mathlib.Core.Path.{_≡_, refl, sym, ap, _∙_}
+use mathlib.Core.Bool.{false}
+use mathlib.Core.Logic.{⊎-elim}
+use mathlib.Core.List.{List, [], _∷_, _++_, map}
+use lib.ListN.{length, getD, set, take, length-set, List·getD-append}
+use lib.Seq.{getD-append-add, getD-set-same, getD-set-other}
+use Rattle.seq.specs.Lists.{total, joined}
+use Rattle.seq.proofs.Laws.Tests.{below-or}
+use Rattle.volume.specs.Layout.{listCount}
+use Rattle.plan.specs.declared.row.Kind.the-variants as kind
+use Rattle.plan.specs.Rows.{rowCount, kindAt, aAt, bAt, cAt, rowAt, rowsOf, formWrongAt, wordsOf}
+use Rattle.plan.specs.Patterns.{Pattern, noRow, patternsOf}
+use Rattle.plan.specs.Check.{Accepted, sizes}
+use Rattle.plan.specs.Accepted.{patternAt}
+use Rattle.plan.proofs.Laws.Rows.{words-of}
+use Rattle.plan.proofs.Laws.Accepted.{given}
+use Rattle.matcher.specs.declared.cursor.Cursor.{Cursor}
+use Rattle.fulltext.specs.Documents.{varsOf}
+use Rattle.matcher.specs.Tables.{varsBefore, Entry, varAt, cursorOn, Placed, Cursors}
+use Rattle.matcher.proofs.Laws.Tables.{varsBefore-first, varsBefore-end, vars-within}
+
+-- variable i of pattern k, among those of all patterns
+joined-at : (fs : List Pattern) (k i : ℕ) → k < length fs → i < length (getD fs k noRow .vars) → getD (joined (map (λ (f : Pattern). f .vars) fs)) (total (λ (f : Pattern). length (f .vars)) (take k fs) + i) 0 ≡ getD (getD fs k noRow .vars) i 0
+unfolding joined total
+joined-at [] k i h l = absurd (let z : ⊥ = omega arith in z)
+joined-at (f ∷ fs) zero i h l =
+    ap (λ (n : ℕ). getD (f .vars ++ joined (map (λ (f : Pattern). f .vars) fs)) n 0) (zero-add i)
+    ∙ List·getD-append (f .vars) (joined (map (λ (f : Pattern). f .vars) fs)) 0 i l
+joined-at (f ∷ fs) (suc k) i h l =
+    ap (λ (n : ℕ). getD (f .vars ++ joined (map (λ (f : Pattern). f .vars) fs)) n 0) (add-assoc (length (f .vars)) (total (λ (f : Pattern). length (f .vars)) (take k fs)) i)
+    ∙ getD-append-add (f .vars) (joined (map (λ (f : Pattern). f .vars) fs)) (total (λ (f : Pattern). length (f .vars)) (take k fs) + i) 0
+    ∙ joined-at fs k i (omega arith) l
+
+pub varAt-is : (p : List ℕ) (k i : ℕ) → k < sizes p .patterns → i < length (patternAt p k .vars) → varAt p (varsBefore p k + i) ≡ getD (patternAt p k .vars) i 0
+unfolding varsOf varsBefore sizes
+varAt-is p k i h l = joined-at (patternsOf (rowsOf p)) k i h l
+
+-- the list that a VOICE row names
+list-at : (p : List ℕ) (j list : ℕ) → formWrongAt p j ≡ false → rowAt p j .kind ≡ kind.Voice list → aAt p j ≡ list
+unfolding rowAt
+list-at p j list formed e = ap (λ (ws : List ℕ). getD ws 1 0) (sym (words-of (kindAt p j) (aAt p j) (bAt p j) (cAt p j) formed) ∙ ap wordsOf e)
+
+-- what row `row` + i gives, the VOICE of variable `first` + i
+pub record Voiced (v p : List ℕ) (first row i : ℕ) : Type 0 where
+  pub inside : row + i < rowCount p
+  pub list-is : aAt p (row + i) ≡ varAt p (first + i)
+  pub there : aAt p (row + i) < listCount v
+  pub few : first + i < 51
+
+-- the same, by the table
+abbrev pub VoicedAt : List ℕ → List ℕ → List ℕ → ℕ → ℕ → Type 0
+VoicedAt v p table k i = Voiced v p (getD table (4 * k) 0) (getD table (4 * k + 2) 0 - getD table (4 * k + 1) 0) i
+
+pub voiced : (v p : List ℕ) → Accepted v p → (k : ℕ) → k < sizes p .patterns → (first vars condition last : ℕ) → Entry p k first vars condition last → (i : ℕ) → i < vars → Voiced v p first (condition - vars) i
+voiced v p accepted k h first vars condition last e i l =
+    let g = given v p accepted in
+    let n = e .vars-are in
+    let m : i < length (patternAt p k .vars) = omega arith in
+    let inside : (condition - vars) + i < rowCount p = let a = e .room in let b = e .last-is in let c = e .inside in omega arith in
+    let list : aAt p ((condition - vars) + i) ≡ getD (patternAt p k .vars) i 0 = list-at p ((condition - vars) + i) (getD (patternAt p k .vars) i 0) (g .formed ((condition - vars) + i) inside) (e .voices i l) in
+    record {
+      inside = inside;
+      list-is = list ∙ sym (ap (λ (x : ℕ). varAt p (x + i)) (e .first-is) ∙ varAt-is p k i h m);
+      there = rw list (g .well-made k h .lists i m .1);
+      few = let w = vars-within p k h in let f = e .first-is in let b = g .most-vars in omega arith;
+    }
+
+-- the cursors of the first x variables, in two buffers of n and m numbers
+pub record Placing (v p : List ℕ) (d n m : ℕ) (ats ends : List ℕ) (x : ℕ) : Type 0 where
+  pub same-ats : length ats ≡ n
+  pub same-ends : length ends ≡ m
+  pub placed : (y : ℕ) → y < x → Placed v p d y (getD ats y 0) (getD ends y 0)
+
+module _ (v p : List ℕ) (d : ℕ) where
+  pub placing-first : (ats ends : List ℕ) → Placing v p d (length ats) (length ends) ats ends (varsBefore p 0)
+  placing-first ats ends = let e = varsBefore-first p in record { same-ats = refl; same-ends = refl; placed = λ y h. absurd (let z : ⊥ = omega arith in z) }
+
+  pub placing-as : (n m x n′ m′ x′ : ℕ) (ats ends : List ℕ) → Placing v p d n m ats ends x → n ≡ n′ → m ≡ m′ → x ≡ x′ → Placing v p d n′ m′ ats ends x′
+  placing-as n m x n′ m′ x′ ats ends r a b c = rw (a, b, c) at r
+
+  pub placing-next : (n m : ℕ) (ats ends : List ℕ) (x : ℕ) → Placing v p d n m ats ends x → x < n → x < m → (c : Cursor) → c ≡ cursorOn v (varAt p x) d → Placing v p d n m (set ats x (c .at)) (set ends x (c .end)) (x + 1)
+  placing-next n m ats ends x r h l c e = record {
+    same-ats = simp length-set (r .same-ats);
+    same-ends = simp length-set (r .same-ends);
+    placed = λ y b. ⊎-elim (earlier y) (λ (o : x ≤ y). let q : y ≡ x = omega arith in rw q here) (below-or y x);
+  }
+    where
+      here : Placed v p d x (getD (set ats x (c .at)) x 0) (getD (set ends x (c .end)) x 0)
+      here =
+          let s = r .same-ats in
+          let t = r .same-ends in
+          rw (getD-set-same ats x (c .at) 0 (omega arith), getD-set-same ends x (c .end) 0 (omega arith))
+          (record { at-is = ap (λ (y : Cursor). y .at) e; end-is = ap (λ (y : Cursor). y .end) e })
+
+      earlier : (y : ℕ) → y < x → Placed v p d y (getD (set ats x (c .at)) y 0) (getD (set ends x (c .end)) y 0)
+      earlier y b = rw (getD-set-other ats x y (c .at) 0 (λ q. omega arith), getD-set-other ends x y (c .end) 0 (λ q. omega arith)) (r .placed y b)
+
+  pub placing-done : (n m : ℕ) (ats ends : List ℕ) (k : ℕ) → Placing v p d n m ats ends (varsBefore p k) → k ≡ sizes p .patterns → Cursors v p d ats ends
+  placing-done n m ats ends k r e = λ x h. let q = ap (varsBefore p) e ∙ varsBefore-end p in r .placed x (omega arith)

@@ -1,0 +1,144 @@
+-- A pattern that stands in a document, from its table and cursors to what is shown of it. No contract cites this file.
+--     ready-entry, ready-posed     its entry in the table, and what it asks
+--     ready-stands                 where its cursors stand
+--     ready-low                    copies of them, in front of every match
+--     settled-found, settled-yes, settled-no     whether it is found, and what is shown
+--     away-found, away-shown       the same of a pattern that can be found next in a later document
+-- Assumes nothing.
+use Prim.Native.Nat.{ℕ, zero, suc, _+_, _*_, _<_, _≤_}
+use native.Mathlib.Omega.{arith}
+use mathlib.Core.Path.{_≡_, refl, sym, ap, subst, _∙_}
+use mathlib.Core.Bool.{Bool, true, false, true≢false}
+use mathlib.Core.Logic.{_≢_}
+use mathlib.Core.List.{List, [], _∷_}
+use mathlib.Core.Option.{Option, none, some}
+use lib.ListN.{length, getD, take, replicate}
+use Rattle.volume.specs.Posting.{docOf, posOf}
+use Rattle.volume.specs.Layout.{streamLength, word, listCount, listsOf}
+use Rattle.plan.specs.Check.{sizes}
+use Rattle.plan.specs.Accepted.{patternAt, Given, WellMade}
+use Rattle.plan.proofs.Laws.Accepted.{given}
+use Rattle.matcher.specs.declared.cursor.Cursor.{Cursor}
+use Rattle.fulltext.specs.Matches.{leastIn}
+use Rattle.fulltext.specs.Documents.{present, found, shown, shownIn}
+use Rattle.matcher.specs.Cursors.{listEnd, Stands}
+use Rattle.matcher.specs.Tables.{Entry, varsBefore, varAt}
+use Rattle.matcher.specs.Settling.{Among, Low, givenIf, Posed, Ready}
+use Rattle.matcher.proofs.Laws.Volume.{list-stretch}
+use Rattle.matcher.proofs.Laws.Tables.{vars-within}
+use Rattle.matcher.proofs.Laws.Placed.{varAt-is}
+use Rattle.matcher.proofs.Laws.Settling.{low-first}
+
+module _ (v p table ats ends : List ℕ) (k d : ℕ) (starts : Cursor) (r : Ready v p table ats ends k d d starts) where
+  g : Given v p
+  g = given v p (r .accepted)
+
+  made : WellMade (listCount v) (patternAt p k)
+  made = g .well-made k (r .pattern)
+
+  pub ready-entry : Entry p k (getD table (4 * k) 0) (getD table (4 * k + 1) 0) (getD table (4 * k + 2) 0) (getD table (4 * k + 3) 0)
+  ready-entry = r .tabled k (r .pattern)
+
+  pub ready-patterns : k < 8
+  ready-patterns = let a = r .pattern in let b = g .most-patterns in omega arith
+
+  pub ready-vars : getD table (4 * k + 1) 0 ≤ 8
+  ready-vars = let e = ready-entry .vars-are in let m = made .most-vars in omega arith
+
+  pub ready-within : getD table (4 * k) 0 + getD table (4 * k + 1) 0 ≤ sizes p .vars
+  ready-within = let e = ready-entry in let a = e .first-is in let b = e .vars-are in let w = vars-within p k (r .pattern) in omega arith
+
+  -- variable x of the pattern is variable first + x of the plan
+  among : (x : ℕ) → x < length (patternAt p k .vars) → Among (varsBefore p k) (length (patternAt p k .vars)) (getD table (4 * k) 0 + x)
+  among x h = let e = ready-entry .first-is in (omega arith, omega arith)
+
+  list-is : (x : ℕ) → x < length (patternAt p k .vars) → varAt p (getD table (4 * k) 0 + x) ≡ getD (patternAt p k .vars) x 0
+  list-is x h = ap (λ (i : ℕ). varAt p (i + x)) (ready-entry .first-is) ∙ varAt-is p k x (r .pattern) h
+
+  pub ready-stands : (x : ℕ) → x < length (patternAt p k .vars)
+      → Stands v (getD (patternAt p k .vars) x 0) d (getD ats (getD table (4 * k) 0 + x) 0) × ((getD ats (getD table (4 * k) 0 + x) 0 < listEnd v (getD (patternAt p k .vars) x 0)) × (docOf (word v (getD ats (getD table (4 * k) 0 + x) 0)) ≡ d))
+  ready-stands x h =
+      let s = r .candidate .stands (getD table (4 * k) 0 + x) (among x h) in
+      let t = r .candidate .here (let b = r .doc in omega arith) (getD table (4 * k) 0 + x) (among x h) in
+      let e = list-is x h in
+      (subst (λ (l : ℕ). Stands v l d (getD ats (getD table (4 * k) 0 + x) 0)) e (s .0), (let a = t .0 in let b = s .1 ∙ ap (listEnd v) e in omega arith, t .1))
+
+  pub ready-ends : (x : ℕ) → x < length (patternAt p k .vars) → getD ends (getD table (4 * k) 0 + x) 0 ≡ listEnd v (getD (patternAt p k .vars) x 0)
+  ready-ends x h = r .candidate .stands (getD table (4 * k) 0 + x) (among x h) .1 ∙ ap (listEnd v) (list-is x h)
+
+  pub ready-stream : (x : ℕ) → x < getD table (4 * k + 1) 0 → getD ats (getD table (4 * k) 0 + x) 0 < streamLength v
+  ready-stream x h =
+      let e = ready-entry .vars-are in
+      let s = ready-stands x (omega arith) .1 .0 in
+      let w = list-stretch v (g .volume-accepted) (getD (patternAt p k .vars) x 0) (made .lists x (omega arith) .1) .within in
+      omega arith
+
+  pub ready-posed : Posed v p ends k (getD table (4 * k) 0) (getD table (4 * k + 1) 0) (getD table (4 * k + 2) 0) (getD table (4 * k + 3) 0) d starts
+  ready-posed = record {
+    accepted = r .accepted;
+    pattern = r .pattern;
+    entry = ready-entry;
+    starts-at = r .starts-at;
+    starts-end = r .starts-end;
+    doc = r .doc;
+    room = let w = ready-within in let b = r .ends-room in omega arith;
+    ends-are = λ x h. ready-ends x (let e = ready-entry .vars-are in omega arith);
+  }
+
+  pub ready-low : (here ps : List ℕ)
+      → ((x : ℕ) → x < getD table (4 * k + 1) 0 → (getD here x 0 ≡ getD ats (getD table (4 * k) 0 + x) 0) × (getD ps x 0 ≡ posOf (word v (getD ats (getD table (4 * k) 0 + x) 0))))
+      → Low v d (patternAt p k) here ps
+  ready-low here ps copied = low-first v (g .volume-accepted) d (patternAt p k) (λ x h. made .lists x h .1) here ps each
+    where
+      each : (x : ℕ) → x < length (patternAt p k .vars) → Stands v (getD (patternAt p k .vars) x 0) d (getD here x 0) × ((getD here x 0 < listEnd v (getD (patternAt p k .vars) x 0)) × ((docOf (word v (getD here x 0)) ≡ d) × (getD ps x 0 ≡ posOf (word v (getD here x 0)))))
+      each x h =
+          let c = copied x (let e = ready-entry .vars-are in omega arith) in
+          let s = ready-stands x h in
+          rw (c .0) (s .0, (s .1 .0, (s .1 .1, c .1)))
+
+-- zeros, as many as are taken
+pub take-zeros : (n m : ℕ) → n ≤ m → take {A = ℕ} n (replicate m 0) ≡ replicate n 0
+take-zeros zero m h = refl
+take-zeros (suc n) zero h = absurd (let z : ⊥ = omega arith in z)
+take-zeros (suc n) (suc m) h = ap (λ (zs : List ℕ). 0 ∷ zs) (take-zeros n m (omega arith))
+
+module _ (v p : List ℕ) (k d n : ℕ) (ps : List ℕ) (b : Bool) (e : leastIn (listsOf v) d (patternAt p k) ≡ givenIf b (take n ps)) where
+  pub settled-found : b ≡ found (listsOf v) d (patternAt p k)
+  unfolding found
+  settled-found = go b e
+    where
+      go : (t : Bool) → leastIn (listsOf v) d (patternAt p k) ≡ givenIf t (take n ps) → t ≡ present (leastIn (listsOf v) d (patternAt p k))
+      go true q = sym (ap present q)
+      go false q = sym (ap present q)
+
+  pub settled-yes : b ≡ true → 1 ∷ take n ps ≡ shownIn (listsOf v) d (patternAt p k)
+  settled-yes t = sym (ap (shown (length (patternAt p k .vars))) (e ∙ ap (λ (c : Bool). givenIf c (take n ps)) t))
+
+  pub settled-no : b ≡ false → n ≡ length (patternAt p k .vars) → n ≤ 8 → 0 ∷ take n (replicate 8 0) ≡ shownIn (listsOf v) d (patternAt p k)
+  settled-no t m l = ap (λ (zs : List ℕ). 0 ∷ zs) (take-zeros n 8 l ∙ ap (λ (i : ℕ). replicate i 0) m) ∙ sym (ap (shown (length (patternAt p k .vars))) (e ∙ ap (λ (c : Bool). givenIf c (take n ps)) t))
+
+-- nothing is found where the least match is none
+pub unfound-none : (v p : List ℕ) (k d : ℕ) → found (listsOf v) d (patternAt p k) ≡ false → leastIn (listsOf v) d (patternAt p k) ≡ none
+unfolding found
+unfound-none v p k d e = go (leastIn (listsOf v) d (patternAt p k)) e
+  where
+    go : (o : Option (List ℕ)) → present o ≡ false → o ≡ none
+    go none f = refl
+    go (some ps) f = absurd (true≢false f)
+
+-- a pattern that can be found next in a later document
+module _ (v p table ats ends : List ℕ) (k d r : ℕ) (starts : Cursor) (w : Ready v p table ats ends k d r starts) where
+  pub away-entry : Entry p k (getD table (4 * k) 0) (getD table (4 * k + 1) 0) (getD table (4 * k + 2) 0) (getD table (4 * k + 3) 0)
+  away-entry = w .tabled k (w .pattern)
+
+  pub away-few : getD table (4 * k + 1) 0 ≤ 8
+  away-few = let e = away-entry .vars-are in let m = given v p (w .accepted) .well-made k (w .pattern) .most-vars in omega arith
+
+  pub away-pattern : k < 8
+  away-pattern = let a = w .pattern in let b = given v p (w .accepted) .most-patterns in omega arith
+
+  pub away-found : r ≢ d → found (listsOf v) d (patternAt p k) ≡ false
+  away-found n = w .candidate .absent d (omega arith) (let f = w .candidate .from in omega arith)
+
+  pub away-shown : r ≢ d → 0 ∷ take (getD table (4 * k + 1) 0) (replicate 8 0) ≡ shownIn (listsOf v) d (patternAt p k)
+  away-shown n = settled-no v p k d (getD table (4 * k + 1) 0) [] false (unfound-none v p k d (away-found n)) refl (away-entry .vars-are) away-few

@@ -1,0 +1,81 @@
+-- The cursor seeks the position; each way out tells what is there.
+use Rattle.matcher.proofs.least.jump.Statement.{statement}
+use Rattle.matcher.proofs.least.jump.Tie as tie
+use Prim.Native.Nat.{ℕ, _+_, _-_, _*_}
+use native.Mathlib.Omega.{arith}
+use mathlib.Core.Path.{_≡_, refl, ap, _∙_}
+use mathlib.Core.Logic.{inl, inr}
+use lib.ListN.{getD, length-set}
+use denote.Ref.{now}
+use Rattle.matcher.specs.declared.cursor.Cursor.{Cursor}
+use Rattle.matcher.specs.Cursors.{seekFrom}
+
+mul-positions : tie.Need-mul-positions
+mul-positions c = omega arith
+
+-- where the cursor stands
+at-is : (c : tie.After-advance-past)
+    → c .advance-past .result .at ≡ seekFrom (now (c .before .before .before .before .before .args .volume)) (c .before .before .before .before .before .args .doc * 65536 + c .before .before .before .before .before .args .need) (getD (now (c .before .before .before .before .before .args .here)) (c .before .before .before .before .before .args .x) 0) (c .before .before .before .before .before .args .end)
+at-is c =
+    let a = c .before .before .before .before .before in
+    let n = a .pre .1 .1 .0 in
+    let e : a .args .doc * 65536 + (a .args .need - 1) + 1 ≡ a .args .doc * 65536 + a .args .need = omega arith in
+    ap (λ (r : Cursor). r .at) (c .advance-past .ensures .0) ∙ ap (λ (t : ℕ). seekFrom (now (a .args .volume)) t (getD (now (a .args .here)) (a .args .x) 0) (a .args .end)) e
+
+slice-read-positions : tie.Need-slice-read-positions
+slice-read-positions c = omega arith
+
+sub-advance-past : tie.Need-sub-advance-past
+sub-advance-past c = omega arith
+
+advance-past-requires : tie.Need-advance-past-requires
+advance-past-requires c κs = c .before .before .before .before .pre .1 .1 .1
+
+returns : tie.Need-returns
+returns c = (inl (rw (← at-is (c .before)) (c .if1 .taken)), (refl, refl))
+
+word-at-requires : tie.Need-word-at-requires
+word-at-requires c κs = omega arith
+
+returns-2 : tie.Need-returns-2
+returns-2 c = (inr (rw (← at-is (c .before .before .before)) (omega arith, λ e. c .if2 .taken (rw (c .before .word-at .ensures) e))), (refl, refl))
+
+mul-here : tie.Need-mul-here
+mul-here c = omega arith
+
+slice-write-here : tie.Need-slice-write-here
+slice-write-here c = omega arith
+
+mul-positions-2 : tie.Need-mul-positions-2
+mul-positions-2 c = omega arith
+
+slice-write-positions : tie.Need-slice-write-positions
+slice-write-positions c = omega arith
+
+same-length : tie.Need-same-length
+same-length c = length-set (now (c .before .before .before .before .before .before .before .before .args .here)) _ _
+
+same-length-2 : tie.Need-same-length-2
+same-length-2 c = length-set (now (c .before .before .before .before .before .before .before .before .args .positions)) _ _
+
+returns-3 : tie.Need-returns-3
+returns-3 c = rw (← at-is (c .before .before .before)) (omega arith, (rw (← c .before .word-at .ensures) (c .if2 .left), (refl, rw (c .before .word-at .ensures) refl)))
+
+pub jump-spec : {M : Type 1} → statement M
+jump-spec =
+    tie.close
+    (tie.spec
+    mul-positions
+    slice-read-positions
+    sub-advance-past
+    advance-past-requires
+    returns
+    word-at-requires
+    returns-2
+    mul-here
+    slice-write-here
+    mul-positions-2
+    slice-write-positions
+    same-length
+    same-length-2
+    returns-3)

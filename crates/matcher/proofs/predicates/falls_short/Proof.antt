@@ -1,0 +1,88 @@
+-- `predicates::falls_short` meets its contract: each predicate's own function tells. Assumes nothing.
+use native.Mathlib.Omega.{arith}
+use denote.Ref.{now}
+use lib.Seq.{length-take-le}
+use Rattle.matcher.proofs.Laws.Shortfall.{distance-asked, ordered-asked, samepara-asked, window-asked}
+use Rattle.matcher.proofs.predicates.falls_short.Statement.{statement}
+use Rattle.matcher.proofs.predicates.falls_short.Tie as tie
+
+slice-aggregate-tuple : tie.Need-slice-aggregate-tuple
+slice-aggregate-tuple c = let a = c .before .before .before .args in let e = length-take-le (a .n) (now (a .positions)) (omega arith) in omega arith
+
+enum-known-predicate : tie.Need-enum-known-predicate
+enum-known-predicate c = omega arith
+
+cast-distance : tie.Need-cast-distance
+cast-distance c = omega arith
+
+cast-distance-2 : tie.Need-cast-distance-2
+cast-distance-2 c = omega arith
+
+distance-requires : tie.Need-distance-requires
+distance-requires c κs = let s = c .before .before .before .before .before .before in distance-asked (now (s .args .positions)) (s .args .predicate) (s .pre) (c .before .predicate .given .1)
+
+enum-known-predicate-2 : tie.Need-enum-known-predicate-2
+enum-known-predicate-2 c = omega arith
+
+cast-ordered : tie.Need-cast-ordered
+cast-ordered c = omega arith
+
+cast-ordered-2 : tie.Need-cast-ordered-2
+cast-ordered-2 c = omega arith
+
+ordered-requires : tie.Need-ordered-requires
+ordered-requires c κs = let s = c .before .before .before .before .before .before in ordered-asked (now (s .args .positions)) (s .args .predicate) (s .pre) (c .before .predicate2 .given .1)
+
+enum-known-predicate-3 : tie.Need-enum-known-predicate-3
+enum-known-predicate-3 c = omega arith
+
+cast-samepara : tie.Need-cast-samepara
+cast-samepara c = omega arith
+
+cast-samepara-2 : tie.Need-cast-samepara-2
+cast-samepara-2 c = omega arith
+
+samepara-requires : tie.Need-samepara-requires
+samepara-requires c κs = let s = c .before .before .before .before .before .before in samepara-asked (now (s .args .positions)) (s .args .predicate) (s .pre) (c .before .predicate3 .given .1)
+
+enum-known-predicate-4 : tie.Need-enum-known-predicate-4
+enum-known-predicate-4 c = omega arith
+
+window-requires : tie.Need-window-requires
+window-requires c κs = let s = c .before .before .before .before .before .before in window-asked (now (s .args .positions)) (s .args .predicate) (s .pre) (c .before .predicate4 .given .1)
+
+returns : tie.Need-returns
+returns c = rw (c .before .before .predicate .given .1) (c .distance .ensures _)
+
+returns-2 : tie.Need-returns-2
+returns-2 c = rw (c .before .before .predicate2 .given .1) (c .ordered .ensures _)
+
+returns-3 : tie.Need-returns-3
+returns-3 c = rw (c .before .before .predicate3 .given .1) (c .samepara .ensures)
+
+returns-4 : tie.Need-returns-4
+returns-4 c = rw (c .before .before .predicate4 .given .1) (c .window .ensures _)
+
+pub falls-short-spec : {M : Type 1} → statement M
+falls-short-spec =
+    tie.close
+    (tie.spec
+    slice-aggregate-tuple
+    enum-known-predicate
+    cast-distance
+    cast-distance-2
+    distance-requires
+    enum-known-predicate-2
+    cast-ordered
+    cast-ordered-2
+    ordered-requires
+    enum-known-predicate-3
+    cast-samepara
+    cast-samepara-2
+    samepara-requires
+    enum-known-predicate-4
+    window-requires
+    returns
+    returns-2
+    returns-3
+    returns-4)

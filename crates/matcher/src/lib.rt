@@ -1,0 +1,16 @@
+// One pattern in one document: cursors on posting lists, position predicates, the least match, and
+// testing given positions.
+mod answers;
+mod cursor;
+mod least;
+mod outline;
+mod predicates;
+mod testing;
+
+pub use answers::Tested;
+pub use cursor::Cursor;
+pub use least::settle;
+pub use least::show;
+pub use outline::lay_out;
+pub use outline::starts_of;
+pub use testing::test;

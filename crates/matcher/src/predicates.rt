@@ -1,0 +1,181 @@
+// Position predicates on the positions of a pattern's variables in one document.
+ghost use mathlib.Core.Path.{_≡_};
+ghost use mathlib.Core.Bool.{true};
+ghost use mathlib.Core.List.{List};
+ghost use Prim.Native.Nat.{ℕ, _<_, _≤_};
+ghost use lib.ListN.{length, getD, take};
+ghost use Rattle.volume.specs.Check.{Accepted};
+ghost use Rattle.volume.specs.Layout.{listsOf};
+ghost use Rattle.plan.specs.Standing.{namesBelow};
+ghost use Rattle.plan.specs.Rows.{InRange};
+ghost use Rattle.plan.specs.declared.row.Predicate.the-variants.{Distance, Ordered, Samepara, Window};
+ghost use Rattle.plan.specs.declared.row.Kind.the-variants as kind;
+ghost use Rattle.fulltext.specs.Matches.{startsIn, paraStart};
+ghost use Rattle.matcher.specs.Shortfall.{InDocument, Told};
+ghost use Rattle.matcher.specs.Cursors.{listEnd, Stands};
+use super::cursor::Cursor;
+use super::cursor::gallop;
+use plan::Predicate;
+
+// What a predicate says of some positions: that it holds, or a variable that stands before a position
+// which it needs at least.
+pub enum Shortfall {
+    Holds,
+    Short(usize, u32),
+}
+
+// The start of the paragraph of a position: the greatest start in the document that is not above
+// it; 65,536 where there is none. `starts` is a cursor on list 0 that has not passed the document.
+pub fn para_start(volume: &[u8], starts: Cursor, doc: u32, pos: u32) -> u32
+    requires { ⌜ Accepted (now volume) ⌝ }
+    requires { ⌜ Stands (now volume) 0 doc (starts .at) ⌝ }
+    requires { ⌜ starts .end ≡ listEnd (now volume) 0 ⌝ }
+    requires { ⌜ doc ≤ 65535 ⌝ }
+    requires { ⌜ pos ≤ 65535 ⌝ }
+    ensures { λ r. ⌜ r ≡ paraStart (startsIn (listsOf (now (volume .entry))) doc) pos ⌝ }
+{
+    let at = gallop(
+        volume,
+        starts.at,
+        starts.end,
+        doc as u64 * 65536 + pos as u64 + 1,
+    );
+    if at == starts.at {
+        return 65536;
+    }
+    let last = volume::word_at(volume, at - 1);
+    if last / 65536 != doc {
+        return 65536;
+    }
+    last % 65536
+}
+
+// NEAR: whether at most `limit` positions lie between a and b; if not, the earlier one is left short.
+fn distance(positions: &[u32], a: usize, b: usize, limit: u32) -> Shortfall
+    requires { ⌜ InDocument (now positions) ⌝ }
+    requires { ⌜ a < length (now positions) ⌝ }
+    requires { ⌜ b < length (now positions) ⌝ }
+    requires { ⌜ limit ≤ 65535 ⌝ }
+    ensures { λ r. ⌜ ((ss : List ℕ) → Told ss (Distance a b limit) (now (positions .entry)) r) ⌝ }
+{
+    let first = positions[a];
+    let second = positions[b];
+    if first + limit + 1 < second {
+        return Shortfall::Short(a, second - (limit + 1));
+    }
+    if second + limit + 1 < first {
+        return Shortfall::Short(b, first - (limit + 1));
+    }
+    Shortfall::Holds
+}
+
+// BEFORE: whether a stands in front of b; if not, b is left short.
+fn ordered(positions: &[u32], a: usize, b: usize) -> Shortfall
+    requires { ⌜ InDocument (now positions) × ((a < length (now positions)) × (b < length (now positions))) ⌝ }
+    ensures { λ r. ⌜ ((ss : List ℕ) → Told ss (Ordered a b) (now (positions .entry)) r) ⌝ }
+{
+    let first = positions[a];
+    if first < positions[b] {
+        return Shortfall::Holds;
+    }
+    Shortfall::Short(b, first + 1)
+}
+
+// SAME TITLE: whether a and b stand in one paragraph; if not, the earlier one is left short.
+fn samepara(
+    volume: &[u8],
+    starts: Cursor,
+    doc: u32,
+    positions: &[u32],
+    a: usize,
+    b: usize,
+) -> Shortfall
+    requires { ⌜ Accepted (now volume) ⌝ }
+    requires { ⌜ Stands (now volume) 0 doc (starts .at) ⌝ }
+    requires { ⌜ starts .end ≡ listEnd (now volume) 0 ⌝ }
+    requires { ⌜ doc ≤ 65535 ⌝ }
+    requires { ⌜ InDocument (now positions) ⌝ }
+    requires { ⌜ a < length (now positions) ⌝ }
+    requires { ⌜ b < length (now positions) ⌝ }
+    ensures { λ r. ⌜ Told (startsIn (listsOf (now (volume .entry))) doc) (Samepara a b) (now (positions .entry)) r ⌝ }
+{
+    let first = positions[a];
+    let second = positions[b];
+    if first < second {
+        let start = para_start(volume, starts, doc, second);
+        if first < start && start <= second {
+            return Shortfall::Short(a, start);
+        }
+        return Shortfall::Holds;
+    }
+    if second < first {
+        let start = para_start(volume, starts, doc, first);
+        if second < start && start <= first {
+            return Shortfall::Short(b, start);
+        }
+    }
+    Shortfall::Holds
+}
+
+// SPAN: whether the largest and the smallest position differ by at most limit - 1; if not, a variable
+// at the smallest is left short.
+fn window(positions: &[u32], limit: u32) -> Shortfall
+    requires { ⌜ InDocument (now positions) × ((1 ≤ length (now positions)) × ((1 ≤ limit) × (limit ≤ 65536))) ⌝ }
+    ensures { λ r. ⌜ ((ss : List ℕ) → Told ss (Window limit) (now (positions .entry)) r) ⌝ }
+{
+    let n = positions.len();
+    let mut var: usize = 0;
+    let mut least = positions[0];
+    let mut most = least;
+    let mut x: usize = 1;
+    while x < n {
+        let pos = positions[x];
+        if pos < least {
+            least = pos;
+            var = x;
+        } else if most < pos {
+            most = pos;
+        }
+        x += 1;
+    }
+    if least + (limit - 1) < most {
+        return Shortfall::Short(var, most - (limit - 1));
+    }
+    Shortfall::Holds
+}
+
+// Whether a predicate holds of the first n positions; if not, a variable that it leaves short.
+pub fn falls_short(
+    volume: &[u8],
+    starts: Cursor,
+    doc: u32,
+    predicate: Predicate,
+    positions: &[u32],
+    n: usize,
+) -> Shortfall
+    requires { ⌜ Accepted (now volume) ⌝ }
+    requires { ⌜ Stands (now volume) 0 doc (starts .at) ⌝ }
+    requires { ⌜ starts .end ≡ listEnd (now volume) 0 ⌝ }
+    requires { ⌜ doc ≤ 65535 ⌝ }
+    requires { ⌜ 1 ≤ n ⌝ }
+    requires { ⌜ n ≤ length (now positions) ⌝ }
+    requires { ⌜ ((x : ℕ) → x < n → getD (now positions) x 0 ≤ 65535) ⌝ }
+    requires { ⌜ namesBelow n predicate ≡ true ⌝ }
+    requires { ⌜ InRange (kind.Condition predicate) ⌝ }
+    ensures { λ r. ⌜ Told (startsIn (listsOf (now (volume .entry))) doc) predicate (take n (now (positions .entry))) r ⌝ }
+{
+    let tuple = &positions[..n];
+    match predicate {
+        Predicate::Distance { a, b, limit } => distance(tuple, a as usize, b as usize, limit),
+        Predicate::Ordered { a, b } => ordered(tuple, a as usize, b as usize),
+        Predicate::Samepara { a, b } => samepara(
+            volume,
+            starts,
+            doc,
+            tuple,
+            a as usize,
+            b as usize,
+        ),
+        Predicate::Window { limit } => window(tuple, limit),
+    }
+}

@@ -1,0 +1,212 @@
+// Testing given positions of a pattern.
+ghost use mathlib.Core.Path.{_≡_};
+ghost use mathlib.Core.Bool.{true};
+ghost use Prim.Native.Nat.{_<_, _≤_};
+ghost use lib.Dec.{leb};
+ghost use lib.ListN.{length};
+ghost use Rattle.seq.specs.Lists.{all, elem};
+ghost use Rattle.volume.specs.Layout.{listCount, listsOf};
+ghost use Rattle.volume.specs.Check.{Accepted};
+ghost use Rattle.plan.specs.declared.row.Kind.the-variants as kind;
+ghost use Rattle.plan.specs.Rows.{InRange};
+ghost use Rattle.plan.specs.Standing.{namesBelow};
+ghost use Rattle.plan.specs.Check as plans;
+ghost use Rattle.plan.specs.Accepted.{patternAt};
+ghost use Rattle.fulltext.specs.Positions.{listOf, positionsIn};
+ghost use Rattle.fulltext.specs.Matches.{holds, allHold, fits, startsIn, varsIn, matchesAt};
+ghost use Rattle.matcher.specs.Shortfall.{InDocument};
+ghost use Rattle.matcher.specs.Cursors.{listEnd, Stands};
+ghost use Rattle.matcher.specs.Answers.{saidTested};
+ghost use Rattle.matcher.specs.Testing.{testAnswer};
+ghost use Rattle.matcher.specs.Settling.{Asked};
+use super::answers::Tested;
+use super::cursor::Cursor;
+use super::cursor::gallop;
+use super::outline::lay_out;
+use super::outline::starts_of;
+use super::predicates::Shortfall;
+use super::predicates::falls_short;
+use plan::Checked;
+use plan::Kind;
+use plan::Predicate;
+
+// Whether no position is over 65,535.
+fn in_document(positions: &[u32]) -> bool
+    ensures { λ r. ⌜ r ≡ all (λ q. leb q 65535) (now (positions .entry)) ⌝ }
+{
+    let n = positions.len();
+    let mut x: usize = 0;
+    while x < n {
+        if 65535 < positions[x] {
+            return false;
+        }
+        x += 1;
+    }
+    true
+}
+
+// Whether a list holds a position of a document.
+fn list_holds(volume: &[u8], list: usize, doc: u32, pos: u32) -> bool
+    requires { ⌜ Accepted (now volume) × ((list < listCount (now volume)) × ((doc ≤ 65535) × (pos ≤ 65535))) ⌝ }
+    ensures { λ r. ⌜ r ≡ elem pos (positionsIn doc (listOf (listsOf (now (volume .entry))) list)) ⌝ }
+{
+    let span = volume::list_span(volume, list);
+    let end = span.start + span.count;
+    let posting = doc * 65536 + pos;
+    let at = gallop(volume, span.start, end, posting as u64);
+    if at == end {
+        return false;
+    }
+    volume::word_at(volume, at) == posting
+}
+
+// Whether the list of each variable of a pattern holds its position.
+fn all_listed(
+    volume: &[u8],
+    plan: &[u32],
+    table: &[usize],
+    pattern: usize,
+    doc: u32,
+    positions: &[u32],
+) -> bool
+    requires { ⌜ Asked (now volume) (now plan) (now table) pattern doc (now positions) ⌝ }
+    ensures { λ r. ⌜ r ≡ fits (varsIn (listsOf (now (volume .entry))) doc (patternAt (now (plan .entry)) pattern .vars)) (now (positions .entry)) ⌝ }
+{
+    let row = table[4 * pattern + 2] - table[4 * pattern + 1];
+    let n = positions.len();
+    let mut x: usize = 0;
+    while x < n {
+        let list = plan[4 * (row + x) + 1] as usize;
+        if !list_holds(volume, list, doc, positions[x]) {
+            return false;
+        }
+        x += 1;
+    }
+    true
+}
+
+// Whether a predicate holds of some positions.
+fn predicate_holds(
+    volume: &[u8],
+    starts: Cursor,
+    doc: u32,
+    predicate: Predicate,
+    positions: &[u32],
+) -> bool
+    requires { ⌜ Accepted (now volume) ⌝ }
+    requires { ⌜ Stands (now volume) 0 doc (starts .at) ⌝ }
+    requires { ⌜ starts .end ≡ listEnd (now volume) 0 ⌝ }
+    requires { ⌜ doc ≤ 65535 ⌝ }
+    requires { ⌜ 1 ≤ length (now positions) ⌝ }
+    requires { ⌜ InDocument (now positions) ⌝ }
+    requires { ⌜ namesBelow (length (now positions)) predicate ≡ true ⌝ }
+    requires { ⌜ InRange (kind.Condition predicate) ⌝ }
+    ensures { λ r. ⌜ r ≡ holds (startsIn (listsOf (now (volume .entry))) doc) predicate (now (positions .entry)) ⌝ }
+{
+    let n = positions.len();
+    let told = falls_short(volume, starts, doc, predicate, positions, n);
+    match told {
+        Shortfall::Holds => true,
+        Shortfall::Short(_, _) => false,
+    }
+}
+
+// Whether each predicate of a pattern holds.
+fn all_hold(
+    volume: &[u8],
+    plan: &[u32],
+    table: &[usize],
+    pattern: usize,
+    doc: u32,
+    positions: &[u32],
+) -> bool
+    requires { ⌜ Asked (now volume) (now plan) (now table) pattern doc (now positions) ⌝ }
+    ensures { λ r. ⌜ r ≡ allHold (startsIn (listsOf (now (volume .entry))) doc) (patternAt (now (plan .entry)) pattern .predicates) (now (positions .entry)) ⌝ }
+{
+    let starts = starts_of(volume);
+    let mut row = table[4 * pattern + 2];
+    let last = table[4 * pattern + 3];
+    while row < last {
+        let read = plan::row_at(plan, row);
+        let kind = read.kind;
+        let Kind::Condition(predicate) = kind else {
+            return false;
+        };
+        if !predicate_holds(volume, starts, doc, predicate, positions) {
+            return false;
+        }
+        row += 1;
+    }
+    true
+}
+
+// Whether positions match a pattern in a document.
+fn is_match(
+    volume: &[u8],
+    plan: &[u32],
+    table: &[usize],
+    pattern: usize,
+    doc: u32,
+    positions: &[u32],
+) -> bool
+    requires { ⌜ Asked (now volume) (now plan) (now table) pattern doc (now positions) ⌝ }
+    ensures { λ r. ⌜ r ≡ matchesAt (listsOf (now (volume .entry))) doc (patternAt (now (plan .entry)) pattern) (now (positions .entry)) ⌝ }
+{
+    if !all_listed(volume, plan, table, pattern, doc, positions) {
+        return false;
+    }
+    all_hold(volume, plan, table, pattern, doc, positions)
+}
+
+// The same for any positions, where the volume and the plan are accepted and the pattern is there.
+fn test_pattern(
+    volume: &[u8],
+    plan: &[u32],
+    patterns: usize,
+    pattern: usize,
+    doc: u32,
+    positions: &[u32],
+) -> Tested
+    requires { ⌜ plans.Accepted (now volume) (now plan) ⌝ }
+    requires { ⌜ patterns ≡ plans.sizes (now plan) .patterns ⌝ }
+    requires { ⌜ pattern < patterns ⌝ }
+    ensures { λ r. ⌜ saidTested r ≡ testAnswer (now (volume .entry)) (now (plan .entry)) pattern doc (now (positions .entry)) ⌝ }
+{
+    let mut table: [usize; 32] = [0; 32];
+    lay_out(plan, patterns, &mut table);
+    let vars = table[4 * pattern + 1];
+    if positions.len() != vars {
+        return Tested::OutOfRange;
+    }
+    if 65535 < doc {
+        return Tested::OutOfRange;
+    }
+    if !in_document(positions) {
+        return Tested::OutOfRange;
+    }
+    let matched = is_match(volume, plan, &table, pattern, doc, positions);
+    Tested::Answer(matched)
+}
+
+// Whether these positions of a pattern's variables match the pattern in a document.
+pub fn test(volume: &[u8], plan: &[u32], pattern: u32, doc: u32, positions: &[u32]) -> Tested
+    ensures { λ r. ⌜ saidTested r ≡ testAnswer (now (volume .entry)) (now (plan .entry)) pattern doc (now (positions .entry)) ⌝ }
+{
+    let checked = plan::check(volume, plan);
+    match checked {
+        Checked::Refused(why) => Tested::Refused(why),
+        Checked::Accepted(patterns, _) => {
+            if patterns <= pattern {
+                return Tested::OutOfRange;
+            }
+            test_pattern(
+                volume,
+                plan,
+                patterns as usize,
+                pattern as usize,
+                doc,
+                positions,
+            )
+        }
+    }
+}
