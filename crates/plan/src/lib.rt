@@ -12,7 +12,7 @@ mod kinds;
 mod limits;
 mod row;
 mod showing;
-mod standing;
+mod state;
 
 pub use answers::Checked;
 pub use answers::Fault;

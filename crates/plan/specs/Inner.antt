@@ -1,0 +1,3 @@
+-- What serves contracts inside the engine only.
+--     State      a bound on the numbers of a state
+pub mod State
