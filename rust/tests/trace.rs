@@ -267,16 +267,20 @@ fn theorems(of: &str) -> BTreeSet<String> {
     proved.map(|(_, statement)| statement.to_string()).collect()
 }
 
-/// A function of a crate's code, a method by `Type::name`: its marks, and its head up to the body.
+/// A function of a crate's code, a method by `Type::name`: its module, its marks, and its head up to
+/// the body.
 struct Function {
     name: String,
+    module: String,
     marks: String,
     head: String,
 }
 
 fn functions(of: &str) -> Vec<Function> {
     let mut functions = Vec::new();
-    for file in files(&format!("crates/{of}/src"), ".rt") {
+    let folder = format!("crates/{of}/src");
+    for file in files(&folder, ".rt") {
+        let module = file[folder.len() + 1..].trim_end_matches(".rt").replace('/', "::");
         let text = read(file);
         let lines: Vec<&str> = text.lines().collect();
         let mut methods_of = None;
@@ -296,7 +300,8 @@ fn functions(of: &str) -> Vec<Function> {
             let name = methods_of.map_or(name.to_string(), |of| format!("{of}::{name}"));
             let body = lines[i..].iter().position(|line| line.ends_with('{')).expect("a body");
             let head = lines[i..=i + body].join("\n");
-            functions.push(Function { name, marks: marks.trim().into(), head });
+            let (module, marks) = (module.clone(), marks.trim().to_string());
+            functions.push(Function { name, module, marks, head });
         }
     }
     functions
@@ -308,20 +313,16 @@ fn has_promise(of: &str, name: &str) -> bool {
     matches!(&named[..], [function] if function.head.contains(" ensures "))
 }
 
-/// The functions that a library opens to other crates or to C: those that its `lib.rt` hands on and
-/// are its own, the open methods of the types that it hands on, and those with a C name.
+/// The functions that a library opens to other crates or to C: those of its modules that its `lib.rt`
+/// hands on, the open methods of the types that it hands on, and those with a C name.
 fn open_functions(of: &str) -> Vec<Function> {
     let text = read_if_there(&format!("crates/{of}/src/lib.rt"));
     let handed = text.lines().filter_map(|line| line.strip_prefix("pub use ")?.strip_suffix(';'));
-    let handed: BTreeSet<&str> = handed
-        .inspect(|path| assert!(!path.contains(['{', '*', ' ']), "{of} hands on {path}"))
-        .filter_map(|path| path.rsplit_once("::"))
-        .filter(|(module, _)| !crates().contains(*module))
-        .map(|(_, name)| name)
-        .collect();
-    let is_open = |function: &Function| match function.name.split_once("::") {
-        Some((of_type, _)) => function.marks == "pub" && handed.contains(of_type),
-        None => handed.contains(function.name.as_str()) || function.marks.contains("extern"),
+    let handed: BTreeSet<&str> = handed.collect();
+    assert!(!handed.iter().any(|path| path.contains(['{', '*', ' '])), "{of} hands on {handed:?}");
+    let is_open = |Function { name, module, marks, .. }: &Function| match name.split_once("::") {
+        Some((of_type, _)) => marks == "pub" && handed.contains(&*format!("{module}::{of_type}")),
+        None => handed.contains(&*format!("{module}::{name}")) || marks.contains("extern"),
     };
     functions(of).into_iter().filter(is_open).collect()
 }
