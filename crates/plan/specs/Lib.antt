@@ -10,14 +10,5 @@
 --     Refusals    document 01's refusals as relations, one line for each number
 --     Accepted    what acceptance gives
 --     Demands     the statements that the crate is held to
+--     Inner       what serves contracts inside the engine only
 pub mod Limits
-pub mod Rows
-pub mod Standing
-pub mod Patterns
-pub mod Answers
-pub mod Check
-pub mod Parts
-pub mod Counts
-pub mod Refusals
-pub mod Accepted
-pub mod Demands
