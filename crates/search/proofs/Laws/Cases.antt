@@ -19,7 +19,7 @@ use Rattle.seq.specs.Numbers.{firstFrom, run}
 use Rattle.seq.specs.Refusals.{Said, refused, answered, laid}
 use Rattle.seq.proofs.Laws.Tests.{below-or}
 use Rattle.seq.proofs.Laws.Totals.{total-ext}
-use Rattle.volume.specs.Checksum.{sumA, sumB}
+use Rattle.block.specs.Checksum.{sumA, sumB}
 use Rattle.volume.specs.Demands.{sampleLists}
 use Rattle.volume.proofs.Demands as volume
 use Rattle.plan.specs.Answers.{Sizes}
