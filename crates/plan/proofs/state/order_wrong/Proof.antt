@@ -1,11 +1,11 @@
--- `standing::order_wrong` meets its contract, arm by arm. Assumes nothing.
+-- `state::order_wrong` meets its contract, arm by arm. Assumes nothing.
 use borrow.Author.Needs.{needs}
 use mathlib.Core.Path.{ap}
 use mathlib.Core.Bool.{not}
 use lib.Dec.{ltb}
 use borrow.Author.Tests.{eq-eqb, ne-eqb}
-use Rattle.plan.proofs.standing.order_wrong.Statement.{statement}
-use Rattle.plan.proofs.standing.order_wrong.Tie as tie
+use Rattle.plan.proofs.state.order_wrong.Statement.{statement}
+use Rattle.plan.proofs.state.order_wrong.Tie as tie
 
 enum-told : tie.Need-enum-told
 enum-told c = search needs

@@ -1,8 +1,8 @@
--- `standing::list_wrong` meets its contract, arm by arm. Assumes nothing.
+-- `state::list_wrong` meets its contract, arm by arm. Assumes nothing.
 use borrow.Author.Needs.{needs}
 use borrow.Author.Tests.{ne-eqb}
-use Rattle.plan.proofs.standing.list_wrong.Statement.{statement}
-use Rattle.plan.proofs.standing.list_wrong.Tie as tie
+use Rattle.plan.proofs.state.list_wrong.Statement.{statement}
+use Rattle.plan.proofs.state.list_wrong.Tie as tie
 
 enum-known-kind : tie.Need-enum-known-kind
 enum-known-kind c = search needs

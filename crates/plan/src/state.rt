@@ -1,18 +1,25 @@
-// Where the reading of a plan stands, and what a row does to it.
+// The reading of a plan, row by row: a state, and what a row does to it.
 ghost use mathlib.Core.Path.{_≡_};
 ghost use mathlib.Core.Bool.{false};
 ghost use Prim.Native.Nat.{_<_};
 ghost use Rattle.plan.specs.Rows.{rowCount};
-ghost use Rattle.plan.specs.Standing as standing;
+ghost use Rattle.plan.specs.State as state;
+ghost use Rattle.plan.specs.Inner.State.{AtMost};
 use super::answers::Fault;
 use super::kinds::form_wrong;
+use super::limits;
 use super::row::Kind;
 use super::row::Operator;
 use super::row::Predicate;
 use super::row::row_at;
 
-// Where the reading of a plan stands in front of a row.
-pub struct Standing {
+// The most variables of a pattern and the most patterns of a plan, as a state counts them.
+const MOST_VARS: u32 = limits::MOST_PATTERN_VARS as u32;
+
+const MOST_PATTERNS: u32 = limits::MOST_PATTERNS as u32;
+
+// The state in front of a row.
+pub struct State {
     // The variables of the open pattern; 0 where none is open.
     pub vars: u32,
     // Whether its conditions have begun.
@@ -25,9 +32,9 @@ pub struct Standing {
     pub total: u32,
 }
 
-impl Standing {
+impl State {
     // In front of row 0.
-    pub const OUTSET: Standing = Standing {
+    pub const INITIAL: State = State {
         vars: 0,
         begun: false,
         patterns: 0,
@@ -36,15 +43,15 @@ impl Standing {
     };
 }
 
-// What a row does: the standing behind it, or why it is refused.
+// What a row does: the state behind it, or why it is refused.
 pub enum Step {
-    Stands(Standing),
+    Stands(State),
     Faulty(Fault),
 }
 
 // Whether a predicate names only variables below n.
 fn names_below(predicate: Predicate, n: u32) -> bool
-    ensures { λ r. ⌜ r ≡ standing.namesBelow n predicate ⌝ }
+    ensures { λ r. ⌜ r ≡ state.namesBelow n predicate ⌝ }
 {
     match predicate {
         Predicate::Distance { a, b, limit: _ } => a < n && b < n,
@@ -56,7 +63,7 @@ fn names_below(predicate: Predicate, n: u32) -> bool
 
 // How many answers an operator takes.
 fn takes(operator: Operator) -> u32
-    ensures { λ r. ⌜ r ≡ standing.takes operator ⌝ }
+    ensures { λ r. ⌜ r ≡ state.takes operator ⌝ }
 {
     match operator {
         Operator::Both => 2,
@@ -67,7 +74,7 @@ fn takes(operator: Operator) -> u32
 
 // Whether a row names list 0, or a list that is not below `lists`.
 fn list_wrong(kind: Kind, lists: u32) -> bool
-    ensures { λ r. ⌜ r ≡ standing.listWrong lists kind ⌝ }
+    ensures { λ r. ⌜ r ≡ state.listWrong lists kind ⌝ }
 {
     match kind {
         Kind::Voice(list) => list == 0 || lists <= list,
@@ -78,11 +85,11 @@ fn list_wrong(kind: Kind, lists: u32) -> bool
 }
 
 // Whether a row is a ninth variable, or would open a ninth pattern.
-fn too_many(kind: Kind, s: Standing) -> bool
-    ensures { λ r. ⌜ r ≡ standing.tooMany s kind ⌝ }
+fn too_many(kind: Kind, s: State) -> bool
+    ensures { λ r. ⌜ r ≡ state.tooMany s kind ⌝ }
 {
     match kind {
-        Kind::Voice(_) => 8 <= s.vars || (s.vars == 0 && 8 <= s.patterns),
+        Kind::Voice(_) => MOST_VARS <= s.vars || (s.vars == 0 && MOST_PATTERNS <= s.patterns),
         Kind::Condition(_) => false,
         Kind::End => false,
         Kind::Operator(_) => false,
@@ -90,8 +97,8 @@ fn too_many(kind: Kind, s: Standing) -> bool
 }
 
 // Whether a row may not stand here, or names a variable that is not there.
-fn order_wrong(kind: Kind, s: Standing) -> bool
-    ensures { λ r. ⌜ r ≡ standing.orderWrong s kind ⌝ }
+fn order_wrong(kind: Kind, s: State) -> bool
+    ensures { λ r. ⌜ r ≡ state.orderWrong s kind ⌝ }
 {
     match kind {
         Kind::Voice(_) => s.begun,
@@ -101,34 +108,35 @@ fn order_wrong(kind: Kind, s: Standing) -> bool
     }
 }
 
-// The standing behind a row that may stand here.
-fn after(kind: Kind, s: Standing) -> Standing
-    requires { ⌜ standing.AtMost 63 s × (standing.orderWrong s kind ≡ false) ⌝ }
-    ensures { λ r. ⌜ r ≡ standing.after s kind ⌝ }
+// The state behind a row that may stand here.
+fn after(kind: Kind, s: State) -> State
+    requires { ⌜ AtMost 63 s ⌝ }
+    requires { ⌜ state.orderWrong s kind ≡ false ⌝ }
+    ensures { λ r. ⌜ r ≡ state.after s kind ⌝ }
 {
     match kind {
-        Kind::Voice(_) => Standing {
+        Kind::Voice(_) => State {
             vars: s.vars + 1,
             begun: s.begun,
             patterns: s.patterns,
             answers: s.answers,
             total: s.total + 1,
         },
-        Kind::Condition(_) => Standing {
+        Kind::Condition(_) => State {
             vars: s.vars,
             begun: true,
             patterns: s.patterns,
             answers: s.answers,
             total: s.total,
         },
-        Kind::End => Standing {
+        Kind::End => State {
             vars: 0,
             begun: false,
             patterns: s.patterns + 1,
             answers: s.answers + 1,
             total: s.total,
         },
-        Kind::Operator(operator) => Standing {
+        Kind::Operator(operator) => State {
             vars: s.vars,
             begun: s.begun,
             patterns: s.patterns,
@@ -138,10 +146,11 @@ fn after(kind: Kind, s: Standing) -> Standing
     }
 }
 
-// What row i of a plan does to a standing, over a volume of so many lists.
-pub fn row_step(plan: &[u32], i: usize, lists: u32, s: Standing) -> Step
-    requires { ⌜ (i < rowCount (now plan)) × standing.AtMost 63 s ⌝ }
-    ensures { λ r. ⌜ r ≡ standing.step lists s (now (plan .entry)) i ⌝ }
+// What row i of a plan does to a state, over a volume of so many lists.
+pub fn row_step(plan: &[u32], i: usize, lists: u32, s: State) -> Step
+    requires { ⌜ i < rowCount (now plan) ⌝ }
+    requires { ⌜ AtMost 63 s ⌝ }
+    ensures { λ r. ⌜ r ≡ state.step lists s (now (plan .entry)) i ⌝ }
 {
     let at = 4 * i;
     if form_wrong(plan[at], plan[at + 1], plan[at + 2], plan[at + 3]) {

@@ -1,13 +1,13 @@
--- `standing::after` meets its contract, arm by arm. Assumes nothing.
+-- `state::after` meets its contract, arm by arm. Assumes nothing.
 use borrow.Author.Needs.{needs}
 use native.Mathlib.Omega.{arith}
 use Prim.Native.Nat.{ℕ, _+_, _-_}
 use mathlib.Core.Path.{sym, ap, _∙_}
-use Rattle.plan.specs.Standing as standing
-use Rattle.plan.specs.declared.standing.Standing.{Standing}
-use Rattle.plan.proofs.Laws.Standing.{operator-stands}
-use Rattle.plan.proofs.standing.after.Statement.{statement}
-use Rattle.plan.proofs.standing.after.Tie as tie
+use Rattle.plan.specs.State as state
+use Rattle.plan.specs.declared.state.State.{State}
+use Rattle.plan.proofs.Laws.State.{operator-stands}
+use Rattle.plan.proofs.state.after.Statement.{statement}
+use Rattle.plan.proofs.state.after.Tie as tie
 
 enum-told : tie.Need-enum-told
 enum-told c = search needs
@@ -46,19 +46,19 @@ sub-t11 c =
     rw (c .takes .ensures) (omega (arith, h .1))
 
 returns : tie.Need-returns
-returns c = sym (ap (standing.after (c .before .before .before .before .args .s)) (c .before .before .enum-told .given .1))
+returns c = sym (ap (state.after (c .before .before .before .before .args .s)) (c .before .before .enum-told .given .1))
 
 returns-2 : tie.Need-returns-2
-returns-2 c = sym (ap (standing.after (c .before .before .args .s)) (c .enum-told2 .given .1))
+returns-2 c = sym (ap (state.after (c .before .before .args .s)) (c .enum-told2 .given .1))
 
 returns-3 : tie.Need-returns-3
-returns-3 c = sym (ap (standing.after (c .before .before .before .before .args .s)) (c .before .before .enum-told3 .given .1))
+returns-3 c = sym (ap (state.after (c .before .before .before .before .args .s)) (c .before .before .enum-told3 .given .1))
 
 returns-4 : tie.Need-returns-4
 returns-4 c =
     let s = c .before .before .before .before .before .args .s in
-    let with-answers : ℕ → Standing = λ n. record { vars = s .vars; begun = s .begun; patterns = s .patterns; answers = s .answers + 1 - n; total = s .total } in
-    ap with-answers (c .takes .ensures) ∙ sym (ap (standing.after s) (c .before .before .before .kind .given .1))
+    let with-answers : ℕ → State = λ n. record { vars = s .vars; begun = s .begun; patterns = s .patterns; answers = s .answers + 1 - n; total = s .total } in
+    ap with-answers (c .takes .ensures) ∙ sym (ap (state.after s) (c .before .before .before .kind .given .1))
 
 pub after-spec : {M : Type 1} → statement M
 after-spec =

@@ -1,8 +1,8 @@
--- `standing::names_below` meets its contract, arm by arm. Assumes nothing.
+-- `state::names_below` meets its contract, arm by arm. Assumes nothing.
 use borrow.Author.Needs.{needs}
 use borrow.Author.Tests.{lt-ltb, le-ltb}
-use Rattle.plan.proofs.standing.names_below.Statement.{statement}
-use Rattle.plan.proofs.standing.names_below.Tie as tie
+use Rattle.plan.proofs.state.names_below.Statement.{statement}
+use Rattle.plan.proofs.state.names_below.Tie as tie
 
 enum-known-predicate : tie.Need-enum-known-predicate
 enum-known-predicate c = search needs

@@ -1,8 +1,8 @@
--- `standing::too_many` meets its contract, arm by arm. Assumes nothing.
+-- `state::too_many` meets its contract, arm by arm. Assumes nothing.
 use borrow.Author.Needs.{needs}
 use borrow.Author.Tests.{le-leb, lt-leb, eq-eqb, ne-eqb}
-use Rattle.plan.proofs.standing.too_many.Statement.{statement}
-use Rattle.plan.proofs.standing.too_many.Tie as tie
+use Rattle.plan.proofs.state.too_many.Statement.{statement}
+use Rattle.plan.proofs.state.too_many.Tie as tie
 
 enum-told : tie.Need-enum-told
 enum-told c = search needs

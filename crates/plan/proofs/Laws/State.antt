@@ -1,10 +1,10 @@
--- The laws of `specs/Standing.antt`. No contract cites this file.
---     stand-append                    rows behind others
---     standing-first, standing-next   in front of row 0, and of the next row
---     standing-most, most-le          in front of row i no number of a standing is above i, nor above a larger n
---     condition-stands, end-stands, operator-stands     what a row that may stand there tells of the standing
+-- The laws of `specs/State.antt`. No contract cites this file.
+--     afterAll-append                 rows behind others
+--     stateAt-first, stateAt-next     in front of row 0, and of the next row
+--     stateAt-most, most-le           in front of row i no number of a state is above i, nor above a larger n
+--     condition-stands, end-stands, operator-stands     what a row that may stand there tells of the state
 --     step-form .. step-stands        what a row does, by the first test that applies
---     step-right                      a row that stands passes every test, and the standing behind it
+--     step-right                      a row that stands passes every test, and the state behind it
 --     listWrong-decides, tooMany-decides, orderWrong-decides     the tests decide document 01's sentences
 -- Assumes nothing.
 use Prim.Native.Nat.{ℕ, zero, suc, _+_, _<_, _≤_}
@@ -29,28 +29,29 @@ use Rattle.plan.specs.declared.row.Operator.the-variants.{Both, Either, 
 use Rattle.plan.specs.declared.row.Kind.{Kind}
 use Rattle.plan.specs.declared.row.Kind.the-variants as kind
 use Rattle.plan.specs.declared.row.Row.{Row}
-use Rattle.plan.specs.declared.standing.Standing.{Standing}
-use Rattle.plan.specs.declared.standing.Step.the-variants.{Stands, Faulty}
+use Rattle.plan.specs.declared.state.State.{State}
+use Rattle.plan.specs.declared.state.Step.the-variants.{Stands, Faulty}
 use Rattle.plan.specs.Rows.{rowAt, formWrongAt}
 use Rattle.plan.specs.Check.{faulty}
-use Rattle.plan.specs.Standing.{outset, takes, after, stand, standing, namesBelow, listWrong, tooMany, orderWrong, step, AtMost}
+use Rattle.plan.specs.State.{initial, takes, after, afterAll, stateAt, namesBelow, listWrong, tooMany, orderWrong, step}
+use Rattle.plan.specs.Inner.State.{AtMost}
 use Rattle.plan.specs.Refusals.{WrongList, Ninth, NamesMissing, WrongOrder}
 
-stand-append : (s : Standing) (xs ys : List Row) → stand s (xs ++ ys) ≡ stand (stand s xs) ys
-unfolding stand
-stand-append s [] ys = refl
-stand-append s (x ∷ xs) ys = stand-append (after s (x .kind)) xs ys
+afterAll-append : (s : State) (xs ys : List Row) → afterAll s (xs ++ ys) ≡ afterAll (afterAll s xs) ys
+unfolding afterAll
+afterAll-append s [] ys = refl
+afterAll-append s (x ∷ xs) ys = afterAll-append (after s (x .kind)) xs ys
 
-pub standing-first : (p : List ℕ) → standing p 0 ≡ outset
-unfolding standing stand run
-standing-first p = refl
+pub stateAt-first : (p : List ℕ) → stateAt p 0 ≡ initial
+unfolding stateAt afterAll run
+stateAt-first p = refl
 
-pub standing-next : (p : List ℕ) (i : ℕ) → standing p (i + 1) ≡ after (standing p i) (rowAt p i .kind)
-unfolding standing stand
-standing-next p i = ap (stand outset) (run-snoc (rowAt p) 0 i) ∙ stand-append outset (run (rowAt p) 0 i) (rowAt p (0 + i) ∷ []) ∙ ap (λ (j : ℕ). after (stand outset (run (rowAt p) 0 i)) (rowAt p j .kind)) (zero-add i)
+pub stateAt-next : (p : List ℕ) (i : ℕ) → stateAt p (i + 1) ≡ after (stateAt p i) (rowAt p i .kind)
+unfolding stateAt afterAll
+stateAt-next p i = ap (afterAll initial) (run-snoc (rowAt p) 0 i) ∙ afterAll-append initial (run (rowAt p) 0 i) (rowAt p (0 + i) ∷ []) ∙ ap (λ (j : ℕ). after (afterAll initial (run (rowAt p) 0 i)) (rowAt p j .kind)) (zero-add i)
 
 -- a row adds at most one to each number
-after-most : (n : ℕ) (s : Standing) (k : Kind) → AtMost n s → AtMost (n + 1) (after s k)
+after-most : (n : ℕ) (s : State) (k : Kind) → AtMost n s → AtMost (n + 1) (after s k)
 after-most n s (kind.Voice list) h =
     let a = h .vars in let b = h .patterns in let c = h .answers in let d = h .total in
     record { vars = omega arith; patterns = omega arith; answers = omega arith; total = omega arith }
@@ -64,26 +65,26 @@ after-most n s (kind.Operator o) h =
     let a = h .vars in let b = h .patterns in let c = h .answers in let d = h .total in
     record { vars = omega arith; patterns = omega arith; answers = omega arith; total = omega arith }
 
-pub standing-most : (p : List ℕ) (i : ℕ) → AtMost i (standing p i)
-standing-most p zero = rw (standing-first p) (record { vars = omega arith; patterns = omega arith; answers = omega arith; total = omega arith })
-standing-most p (suc i) =
-    let e : standing p (suc i) ≡ after (standing p i) (rowAt p i .kind) = ap (standing p) (omega arith) ∙ standing-next p i in
-    let h : AtMost (i + 1) (after (standing p i) (rowAt p i .kind)) = after-most i (standing p i) (rowAt p i .kind) (standing-most p i) in
+pub stateAt-most : (p : List ℕ) (i : ℕ) → AtMost i (stateAt p i)
+stateAt-most p zero = rw (stateAt-first p) (record { vars = omega arith; patterns = omega arith; answers = omega arith; total = omega arith })
+stateAt-most p (suc i) =
+    let e : stateAt p (suc i) ≡ after (stateAt p i) (rowAt p i .kind) = ap (stateAt p) (omega arith) ∙ stateAt-next p i in
+    let h : AtMost (i + 1) (after (stateAt p i) (rowAt p i .kind)) = after-most i (stateAt p i) (rowAt p i .kind) (stateAt-most p i) in
     rw e (rw (sym (one-more i)) h)
   where
     one-more : (j : ℕ) → j + 1 ≡ suc j
     one-more j = omega arith
 
-pub most-le : (i n : ℕ) (s : Standing) → i ≤ n → AtMost i s → AtMost n s
+pub most-le : (i n : ℕ) (s : State) → i ≤ n → AtMost i s → AtMost n s
 most-le i n s l h = record { vars = omega arith; patterns = omega arith; answers = omega arith; total = omega arith }
 
--- what a row that may stand there tells of the standing
-pub condition-stands : (s : Standing) (c : Predicate) → orderWrong s (kind.Condition c) ≡ false → (s .vars ≢ 0) × (namesBelow (s .vars) c ≡ true)
+-- what a row that may stand there tells of the state
+pub condition-stands : (s : State) (c : Predicate) → orderWrong s (kind.Condition c) ≡ false → (s .vars ≢ 0) × (namesBelow (s .vars) c ≡ true)
 condition-stands s c e =
     let w = neither (eqb (s .vars) 0) (not (namesBelow (s .vars) c)) e in
     (eqb-false (s .vars) 0 (w .0), not-false (namesBelow (s .vars) c) (w .1))
 
-pub end-stands : (s : Standing) → orderWrong s kind.End ≡ false → s .vars ≢ 0
+pub end-stands : (s : State) → orderWrong s kind.End ≡ false → s .vars ≢ 0
 end-stands s e = eqb-false (s .vars) 0 e
 
 -- an operator takes two answers
@@ -92,12 +93,12 @@ takes-two Both = refl
 takes-two Either = refl
 takes-two FirstNotSecond = refl
 
-pub operator-stands : (s : Standing) (o : Operator) → orderWrong s (kind.Operator o) ≡ false → (s .vars ≡ 0) × (takes o ≤ s .answers)
+pub operator-stands : (s : State) (o : Operator) → orderWrong s (kind.Operator o) ≡ false → (s .vars ≡ 0) × (takes o ≤ s .answers)
 operator-stands s o e =
     let w = neither (not (eqb (s .vars) 0)) (ltb (s .answers) (takes o)) e in
     (eqb-true (s .vars) 0 (not-false (eqb (s .vars) 0) (w .0)), ltb-false (s .answers) (takes o) (w .1))
 
-module _ (t : ℕ) (s : Standing) (p : List ℕ) (i : ℕ) where
+module _ (t : ℕ) (s : State) (p : List ℕ) (i : ℕ) where
   pub step-form : formWrongAt p i ≡ true → step t s p i ≡ Faulty fault.Form
   unfolding step
   step-form e = rw e
@@ -122,14 +123,14 @@ module _ (t : ℕ) (s : Standing) (p : List ℕ) (i : ℕ) where
         step-stands e = rw (formed, listed, few, e)
 
   -- a row that stands passes the four tests, and where it leads
-  pub step-right : (s′ : Standing) → step t s p i ≡ Stands s′ → (formWrongAt p i ≡ false) × (listWrong t (rowAt p i .kind) ≡ false) × (tooMany s (rowAt p i .kind) ≡ false) × (orderWrong s (rowAt p i .kind) ≡ false) × (s′ ≡ after s (rowAt p i .kind))
+  pub step-right : (s′ : State) → step t s p i ≡ Stands s′ → (formWrongAt p i ≡ false) × (listWrong t (rowAt p i .kind) ≡ false) × (tooMany s (rowAt p i .kind) ≡ false) × (orderWrong s (rowAt p i .kind) ≡ false) × (s′ ≡ after s (rowAt p i .kind))
   unfolding step
   step-right s′ e = go (formWrongAt p i) (listWrong t (rowAt p i .kind)) (tooMany s (rowAt p i .kind)) (orderWrong s (rowAt p i .kind)) (after s (rowAt p i .kind)) e
     where
       not-faulty : (why : Fault) → Faulty why ≡ Stands s′ → ⊥
       not-faulty why q = true≢false (ap faulty q)
 
-      go : (a b c d : Bool) (x : Standing) → cond a (Faulty fault.Form) (cond b (Faulty fault.List) (cond c (Faulty fault.TooMany) (cond d (Faulty fault.Order) (Stands x)))) ≡ Stands s′ → (a ≡ false) × (b ≡ false) × (c ≡ false) × (d ≡ false) × (s′ ≡ x)
+      go : (a b c d : Bool) (x : State) → cond a (Faulty fault.Form) (cond b (Faulty fault.List) (cond c (Faulty fault.TooMany) (cond d (Faulty fault.Order) (Stands x)))) ≡ Stands s′ → (a ≡ false) × (b ≡ false) × (c ≡ false) × (d ≡ false) × (s′ ≡ x)
       go true b c d x q = absurd (not-faulty fault.Form q)
       go false true c d x q = absurd (not-faulty fault.List q)
       go false false true d x q = absurd (not-faulty fault.TooMany q)
@@ -146,7 +147,7 @@ listWrong-decides t (kind.Condition c) = never
 listWrong-decides t kind.End = never
 listWrong-decides t (kind.Operator o) = never
 
-pub tooMany-decides : (s : Standing) (k : Kind) → Decides (tooMany s k) (Ninth s k)
+pub tooMany-decides : (s : State) (k : Kind) → Decides (tooMany s k) (Ninth s k)
 tooMany-decides s (kind.Voice list) = or-decides (leb-decides 8 (s .vars)) (and-decides (eqb-decides (s .vars) 0) (leb-decides 8 (s .patterns)))
 tooMany-decides s (kind.Condition c) = never
 tooMany-decides s kind.End = never
@@ -165,7 +166,7 @@ namesBelow-decides n (Ordered a b) = missing n a b
 namesBelow-decides n (Samepara a b) = missing n a b
 namesBelow-decides n (Window limit) = never
 
-pub orderWrong-decides : (s : Standing) (k : Kind) → Decides (orderWrong s k) (WrongOrder s k)
+pub orderWrong-decides : (s : State) (k : Kind) → Decides (orderWrong s k) (WrongOrder s k)
 orderWrong-decides s (kind.Voice list) = record { yes = λ e. e; no = λ e f. contrary f e }
 orderWrong-decides s (kind.Condition c) = or-decides (eqb-decides (s .vars) 0) (namesBelow-decides (s .vars) c)
 orderWrong-decides s kind.End = eqb-decides (s .vars) 0
