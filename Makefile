@@ -1,6 +1,8 @@
 # make          proves every crate, builds the program, the library, the Rust package and the command, and prints the
 #               sample listing
 # make test     the gate (rt ci), then every other test; the last line is the gate's own, if all passed
+# make mutants  tries the edits crates/*/mutants/*.edit, which the gate passes over: the prover must refuse each. CRATES="volume
+#               plan" tries those of some crates alone
 # make bench    times the library beside plain Rust and beside a copy
 # make soak     random and damaged input beside the naive searcher, for ten minutes or as SECONDS=60 says
 # make install  copies the command, the header and the library to bin/, include/ and lib/ of PREFIX
@@ -9,7 +11,7 @@
 SHELL := bash
 .SHELLFLAGS := -euo pipefail -c
 .NOTPARALLEL:
-.PHONY: all test bench soak install clean
+.PHONY: all test mutants bench soak install clean
 
 PREFIX := /usr/local
 CARGO := cargo
@@ -19,6 +21,7 @@ WARNINGS := -Wall -Wextra -Werror
 GATE_LOG := build/ci.log
 LIBRARY_LOG := build/staticlib.log
 SECONDS := 600
+CRATES :=
 
 all:
 	rt check
@@ -39,6 +42,9 @@ test:
 	$(CARGO) test --release $(PACKAGE)
 	$(CARGO) test --release $(PACKAGE) --bench volume --bench search
 	@tail -n 1 $(GATE_LOG)
+
+mutants:
+	tools/mutants $(CRATES)
 
 bench:
 	rt staticlib lihambozy
