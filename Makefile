@@ -11,24 +11,34 @@
 SHELL := bash
 .SHELLFLAGS := -euo pipefail -c
 .NOTPARALLEL:
-.PHONY: all test mutants bench soak install clean
+.DELETE_ON_ERROR:
+.PHONY: all proved test mutants bench soak install clean
 
 PREFIX := /usr/local
 CARGO := cargo
 PACKAGE := --manifest-path rust/Cargo.toml --offline --locked
 HEADER := include/lihambozy.h
+LIBRARY := target/staticlib/liblihambozy.a
+# What the library is made of. A folder is newer than the library where a file has gone.
+SOURCES := crates.txt $(shell find crates \( -name must-fail -o -name mutants \) -prune -o -print)
 WARNINGS := -Wall -Wextra -Werror
 GATE_LOG := build/ci.log
 LIBRARY_LOG := build/staticlib.log
 SECONDS := 600
 CRATES :=
 
-all:
-	rt check
-	rt staticlib lihambozy
+all: proved $(LIBRARY)
 	$(CARGO) build --release $(PACKAGE)
 	cd crates/lister/data && ../../../target/bin/lister
 	@echo 'the command: rust/target/release/lhz'
+
+# Proves the crates that have changed since they were proved last.
+proved:
+	rt check
+
+# `rt staticlib` proves its crate each time.
+$(LIBRARY): $(SOURCES)
+	rt staticlib lihambozy
 
 # `rt ci` removes target/: its log is kept in build/, and the library is built after it.
 test:
@@ -46,12 +56,10 @@ test:
 mutants:
 	tools/mutants $(CRATES)
 
-bench:
-	rt staticlib lihambozy
+bench: $(LIBRARY)
 	$(CARGO) bench --no-fail-fast $(PACKAGE) --bench volume --bench search
 
-soak:
-	rt staticlib lihambozy
+soak: $(LIBRARY)
 	$(CARGO) test --release $(PACKAGE) --test soak -- --seconds $(SECONDS)
 
 install:
