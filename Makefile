@@ -12,7 +12,7 @@ SHELL := bash
 .SHELLFLAGS := -euo pipefail -c
 .NOTPARALLEL:
 .DELETE_ON_ERROR:
-.PHONY: all proved test mutants bench soak install clean
+.PHONY: all tools proved test mutants bench soak install clean
 
 PREFIX := /usr/local
 CARGO := cargo
@@ -27,10 +27,21 @@ LIBRARY_LOG := build/staticlib.log
 SECONDS := 600
 CRATES :=
 
-all: proved $(LIBRARY)
+all: tools proved $(LIBRARY)
 	$(CARGO) build --release $(PACKAGE)
 	cd crates/lister/data && ../../../target/bin/lister
 	@echo 'the command: rust/target/release/lhz'
+
+# Says which tools are missing, before anything is proved.
+tools:
+	@missing=0; \
+	need() { command -v "$$1" >/dev/null || { echo "make: $$1 is missing: $$2" >&2; missing=1; }; }; \
+	need rt 'the Rattle toolchain, which proves and compiles the crates'; \
+	need '$(CARGO)' 'it builds the Rust package and the command, and runs the tests'; \
+	for compiler in $(sort cc $(firstword $(CC))); do \
+	    need $$compiler 'the C compiler, for the link of the Rust package and for programs in C'; \
+	done; \
+	exit $$missing
 
 # Proves the crates that have changed since they were proved last.
 proved:
@@ -41,7 +52,7 @@ $(LIBRARY): $(SOURCES)
 	rt staticlib lihambozy
 
 # `rt ci` removes target/: its log is kept in build/, and the library is built after it.
-test:
+test: tools
 	mkdir -p build
 	rt ci 2>&1 | tee $(GATE_LOG) || { echo 'rt ci failed'; exit 1; }
 	awk -v assumed='$(ASSUMED)' "$$ASSUME_NOTHING" crates.txt $(GATE_LOG)
@@ -56,10 +67,10 @@ test:
 mutants:
 	tools/mutants $(CRATES)
 
-bench: $(LIBRARY)
+bench: tools $(LIBRARY)
 	$(CARGO) bench --no-fail-fast $(PACKAGE) --bench volume --bench search
 
-soak: $(LIBRARY)
+soak: tools $(LIBRARY)
 	$(CARGO) test --release $(PACKAGE) --test soak -- --seconds $(SECONDS)
 
 install:
