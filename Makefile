@@ -3,20 +3,24 @@
 # make test     the gate (rt ci), then every other test; the last line is the gate's own, if all passed
 # make mutants  tries the edits crates/*/mutants/*.edit, which the gate passes over: the prover must refuse each. CRATES="volume
 #               plan" tries those of some crates alone
-# make bench    times the library beside plain Rust and beside a copy
+# make bench    times the library beside a yardstick in Rust and beside a copy
 # make soak     random and damaged input beside the naive searcher, for ten minutes or as SECONDS=60 says
-# make install  copies the command, the header and the library to bin/, include/ and lib/ of PREFIX
+# make install  copies the command, the header and the library to bin/, include/ and lib/ of PREFIX, below DESTDIR if that is
+#               given; make uninstall removes them
 # make clean    removes all that these made
 
 SHELL := bash
 .SHELLFLAGS := -euo pipefail -c
 .NOTPARALLEL:
 .DELETE_ON_ERROR:
-.PHONY: all tools proved test mutants bench soak install clean
+.PHONY: all tools proved test mutants bench soak install uninstall clean
 
 PREFIX := /usr/local
+# The folder to install into, quoted for the shell.
+INTO = '$(subst ','\'',$(DESTDIR)$(PREFIX))'
 CARGO := cargo
 PACKAGE := --manifest-path rust/Cargo.toml --offline --locked
+COMMAND := rust/target/release/lhz
 HEADER := include/lihambozy.h
 LIBRARY := target/staticlib/liblihambozy.a
 # What the library is made of. A folder is newer than the library where a file has gone.
@@ -74,10 +78,16 @@ soak: tools $(LIBRARY)
 	$(CARGO) test --release $(PACKAGE) --test soak -- --seconds $(SECONDS)
 
 install:
-	install -d $(DESTDIR)$(PREFIX)/bin $(DESTDIR)$(PREFIX)/include $(DESTDIR)$(PREFIX)/lib
-	install rust/target/release/lhz $(DESTDIR)$(PREFIX)/bin
-	install -m 644 $(HEADER) $(DESTDIR)$(PREFIX)/include
-	install -m 644 target/staticlib/liblihambozy.a $(DESTDIR)$(PREFIX)/lib
+	@for file in $(COMMAND) $(LIBRARY); do \
+	    test -f $$file || { echo "make: $$file is absent: run make first" >&2; exit 1; }; \
+	done
+	install -d $(INTO)/bin $(INTO)/include $(INTO)/lib
+	install $(COMMAND) $(INTO)/bin
+	install -m 644 $(HEADER) $(INTO)/include
+	install -m 644 $(LIBRARY) $(INTO)/lib
+
+uninstall:
+	rm -f $(INTO)/bin/$(notdir $(COMMAND)) $(INTO)/include/$(notdir $(HEADER)) $(INTO)/lib/$(notdir $(LIBRARY))
 
 clean:
 	rm -rf target build rust/target

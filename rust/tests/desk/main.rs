@@ -1,5 +1,5 @@
-//! What lies on a reader's desk: the guide, the header and the example in C, and the program
-//! `lister`.
+//! What lies on a reader's desk: the guide, the header and the example in C, the program
+//! `lister`, and the Makefile.
 
 #[path = "../plain/mod.rs"]
 mod plain;
@@ -10,3 +10,4 @@ mod c_example;
 mod guide;
 mod header;
 mod lister;
+mod make;
