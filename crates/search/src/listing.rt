@@ -12,14 +12,14 @@ ghost use Rattle.search.specs.Search.{Kept};
 ghost use Rattle.matcher.specs.Tables.{Cursors};
 ghost use Rattle.search.specs.Walk.{Walks};
 use super::answers::Listed;
-use super::setup::has_samepara;
 use super::setup::set_cursors;
 use super::walk::Walk;
 use super::walk::visit;
 use matcher::Cursor;
-use matcher::lay_out;
 use matcher::starts_of;
 use plan::Checked;
+use plan::has_samepara;
+use plan::lay_out;
 
 // Copies the first n words of a row into out from `to` on.
 fn put_row(row: &[u32], n: usize, out: &mut [u32], to: usize)

@@ -10,14 +10,14 @@ ghost use Rattle.plan.specs.Check.{sizes};
 ghost use Rattle.plan.specs.Accepted.{patternAt};
 ghost use Rattle.fulltext.specs.Documents.{found, shownIn, rowIn};
 ghost use Rattle.matcher.specs.Cursors.{Stretch, listEnd, Stands};
-ghost use Rattle.search.specs.Flags.{flagOf, Flags};
+ghost use Rattle.plan.specs.Inner.Stack.{flagOf, Flags};
 ghost use Rattle.matcher.specs.Settling.{Ready, Candidate};
 ghost use Rattle.search.specs.Walk.{Pending, Brought, LeastDoc, Walks, Walking, Visited};
 use super::align::align;
-use super::answering::answer_of;
 use matcher::Cursor;
 use matcher::settle;
 use matcher::show;
+use plan::answer_of;
 
 // Where a walk goes on: the document from which on, whether no pattern has a document yet, a cursor
 // on list 0 that has not passed it, and whether that cursor is asked for.

@@ -28,13 +28,14 @@ use Rattle.fulltext.specs.Positions.{limit}
 use Rattle.fulltext.specs.Documents.{found, matching, rowIn, workOf, work}
 use Rattle.fulltext.proofs.Laws.Skips.{matching-none}
 use Rattle.matcher.specs.Cursors.{seekFrom, Stretch, listEnd, Stands, listCursor}
-use Rattle.matcher.specs.Tables.{Tabled, varAt, Placed, Cursors}
+use Rattle.plan.specs.Inner.Outline.{Tabled}
+use Rattle.matcher.specs.Tables.{varAt, Placed, Cursors}
 use Rattle.matcher.specs.Settling.{Candidate, Ready}
 use Rattle.matcher.proofs.Laws.Cursors.{seek-ge, seek-le, seek-below}
 use Rattle.matcher.proofs.Laws.Volume.{list-stretch}
-use Rattle.matcher.proofs.Laws.Tables.{vars-within}
+use Rattle.plan.proofs.Laws.Outline.{vars-within}
 use Rattle.search.specs.declared.walk.Seen.{Seen}
-use Rattle.search.specs.Flags.{Flags}
+use Rattle.plan.specs.Inner.Stack.{Flags}
 use Rattle.search.specs.Walk.{Stood, Pending, Brought, LeastDoc, Walks, Walking, Visited}
 use Rattle.search.proofs.Laws.Tally.{var-there}
 
