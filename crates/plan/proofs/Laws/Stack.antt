@@ -21,14 +21,14 @@ use Rattle.plan.specs.declared.row.Operator.{Operator}
 use Rattle.plan.specs.declared.row.Operator.the-variants.{Both, Either, FirstNotSecond}
 use Rattle.plan.specs.declared.row.Kind.{Kind}
 use Rattle.plan.specs.declared.row.Kind.the-variants as kind
-use Rattle.plan.specs.declared.standing.Standing.{Standing}
+use Rattle.plan.specs.declared.state.State.{State}
 use Rattle.plan.specs.declared.row.Row.{Row}
 use Rattle.plan.specs.Rows.{rowCount, rowAt, rowsOf}
-use Rattle.plan.specs.Standing.{takes, after, standing, orderWrong}
+use Rattle.plan.specs.State.{takes, after, stateAt, orderWrong}
 use Rattle.plan.specs.Patterns.{Pattern, noRow, openAfter, closed, patternsFrom, operate, answersAfter, answersFrom, answer}
 use Rattle.plan.specs.Check.{sizes}
 use Rattle.plan.specs.Inner.Stack.{flagOf, bitsOf, foundBits, joinsTwo}
-use Rattle.plan.proofs.Laws.Standing.{standing-first, standing-next, takes-two, operator-stands}
+use Rattle.plan.proofs.Laws.State.{stateAt-first, stateAt-next, takes-two, operator-stands}
 use Rattle.plan.proofs.Laws.Patterns.{operate-length}
 
 flag-le : (t : Bool) → flagOf t ≤ 1
@@ -110,7 +110,7 @@ pub record Reading (p : List ℕ) (bits stack rest i : ℕ) : Type 0 where
   pub opened : Pattern
   pub answers : List Bool
   pub stack-is : stack ≡ bitsOf answers
-  pub count : length answers ≡ standing p i .answers
+  pub count : length answers ≡ stateAt p i .answers
   pub few : length answers + length (patternsFrom opened (rowsFrom p i)) ≤ sizes p .patterns
   pub rest-is : (found : Pattern → Bool) → bits ≡ foundBits found p → rest ≡ bitsOf (map found (patternsFrom opened (rowsFrom p i)))
   pub leads :
@@ -127,7 +127,7 @@ reading-first p bits =
       opened = noRow;
       answers = [];
       stack-is = refl;
-      count = ap (λ (s : Standing). s .answers) (sym (standing-first p));
+      count = ap (λ (s : State). s .answers) (sym (stateAt-first p));
       few = let n = ap length patterns in omega arith;
       rest-is = λ found f. f ∙ ap (λ (fs : List Pattern). bitsOf (map found fs)) (sym patterns);
       leads = λ found f. ap (λ (m : ℕ). answersFrom found noRow [] (run (rowAt p) 0 m)) e;
@@ -160,7 +160,7 @@ module _ (p : List ℕ) (bits stack rest i : ℕ) (r : Reading p bits stack rest
           ∙ ap (λ (y : Kind). closed (r .opened) y ++ patternsFrom (openAfter (r .opened) y) (rowsFrom p (i + 1))) e
 
       next :
-          (stack′ rest′ : ℕ) (ts : List Bool) → stack′ ≡ bitsOf ts → length ts ≡ after (standing p i) x .answers
+          (stack′ rest′ : ℕ) (ts : List Bool) → stack′ ≡ bitsOf ts → length ts ≡ after (stateAt p i) x .answers
           → length ts + length patternsNext ≤ sizes p .patterns
           → ((found : Pattern → Bool) → bits ≡ foundBits found p → rest′ ≡ bitsOf (map found patternsNext))
           → ((found : Pattern → Bool) → bits ≡ foundBits found p → answersAfter found (r .opened) (r .answers) x ≡ ts)
@@ -171,7 +171,7 @@ module _ (p : List ℕ) (bits stack rest i : ℕ) (r : Reading p bits stack rest
         opened = openAfter (r .opened) x;
         answers = ts;
         stack-is = stack-is;
-        count = count ∙ ap (λ (y : Kind). after (standing p i) y .answers) (sym e) ∙ ap (λ (s : Standing). s .answers) (sym (standing-next p i));
+        count = count ∙ ap (λ (y : Kind). after (stateAt p i) y .answers) (sym e) ∙ ap (λ (s : State). s .answers) (sym (stateAt-next p i));
         few = few;
         rest-is = rest-is;
         leads = λ found f.
@@ -223,14 +223,14 @@ module _ (p : List ℕ) (bits stack rest i : ℕ) (r : Reading p bits stack rest
 
     -- an operator, which makes the bits those of its answers
     pub reading-operate :
-        (o : Operator) → rowAt p i .kind ≡ kind.Operator o → orderWrong (standing p i) (rowAt p i .kind) ≡ false
+        (o : Operator) → rowAt p i .kind ≡ kind.Operator o → orderWrong (stateAt p i) (rowAt p i .kind) ≡ false
         → (stack′ : ℕ) → ((ts : List Bool) → 2 ≤ length ts → stack ≡ bitsOf ts → stack′ ≡ bitsOf (operate o ts))
         → Reading p bits stack′ rest (i + 1)
     reading-operate o e ordered stack′ operates =
         let x = kind.Operator o in
         let t = takes-two o in
         let c = r .count in
-        let w = operator-stands (standing p i) o (rw e at ordered) .1 in
+        let w = operator-stands (stateAt p i) o (rw e at ordered) .1 in
         let m = operate-length o (r .answers) (omega arith) in
         let f = few-same x e refl in
         next x e stack′ rest (operate o (r .answers)) (operates (r .answers) (omega arith) (r .stack-is))
