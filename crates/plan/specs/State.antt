@@ -20,6 +20,7 @@ use Rattle.plan.specs.declared.row.Row.{Row}
 use Rattle.plan.specs.declared.state.State.{State}
 use Rattle.plan.specs.declared.state.Step.{Step}
 use Rattle.plan.specs.declared.state.Step.the-variants.{Stands, Faulty}
+use Rattle.plan.specs.Limits.{mostPatterns, mostPatternVars}
 use Rattle.plan.specs.Rows.{rowAt, rowsBefore, formWrongAt}
 
 -- in front of row 0: no pattern open, nothing stacked
@@ -64,7 +65,7 @@ listWrong t (kind.Operator o) = false
 
 -- 12: a ninth variable, or a VOICE that would open a ninth pattern
 abbrev pub tooMany : State → Kind → Bool
-tooMany s (kind.Voice list) = leb 8 (s .vars) || (eqb (s .vars) 0 && leb 8 (s .patterns))
+tooMany s (kind.Voice list) = leb mostPatternVars (s .vars) || (eqb (s .vars) 0 && leb mostPatterns (s .patterns))
 tooMany s (kind.Condition c) = false
 tooMany s kind.End = false
 tooMany s (kind.Operator o) = false

@@ -10,6 +10,7 @@ use Rattle.seq.proofs.Laws.Numbers.{first-hit, first-miss, first-end}
 use Rattle.plan.specs.declared.state.State.{State}
 use Rattle.plan.specs.declared.state.Step.the-variants.{Stands, Faulty}
 use Rattle.plan.specs.Answers.{Sizes}
+use Rattle.plan.specs.Limits.{mostRows}
 use Rattle.plan.specs.Rows.{rowCount}
 use Rattle.plan.specs.State.{stateAt, step}
 use Rattle.plan.specs.Check.{rowWrong, badRow}
@@ -49,7 +50,7 @@ row-step-requires : tie.Need-row-step-requires Inv-loop μ-loop
 row-step-requires c κs =
     let l = c .before .loop in
     let p = now (c .before .before .before .args .plan) in
-    (omega arith, rw (l .inv .0) (most-le (l .i) 63 (stateAt p (l .i)) (omega arith) (stateAt-most p (l .i))))
+    (omega arith, rw (l .inv .0) (most-le (l .i) mostRows (stateAt p (l .i)) (omega arith) (stateAt-most p (l .i))))
 
 enum-known-stepped : tie.Need-enum-known-stepped Inv-loop μ-loop
 enum-known-stepped c = omega arith

@@ -1,19 +1,20 @@
--- `listing::least_of` meets its contract. The loop's invariant: `least` is the least of the first k documents. The measure is what is left of n. Assumes nothing.
+-- The loop's invariant: `least` is the least of the first k documents. The measure is what is left of the documents.
 use native.Mathlib.Omega.{arith}
 use Prim.Native.Nat.{_-_, _≤_}
 use mathlib.Core.Path.{_≡_}
 use mathlib.Core.Logic.{⊎-elim}
+use lib.ListN.{length}
 use denote.Ref.{now}
 use Rattle.search.specs.Walk.{LeastDoc}
 use Rattle.search.proofs.Laws.Tally.{least-first, least-lower, least-same}
-use Rattle.search.proofs.listing.least_of.Statement.{statement}
-use Rattle.search.proofs.listing.least_of.Tie as tie
+use Rattle.search.proofs.walk.least_of.Statement.{statement}
+use Rattle.search.proofs.walk.least_of.Tie as tie
 
 abbrev Inv-loop : tie.InvT-loop
-Inv-loop docs n least₀ k₀ least k = (k ≤ n) × LeastDoc docs k least
+Inv-loop docs least₀ k₀ least k = (k ≤ length docs) × LeastDoc docs k least
 
 abbrev μ-loop : tie.MeasureT-loop
-μ-loop docs n least₀ k₀ least k = n - k
+μ-loop docs least₀ k₀ least k = length docs - k
 
 loop-holds : tie.Need-loop-holds Inv-loop μ-loop
 loop-holds c = (omega arith, least-first (now (c .args .docs)))
@@ -39,7 +40,7 @@ loop-again c =
 returns : tie.Need-returns Inv-loop μ-loop
 returns c =
     let l = c .before .loop in
-    let e : l .k ≡ c .before .before .args .n = omega arith in
+    let e : l .k ≡ length (now (c .before .before .args .docs)) = omega arith in
     rw e at (l .inv .1)
 
 pub least-of-spec : {M : Type 1} → statement M
