@@ -7,7 +7,7 @@ use mathlib.Core.List.{List, [], _∷_, _++_}
 use lib.ListN.{length}
 use Rattle.seq.specs.Lists.{total, NotRising}
 use Rattle.block.specs.Checksum.{checkA, checkB}
-use Rattle.volume.specs.Layout.{blocks, streamLength, blockNumber, covered, storedA, storedB, word, version, listCount, count, extent, postingsOf}
+use Rattle.volume.specs.Layout.{blocks, streamLength, blockNumber, covered, storedA, storedB, word, version, listCount, count, extentOf, extent, postingsOf}
 use Rattle.volume.specs.Write.{givenList}
 
 -- n is the least number of blocks that holds w stream words, 126 to a block
@@ -52,9 +52,9 @@ pub data WriteApplies (counts postings : List ℕ) (room : ℕ) : ℕ → ℕ �
   -- 7: a given list does not rise; place: list
   wrongGiven : (i : ℕ) → i < length counts → NotRising (givenList counts postings i) → WriteApplies counts postings room 7 i
   -- 19: more than 1,032,192 stream words
-  overLarge : 1032192 < 2 + length counts + length postings → WriteApplies counts postings room 19 0
+  overLarge : 1032192 < extentOf (length counts) (length postings) → WriteApplies counts postings room 19 0
   -- 20: output shorter than the volume
-  outputShort : (n : ℕ) → LeastBlocks (2 + length counts + length postings) n → room < 512 * n → WriteApplies counts postings room 20 0
+  outputShort : (n : ℕ) → LeastBlocks (extentOf (length counts) (length postings)) n → room < 512 * n → WriteApplies counts postings room 20 0
 
 -- the stages of the calls; 2 and 3 share one, so that blocks go upward, 2 before 3 in each
 abbrev pub volumeStages : List (List ℕ)

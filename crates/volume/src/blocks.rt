@@ -4,6 +4,8 @@ ghost use Prim.Native.Nat.{_*_, _<_, _≤_};
 ghost use Rattle.volume.specs.Layout.{blocks, Whole};
 ghost use Rattle.volume.specs.Check.{numberWrong, checksumWrong, badBlock};
 ghost use Rattle.volume.specs.Falls.{fallsBefore};
+use super::layout::BLOCK_BYTES;
+use super::layout::BLOCK_WORDS;
 use super::order::fall_at;
 use super::order::falls_in;
 use block::block_sums;
@@ -21,7 +23,7 @@ pub fn number_wrong(volume: &[u8], k: usize) -> bool
     requires { ⌜ k < blocks (now volume) ⌝ }
     ensures { λ r. ⌜ r ≡ numberWrong (now (volume .entry)) k ⌝ }
 {
-    read32(volume, 512 * k) as usize != k
+    read32(volume, BLOCK_BYTES * k) as usize != k
 }
 
 // Whether the checksum of block k is wrong.
@@ -29,7 +31,7 @@ fn checksum_wrong(volume: &[u8], k: usize) -> bool
     requires { ⌜ k < blocks (now volume) ⌝ }
     ensures { λ r. ⌜ r ≡ checksumWrong (now (volume .entry)) k ⌝ }
 {
-    let from = 512 * k;
+    let from = BLOCK_BYTES * k;
     let sums = block_sums(volume, from);
     if read16(volume, from + 508) != sums.a {
         return true;
@@ -42,7 +44,7 @@ pub fn check_blocks(volume: &[u8]) -> Pass
     requires { ⌜ Whole (now volume) × (blocks (now volume) ≤ 8192) ⌝ }
     ensures { λ r. ⌜ (r .bad ≡ badBlock (now (volume .entry))) × (r .falls ≡ fallsBefore (now (volume .entry)) (126 * r .bad)) × (r .bad ≤ blocks (now (volume .entry))) ⌝ }
 {
-    let n = volume.len() / 512;
+    let n = volume.len() / BLOCK_BYTES;
     let mut falls: usize = 0;
     let mut k: usize = 0;
     while k < n {
@@ -53,7 +55,7 @@ pub fn check_blocks(volume: &[u8]) -> Pass
             return Pass { bad: k, falls };
         }
         falls += falls_in(volume, k) as usize;
-        falls += fall_at(volume, 126 * k + 125) as usize;
+        falls += fall_at(volume, BLOCK_WORDS * k + 125) as usize;
         k += 1;
     }
     Pass { bad: n, falls }

@@ -12,6 +12,10 @@ ghost use Rattle.volume.specs.Layout.{blocks, word, listCount, extent, W
 ghost use Rattle.volume.specs.Check.{badList};
 ghost use Rattle.volume.specs.Falls.{fallOf, fall, fallsBefore};
 ghost use Rattle.volume.specs.Falls.{ListFalls};
+use super::layout::BLOCK_BYTES;
+use super::layout::BLOCK_WORDS;
+use super::layout::lead;
+use super::stream::count_at;
 use super::stream::word_at;
 use block::read32;
 
@@ -27,7 +31,7 @@ pub fn falls_in(volume: &[u8], k: usize) -> u32
     requires { ⌜ k < blocks (now volume) ⌝ }
     ensures { λ r. ⌜ (fallsBefore (now (volume .entry)) (126 * k) + r ≡ fallsBefore (now (volume .entry)) (126 * k + 125)) × (r ≤ 125) ⌝ }
 {
-    let from = 512 * k + 4;
+    let from = BLOCK_BYTES * k + 4;
     let mut n: u32 = 0;
     let mut i: usize = 0;
     while i < 125 {
@@ -44,7 +48,7 @@ pub fn fall_at(volume: &[u8], i: usize) -> u32
     ensures { λ r. ⌜ (r ≡ fall (word (now (volume .entry))) i) × (r ≤ 1) ⌝ }
 {
     let next = i + 1;
-    if next == 126 * (volume.len() / 512) {
+    if next == BLOCK_WORDS * (volume.len() / BLOCK_BYTES) {
         return 1;
     }
     fall_of(word_at(volume, i), word_at(volume, next))
@@ -70,10 +74,10 @@ fn list_falls(volume: &[u8], lists: usize) -> usize
     ensures { λ r. ⌜ ListFalls (now (volume .entry)) r ⌝ }
 {
     let mut n: usize = 0;
-    let mut end: usize = 2 + lists;
+    let mut end: usize = lead(lists);
     let mut i: usize = 0;
     while i < lists {
-        let size = word_at(volume, 2 + i) as usize;
+        let size = count_at(volume, i) as usize;
         end += size;
         if 0 < size {
             n += fall_at(volume, end - 1) as usize;
@@ -110,10 +114,10 @@ fn walk_lists(volume: &[u8], lists: usize) -> usize
     requires { ⌜ (lists ≡ listCount (now volume)) × (lists ≤ 1024) × (extent (now volume) ≤ streamLength (now volume)) ⌝ }
     ensures { λ r. ⌜ r ≡ badList (now (volume .entry)) ⌝ }
 {
-    let mut start: usize = 2 + lists;
+    let mut start: usize = lead(lists);
     let mut i: usize = 0;
     while i < lists {
-        let size = word_at(volume, 2 + i) as usize;
+        let size = count_at(volume, i) as usize;
         if !rising(volume, start, size) {
             return i;
         }
@@ -128,8 +132,8 @@ pub fn bad_list(volume: &[u8], lists: usize, used: usize, all: usize) -> usize
     requires { ⌜ Whole (now volume) × (lists ≡ listCount (now volume)) × (lists ≤ 1024) × (used ≡ extent (now volume)) × (used ≤ streamLength (now volume)) × (all ≡ fallsBefore (now volume) (streamLength (now volume))) ⌝ }
     ensures { λ r. ⌜ r ≡ badList (now (volume .entry)) ⌝ }
 {
-    let end = 126 * (volume.len() / 512);
-    let head = falls_from(volume, 0, 2 + lists);
+    let end = BLOCK_WORDS * (volume.len() / BLOCK_BYTES);
+    let head = falls_from(volume, 0, lead(lists));
     let tail = falls_from(volume, used, end);
     if head + list_falls(volume, lists) + tail == all {
         return lists;

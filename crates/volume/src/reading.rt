@@ -11,14 +11,11 @@ ghost use Rattle.volume.specs.Read.{readAnswer, readOut};
 use super::answers::Checked;
 use super::answers::ListRead;
 use super::checking::check;
+use super::layout::Span;
+use super::layout::lead;
+use super::stream::count_at;
 use super::stream::count_sum;
 use super::stream::word_at;
-
-// Where a list lies: the stream index of its first posting, and how many it has.
-pub struct Span {
-    pub start: usize,
-    pub count: usize,
-}
 
 // The span of a list of an accepted volume.
 pub fn list_span(volume: &[u8], list: usize) -> Span
@@ -27,8 +24,8 @@ pub fn list_span(volume: &[u8], list: usize) -> Span
 {
     let lists = word_at(volume, 1) as usize;
     let before = count_sum(volume, list) as usize;
-    let count = word_at(volume, 2 + list) as usize;
-    let start = 2 + lists + before;
+    let count = count_at(volume, list) as usize;
+    let start = lead(lists) + before;
     Span { start, count }
 }
 

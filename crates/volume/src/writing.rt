@@ -11,6 +11,12 @@ ghost use Rattle.seq.specs.Numbers.{run, sumTo};
 ghost use Rattle.volume.specs.Answers.{saidWritten};
 ghost use Rattle.volume.specs.Write.{wordBytes, blockBody, sealed, blocksFrom, streamOf, badGiven, writeAnswer, writeOut};
 use super::answers::Written;
+use super::layout::BLOCK_BYTES;
+use super::layout::BLOCK_WORDS;
+use super::layout::MAX_LISTS;
+use super::layout::MAX_WORDS;
+use super::layout::extent_of;
+use super::layout::lead;
 use super::order::fall_of;
 use block::block_sums;
 use block::put16;
@@ -76,11 +82,12 @@ fn stream_word(counts: &[u32], postings: &[u32], i: usize) -> u32
     if i == 1 {
         return lists as u32;
     }
-    let list = i - 2;
-    if list < lists {
+    let front = lead(lists);
+    if i < front {
+        let list = i - lead(0);
         return counts[list];
     }
-    let j = list - lists;
+    let j = i - front;
     if j < postings.len() {
         return postings[j];
     }
@@ -93,7 +100,7 @@ fn put_words(counts: &[u32], postings: &[u32], first: usize, out: &mut [u8])
     ensures { λ _. ⌜ now (out .exit) ≡ take 4 (now (out .entry)) ++ wordBytes (at (streamOf (now (counts .entry)) (now (postings .entry)))) first 126 ++ drop 508 (now (out .entry)) ⌝ }
 {
     let mut j: usize = 0;
-    while j < 126 {
+    while j < BLOCK_WORDS {
         let x = stream_word(counts, postings, first + j);
         let to = 4 + 4 * j;
         put32(out, to, x);
@@ -107,7 +114,7 @@ fn put_postings(postings: &[u32], from: usize, out: &mut [u8])
     ensures { λ _. ⌜ now (out .exit) ≡ take 4 (now (out .entry)) ++ wordBytes (at (now (postings .entry))) from 126 ++ drop 508 (now (out .entry)) ⌝ }
 {
     let mut j: usize = 0;
-    while j < 126 {
+    while j < BLOCK_WORDS {
         let x = postings[from + j];
         let to = 4 + 4 * j;
         put32(out, to, x);
@@ -121,10 +128,10 @@ fn put_stream(counts: &[u32], postings: &[u32], first: usize, out: &mut [u8])
     requires { ⌜ (length (now counts) ≤ 1024) × (first ≤ 1032192) × (length (now out) ≡ 512) ⌝ }
     ensures { λ _. ⌜ now (out .exit) ≡ take 4 (now (out .entry)) ++ wordBytes (at (streamOf (now (counts .entry)) (now (postings .entry)))) first 126 ++ drop 508 (now (out .entry)) ⌝ }
 {
-    let lead = 2 + counts.len();
-    if lead <= first {
-        let from = first - lead;
-        if from + 126 <= postings.len() {
+    let front = lead(counts.len());
+    if front <= first {
+        let from = first - front;
+        if from + BLOCK_WORDS <= postings.len() {
             put_postings(postings, from, out);
             return;
         }
@@ -148,7 +155,7 @@ fn put_block(counts: &[u32], postings: &[u32], k: usize, out: &mut [u8])
     ensures { λ _. ⌜ now (out .exit) ≡ sealed (blockBody (at (streamOf (now (counts .entry)) (now (postings .entry)))) k) ⌝ }
 {
     put32(out, 0, k as u32);
-    put_stream(counts, postings, 126 * k, out);
+    put_stream(counts, postings, BLOCK_WORDS * k, out);
     seal(out);
 }
 
@@ -159,8 +166,8 @@ fn put_blocks(counts: &[u32], postings: &[u32], from: usize, to: usize, out: &mu
 {
     let mut k = from;
     while k < to {
-        let start = 512 * k;
-        let end = start + 512;
+        let start = BLOCK_BYTES * k;
+        let end = start + BLOCK_BYTES;
         put_block(counts, postings, k, &mut out[start..end]);
         k += 1;
     }
@@ -180,9 +187,9 @@ fn put_volume(counts: &[u32], postings: &[u32], n: usize, out: &mut [u8])
     requires { ⌜ (length (now counts) ≤ 1024) × (n ≤ 8192) × (512 * n ≤ length (now out)) ⌝ }
     ensures { λ _. ⌜ now (out .exit) ≡ blocksFrom (at (streamOf (now (counts .entry)) (now (postings .entry)))) 0 n ++ drop (512 * n) (now (out .entry)) ⌝ }
 {
-    let lead = 2 + counts.len();
-    let full = least((lead + postings.len()) / 126, n);
-    let first = least((lead + 125) / 126, full);
+    let front = lead(counts.len());
+    let full = least((front + postings.len()) / BLOCK_WORDS, n);
+    let first = least((front + 125) / BLOCK_WORDS, full);
     put_blocks(counts, postings, 0, first, out);
     put_blocks(counts, postings, first, full, out);
     put_blocks(counts, postings, full, n, out);
@@ -194,7 +201,7 @@ pub fn write(counts: &[u32], postings: &[u32], out: &mut [u8]) -> Written
     ensures { λ r. ⌜ (saidWritten r ≡ writeAnswer (now (counts .entry)) (now (postings .entry)) (length (now (out .entry)))) × (now (out .exit) ≡ writeOut (now (counts .entry)) (now (postings .entry)) (now (out .entry))) ⌝ }
 {
     let lists = counts.len();
-    if lists < 1 || lists > 1024 {
+    if lists < 1 || lists > MAX_LISTS {
         return Written::ListCount;
     }
     if sum_of(counts) != postings.len() as u64 {
@@ -205,12 +212,12 @@ pub fn write(counts: &[u32], postings: &[u32], out: &mut [u8]) -> Written
         let list = bad as u32;
         return Written::Order(list);
     }
-    let words = 2 + lists + postings.len();
-    if words > 1032192 {
+    let words = extent_of(lists, postings.len());
+    if words > MAX_WORDS {
         return Written::TooLarge;
     }
-    let n = (words + 125) / 126;
-    let size = 512 * n;
+    let n = (words + 125) / BLOCK_WORDS;
+    let size = BLOCK_BYTES * n;
     if out.len() < size {
         return Written::Short;
     }

@@ -26,7 +26,7 @@ use Rattle.seq.proofs.Laws.Tests.{below-or, true-or, contrary}
 use Rattle.seq.proofs.Laws.Decides as decides
 use Rattle.seq.proofs.Laws.Decides.{Decides, eqb-decides}
 use Rattle.seq.proofs.Laws.Lists.{all-each}
-use Rattle.volume.specs.declared.reading.Span.{Span}
+use Rattle.volume.specs.declared.layout.Span.{Span}
 use Rattle.volume.specs.Layout.{streamLength, word, listCount, start, listsOf, spanOf}
 use Rattle.volume.specs.Check as volume
 use Rattle.volume.proofs.Laws.Check.{good}

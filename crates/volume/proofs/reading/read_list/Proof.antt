@@ -10,7 +10,7 @@ use Rattle.seq.specs.Numbers.{run}
 use Rattle.seq.specs.Refusals.{answered}
 use Rattle.volume.specs.Answers.{Sizes, saidChecked}
 use Rattle.volume.specs.Layout.{word, listCount, count, start}
-use Rattle.volume.specs.declared.reading.Span.{Span}
+use Rattle.volume.specs.declared.layout.Span.{Span}
 use Rattle.volume.specs.Check.{verdict}
 use Rattle.volume.proofs.Laws.Check.{good, accepted-by, sizes-are}
 use Rattle.volume.proofs.Laws.Read.{read-volume, read-none, read-short, read-answer, read-kept, read-laid}
