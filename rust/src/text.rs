@@ -1,4 +1,4 @@
-//! Lists and plans as plain text.
+//! Lists and plans as text.
 //!
 //! A text of lists has one list a line, list 0 first, as `scene:place` words with blanks between
 //! them, or `-` for an empty list. A line whose first sign behind blanks is `#` is a comment and no

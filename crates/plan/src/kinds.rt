@@ -1,24 +1,29 @@
 // The words that rows of each kind use.
 ghost use mathlib.Core.Path.{_≡_};
-ghost use mathlib.Core.Bool.{_&&_, not};
 ghost use Prim.Native.Nat.{ℕ, _≤_};
-ghost use lib.Dec.{eqb};
-ghost use Rattle.plan.specs.Rows.{kindOf, usesOf, formWrong};
+ghost use Rattle.plan.specs.Limits.{lastKind};
+ghost use Rattle.plan.specs.Rows.{kindOf, usesOf, pairWrong, formWrong};
+ghost use Rattle.plan.specs.Rows as rows;
+use super::limits::LAST_KIND;
+use super::row::Kind;
+use super::row::row_of;
 
-// Whether a and b are used, and the range of c; 0 to 0 where c is not used.
+// Whether a, b and c are used, and the range of c; 0 to 0 where c is not used.
 pub struct Uses {
     pub a: bool,
     pub b: bool,
+    pub c: bool,
     pub least: u32,
     pub most: u32,
 }
 
-// Of the kinds 1 to 9, in order.
-const KINDS: [Uses; 9] = [
+// Of each kind, in order.
+const KINDS: [Uses; LAST_KIND as usize] = [
     // 1 VOICE: a
     Uses {
         a: true,
         b: false,
+        c: false,
         least: 0,
         most: 0,
     },
@@ -26,6 +31,7 @@ const KINDS: [Uses; 9] = [
     Uses {
         a: true,
         b: true,
+        c: true,
         least: 0,
         most: 65535,
     },
@@ -33,6 +39,7 @@ const KINDS: [Uses; 9] = [
     Uses {
         a: true,
         b: true,
+        c: false,
         least: 0,
         most: 0,
     },
@@ -40,6 +47,7 @@ const KINDS: [Uses; 9] = [
     Uses {
         a: true,
         b: true,
+        c: false,
         least: 0,
         most: 0,
     },
@@ -47,6 +55,7 @@ const KINDS: [Uses; 9] = [
     Uses {
         a: false,
         b: false,
+        c: true,
         least: 1,
         most: 65536,
     },
@@ -54,6 +63,7 @@ const KINDS: [Uses; 9] = [
     Uses {
         a: false,
         b: false,
+        c: false,
         least: 0,
         most: 0,
     },
@@ -61,6 +71,7 @@ const KINDS: [Uses; 9] = [
     Uses {
         a: false,
         b: false,
+        c: false,
         least: 0,
         most: 0,
     },
@@ -68,6 +79,7 @@ const KINDS: [Uses; 9] = [
     Uses {
         a: false,
         b: false,
+        c: false,
         least: 0,
         most: 0,
     },
@@ -75,6 +87,7 @@ const KINDS: [Uses; 9] = [
     Uses {
         a: false,
         b: false,
+        c: false,
         least: 0,
         most: 0,
     },
@@ -82,7 +95,8 @@ const KINDS: [Uses; 9] = [
 
 // What rows of a kind use.
 fn used_by(kind: u32) -> Uses
-    requires { ⌜ (1 ≤ kind) × (kind ≤ 9) ⌝ }
+    requires { ⌜ 1 ≤ kind ⌝ }
+    requires { ⌜ kind ≤ lastKind ⌝ }
     ensures { λ r. ⌜ ((a b c : ℕ) → r ≡ usesOf (kindOf kind a b c)) ⌝ }
 {
     KINDS[kind as usize - 1]
@@ -90,7 +104,7 @@ fn used_by(kind: u32) -> Uses
 
 // Whether a word that is not used is not 0.
 fn stray(used: bool, word: u32) -> bool
-    ensures { λ r. ⌜ r ≡ (not used && not (eqb word 0)) ⌝ }
+    ensures { λ r. ⌜ r ≡ rows.stray used word ⌝ }
 {
     if used {
         return false;
@@ -98,15 +112,27 @@ fn stray(used: bool, word: u32) -> bool
     word != 0
 }
 
-// Whether four words are no row: the kind is unknown, a word that it does not use is not 0, or c is
-// out of its range.
+// Whether words that a row carries do not fit each other; there is no such rule for any kind.
+fn pair_wrong(kind: Kind) -> bool
+    ensures { λ r. ⌜ r ≡ pairWrong kind ⌝ }
+{
+    match kind {
+        Kind::Voice(_) => false,
+        Kind::Condition(_) => false,
+        Kind::End => false,
+        Kind::Operator(_) => false,
+    }
+}
+
+// Whether four words are no row: the kind is unknown, a word that it does not use is not 0, c is out
+// of its range, or words do not fit each other.
 pub fn form_wrong(kind: u32, a: u32, b: u32, c: u32) -> bool
     ensures { λ r. ⌜ r ≡ formWrong kind a b c ⌝ }
 {
     if kind < 1 {
         return true;
     }
-    if 9 < kind {
+    if LAST_KIND < kind {
         return true;
     }
     let used = used_by(kind);
@@ -116,8 +142,16 @@ pub fn form_wrong(kind: u32, a: u32, b: u32, c: u32) -> bool
     if stray(used.b, b) {
         return true;
     }
+    if stray(used.c, c) {
+        return true;
+    }
     if c < used.least {
         return true;
     }
-    used.most < c
+    if used.most < c {
+        return true;
+    }
+    let row = row_of(kind, a, b, c);
+    let carried = row.kind;
+    pair_wrong(carried)
 }

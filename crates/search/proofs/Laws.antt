@@ -19,7 +19,6 @@
 --     Cursors        sought indices
 --     Paragraphs     the start of a position's paragraph
 --     Shortfall      what `src/predicates.rt` tells of each predicate
---     Answering      what `src/answering.rt` keeps from row to row
 --     Tables, Placed what `src/setup.rt` lays out
 --     Align          how the cursors of a pattern leap to one document
 --     Settling       how the variables of a pattern come to its least match in a document
@@ -29,6 +28,7 @@
 --     Walk           how each pattern is brought to the next document in which it can be found
 --     Filling        a row that is filled pattern by pattern
 --     Tally          the postings passed, variable by variable
+--     Seen           one document of the walk
 --     Visits         the listing loop, document by document
 --     Cases          the starred cases
 pub mod Pages
@@ -39,11 +39,11 @@ pub mod Search
 pub mod Whole
 pub mod Answers
 pub mod ListFirst
-pub mod Answering
 pub mod Align
 pub mod Walk
 pub mod Filling
 pub mod Tally
+pub mod Seen
 pub mod Visits
 pub mod Cases
 pub mod Stages

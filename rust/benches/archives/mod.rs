@@ -1,7 +1,7 @@
 //! The made-up archives of the benchmarks, and the plans that they run over them.
 
-use super::late;
 use super::support::Rng;
+use super::yardstick::late;
 use lihambozy::calls::volume_len;
 use lihambozy::{kind, Posting};
 

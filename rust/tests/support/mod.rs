@@ -250,7 +250,7 @@ pub fn damage(rng: &mut Rng, lists: &Lists, volume: &mut Vec<u8>) {
             let length = rng.below(volume.len() + 1);
             volume.truncate(length);
         }
-        6 => volume.extend(std::iter::repeat(0).take(1 + rng.below(600))),
+        6 => volume.extend(std::iter::repeat_n(0, 1 + rng.below(600))),
         7 => swap_blocks(volume, block, rng.below(blocks)),
         8 => put_block(volume, block, rng.below(blocks)),
         9 => {

@@ -24,13 +24,13 @@ use Rattle.volume.specs.Demands.{sampleLists}
 use Rattle.volume.proofs.Demands as volume
 use Rattle.plan.specs.Answers.{Sizes}
 use Rattle.plan.specs.Rows.{rowAt, rowsOf, misused, formWrong}
-use Rattle.plan.specs.Standing.{stand, standing, step}
-use Rattle.plan.specs.Patterns.{patternsFrom, answersFrom, answer}
+use Rattle.plan.specs.State.{afterAll, stateAt, step}
+use Rattle.plan.specs.Patterns.{patternsFrom, answersFrom, answer, varsOf}
 use Rattle.plan.specs.Check.{lengthWrong, rowWrong, rowFault, rowsWrong, unfinished, sizes, rowsVerdict, planVerdict, verdictBy, verdict, Accepted}
 use Rattle.plan.proofs.Laws.CheckFirst.{check-sound}
 use Rattle.fulltext.specs.Positions.{limit, listOf, positionsIn, countIn}
 use Rattle.fulltext.specs.Matches.{holds, withEach, tuples, matches, leastIn}
-use Rattle.fulltext.specs.Documents.{found, matching, rowIn, varsOf, postingsIn, Work, workOf, docsIn, rowsOfDocs, work}
+use Rattle.fulltext.specs.Documents.{found, matching, rowIn, postingsIn, Work, workOf, docsIn, rowsOfDocs, work}
 use Rattle.search.specs.Answers.{Page}
 use Rattle.search.specs.Listing.{pageBy, pageOf, rowsFrom, listBy, listAnswer, listOut}
 use Rattle.search.specs.Cases.{sample, untouched, Question, zeroBytes, checkSample, list, Result, checked, listed, told, Case, table}
@@ -129,6 +129,6 @@ told-quick (list p start n) = listed-quick p start n
 pub starred : Cases
 unfolding
     keep all total joined firstFrom run laid sumA sumB
-    rowAt misused formWrong stand standing step patternsFrom answersFrom answer lengthWrong rowWrong rowFault rowsWrong unfinished sizes rowsVerdict planVerdict
+    rowAt misused formWrong afterAll stateAt step patternsFrom answersFrom answer lengthWrong rowWrong rowFault rowsWrong unfinished sizes rowsVerdict planVerdict
     positionsIn countIn holds withEach tuples matches leastIn found matching rowIn varsOf postingsIn workOf docsIn rowsOfDocs table Cases
 starred = ap (λ (f : Question → Result). map (λ (c : Case). f (c .asked)) table) (fun-ext told-quick)
