@@ -1,20 +1,14 @@
 -- A volume's bytes: blocks of 512, the stream of their words, and the lists that the stream holds. Each definition is total:
 -- behind the end of the bytes stand zeros. Assumes nothing.
 use Prim.Native.Nat.{ℕ, _+_, _*_, _/_, _%_}
-use mathlib.Core.Path.{_≡_}
 use mathlib.Core.List.{List}
 use lib.ListN.{length, take, drop}
 use Rattle.seq.specs.Numbers.{run, sumTo}
-use Rattle.volume.specs.declared.layout.Span.{Span}
 use Rattle.block.specs.Bytes.{le16, le32}
 
 -- the number of blocks of v
 abbrev pub blocks : List ℕ → ℕ
 blocks v = length v / 512
-
--- v is whole blocks
-abbrev pub Whole : List ℕ → Type 0
-Whole v = length v ≡ 512 * blocks v
 
 -- the number of stream words of v
 abbrev pub streamLength : List ℕ → ℕ
@@ -90,7 +84,3 @@ postingsOf v i = run (word v) (start v i) (count v i)
 -- the lists of v
 unfoldable pub listsOf : List ℕ → List (List ℕ)
 listsOf v = run (postingsOf v) 0 (listCount v)
-
--- where list i lies in the stream
-abbrev pub spanOf : List ℕ → ℕ → Span
-spanOf v i = record { start = start v i; count = count v i }

@@ -79,7 +79,8 @@ shortOutput counts postings room = ltb room (512 * blocksFor (extentOf (length c
 -- the writer's answer, for an output of so many bytes: the first refusal of 5, 18, 7, 19, 20, or the number of blocks
 unfoldable pub writeAnswer : List ℕ → List ℕ → ℕ → Said ℕ
 writeAnswer counts postings room =
-    let from20 = cond (shortOutput counts postings room) (refused 20 0) (answered (blocksFor (extentOf (length counts) (length postings)))) in
+    let blocks = blocksFor (extentOf (length counts) (length postings)) in
+    let from20 = cond (shortOutput counts postings room) (refused 20 0) (answered blocks) in
     let from19 = cond (tooLarge counts postings) (refused 19 0) from20 in
     let from7 = cond (givenListsWrong counts postings) (refused 7 (badGiven counts postings)) from19 in
     let from18 = cond (sumWrong counts postings) (refused 18 0) from7 in

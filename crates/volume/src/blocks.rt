@@ -1,9 +1,10 @@
 // The blocks of a volume: their numbers and checksums, and the falls of the stream on the way.
 ghost use mathlib.Core.Path.{_≡_};
 ghost use Prim.Native.Nat.{_*_, _<_, _≤_};
-ghost use Rattle.volume.specs.Layout.{blocks, Whole};
+ghost use Rattle.volume.specs.Layout.{blocks};
+ghost use Rattle.volume.specs.Inner.Places.{Whole};
 ghost use Rattle.volume.specs.Check.{numberWrong, checksumWrong, badBlock};
-ghost use Rattle.volume.specs.Falls.{fallsBefore};
+ghost use Rattle.volume.specs.Inner.Falls.{fallsBefore};
 use super::layout::BLOCK_BYTES;
 use super::layout::BLOCK_WORDS;
 use super::order::fall_at;
@@ -42,7 +43,9 @@ fn checksum_wrong(volume: &[u8], k: usize) -> bool
 // One pass over the blocks.
 pub fn check_blocks(volume: &[u8]) -> Pass
     requires { ⌜ Whole (now volume) × (blocks (now volume) ≤ 8192) ⌝ }
-    ensures { λ r. ⌜ (r .bad ≡ badBlock (now (volume .entry))) × (r .falls ≡ fallsBefore (now (volume .entry)) (126 * r .bad)) × (r .bad ≤ blocks (now (volume .entry))) ⌝ }
+    ensures { λ r. ⌜ r .bad ≡ badBlock (now (volume .entry)) ⌝ }
+    ensures { λ r. ⌜ r .falls ≡ fallsBefore (now (volume .entry)) (126 * r .bad) ⌝ }
+    ensures { λ r. ⌜ r .bad ≤ blocks (now (volume .entry)) ⌝ }
 {
     let n = volume.len() / BLOCK_BYTES;
     let mut falls: usize = 0;

@@ -1,10 +1,11 @@
 // Checking a volume.
 ghost use mathlib.Core.Path.{_≡_};
 ghost use Prim.Native.Nat.{_≤_};
-ghost use Rattle.volume.specs.Layout.{blocks, Whole, streamLength};
+ghost use Rattle.volume.specs.Layout.{blocks, streamLength};
+ghost use Rattle.volume.specs.Inner.Places.{Whole};
 ghost use Rattle.volume.specs.Answers.{saidChecked};
 ghost use Rattle.volume.specs.Check.{streamVerdict, verdict};
-ghost use Rattle.volume.specs.Falls.{fallsBefore};
+ghost use Rattle.volume.specs.Inner.Falls.{fallsBefore};
 use super::answers::Checked;
 use super::answers::Refusal;
 use super::blocks::check_blocks;
@@ -22,7 +23,10 @@ use super::stream::word_at;
 
 // The stream of a volume whose blocks are in order, given its falls.
 fn check_stream(volume: &[u8], all: usize) -> Checked
-    requires { ⌜ Whole (now volume) × (1 ≤ blocks (now volume)) × (blocks (now volume) ≤ 8192) × (all ≡ fallsBefore (now volume) (streamLength (now volume))) ⌝ }
+    requires { ⌜ Whole (now volume) ⌝ }
+    requires { ⌜ 1 ≤ blocks (now volume) ⌝ }
+    requires { ⌜ blocks (now volume) ≤ 8192 ⌝ }
+    requires { ⌜ all ≡ fallsBefore (now volume) (streamLength (now volume)) ⌝ }
     ensures { λ r. ⌜ saidChecked r ≡ streamVerdict (now (volume .entry)) ⌝ }
 {
     let end = BLOCK_WORDS * (volume.len() / BLOCK_BYTES);

@@ -5,7 +5,8 @@ ghost use Prim.Native.Nat.{_+_, _<_, _≤_};
 ghost use lib.ListN.{length, drop};
 ghost use Rattle.seq.specs.Numbers.{run};
 ghost use Rattle.volume.specs.Answers.{saidRead};
-ghost use Rattle.volume.specs.Layout.{word, listCount, spanOf, streamLength};
+ghost use Rattle.volume.specs.Layout.{word, listCount, streamLength};
+ghost use Rattle.volume.specs.Inner.Places.{spanOf};
 ghost use Rattle.volume.specs.Check.{Accepted};
 ghost use Rattle.volume.specs.Read.{readAnswer, readOut};
 use super::answers::Checked;
@@ -44,7 +45,8 @@ fn copy_words(volume: &[u8], from: usize, n: usize, out: &mut [u32])
 // Copies list number `list` (0 too) of a volume to the front of out, and answers how many postings
 // it has.
 pub fn read_list(volume: &[u8], list: u32, out: &mut [u32]) -> ListRead
-    ensures { λ r. ⌜ (saidRead r ≡ readAnswer (now (volume .entry)) list (length (now (out .entry)))) × (now (out .exit) ≡ readOut (now (volume .entry)) list (now (out .entry))) ⌝ }
+    ensures { λ r. ⌜ saidRead r ≡ readAnswer (now (volume .entry)) list (length (now (out .entry))) ⌝ }
+    ensures { λ r. ⌜ now (out .exit) ≡ readOut (now (volume .entry)) list (now (out .entry)) ⌝ }
 {
     let checked = check(volume);
     match checked {

@@ -4,7 +4,7 @@ ghost use Prim.Native.Nat.{_+_, _*_, _%_, _-_, _<_, _≤_};
 ghost use Rattle.seq.specs.Numbers.{firstFrom, sumTo};
 ghost use Rattle.volume.specs.Layout.{word, entry, count, streamLength};
 ghost use Rattle.volume.specs.Check.{paddingWrong};
-ghost use Rattle.volume.specs.Below.{belowOf, belowCount};
+ghost use Rattle.volume.specs.Inner.Below.{belowOf, belowCount};
 use super::layout::BLOCK_WORDS;
 use super::posting::Posting;
 use block::read32;

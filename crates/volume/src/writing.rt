@@ -3,13 +3,13 @@
 // All refusals are tested before a byte is stored. The volume is then stored block by block, and the
 // checksum of each block is taken while its bytes are at hand.
 ghost use mathlib.Core.Path.{_≡_};
-ghost use mathlib.Core.List.{_++_};
 ghost use Prim.Native.Nat.{_+_, _*_, _-_, _≤_, _<_, min};
-ghost use lib.ListN.{length, take, drop};
+ghost use lib.ListN.{length, take};
 ghost use Rattle.seq.specs.Lists.{at, rises};
 ghost use Rattle.seq.specs.Numbers.{run, sumTo};
 ghost use Rattle.volume.specs.Answers.{saidWritten};
-ghost use Rattle.volume.specs.Write.{wordBytes, blockBody, sealed, blocksFrom, streamOf, badGiven, writeAnswer, writeOut};
+ghost use Rattle.volume.specs.Write.{blockBody, sealed, badGiven, writeAnswer, writeOut};
+ghost use Rattle.volume.specs.Inner.Storing.{given, filled, stored, storedFirst};
 use super::answers::Written;
 use super::layout::BLOCK_BYTES;
 use super::layout::BLOCK_WORDS;
@@ -73,7 +73,7 @@ fn bad_given(counts: &[u32], postings: &[u32]) -> usize
 // Stream word i.
 fn stream_word(counts: &[u32], postings: &[u32], i: usize) -> u32
     requires { ⌜ length (now counts) ≤ 1024 ⌝ }
-    ensures { λ r. ⌜ r ≡ at (streamOf (now (counts .entry)) (now (postings .entry))) i ⌝ }
+    ensures { λ r. ⌜ r ≡ given (now (counts .entry)) (now (postings .entry)) i ⌝ }
 {
     let lists = counts.len();
     if i == 0 {
@@ -97,7 +97,7 @@ fn stream_word(counts: &[u32], postings: &[u32], i: usize) -> u32
 // Stores the stream words from `first` on as the words of a block.
 fn put_words(counts: &[u32], postings: &[u32], first: usize, out: &mut [u8])
     requires { ⌜ (length (now counts) ≤ 1024) × (first ≤ 1032192) × (length (now out) ≡ 512) ⌝ }
-    ensures { λ _. ⌜ now (out .exit) ≡ take 4 (now (out .entry)) ++ wordBytes (at (streamOf (now (counts .entry)) (now (postings .entry)))) first 126 ++ drop 508 (now (out .entry)) ⌝ }
+    ensures { λ _. ⌜ now (out .exit) ≡ filled (given (now (counts .entry)) (now (postings .entry))) first (now (out .entry)) ⌝ }
 {
     let mut j: usize = 0;
     while j < BLOCK_WORDS {
@@ -111,7 +111,7 @@ fn put_words(counts: &[u32], postings: &[u32], first: usize, out: &mut [u8])
 // Stores the postings from `from` on as the words of a block.
 fn put_postings(postings: &[u32], from: usize, out: &mut [u8])
     requires { ⌜ (from + 126 ≤ length (now postings)) × (length (now out) ≡ 512) ⌝ }
-    ensures { λ _. ⌜ now (out .exit) ≡ take 4 (now (out .entry)) ++ wordBytes (at (now (postings .entry))) from 126 ++ drop 508 (now (out .entry)) ⌝ }
+    ensures { λ _. ⌜ now (out .exit) ≡ filled (at (now (postings .entry))) from (now (out .entry)) ⌝ }
 {
     let mut j: usize = 0;
     while j < BLOCK_WORDS {
@@ -126,7 +126,7 @@ fn put_postings(postings: &[u32], from: usize, out: &mut [u8])
 // as in nearly every block, they are copied with no test for each.
 fn put_stream(counts: &[u32], postings: &[u32], first: usize, out: &mut [u8])
     requires { ⌜ (length (now counts) ≤ 1024) × (first ≤ 1032192) × (length (now out) ≡ 512) ⌝ }
-    ensures { λ _. ⌜ now (out .exit) ≡ take 4 (now (out .entry)) ++ wordBytes (at (streamOf (now (counts .entry)) (now (postings .entry)))) first 126 ++ drop 508 (now (out .entry)) ⌝ }
+    ensures { λ _. ⌜ now (out .exit) ≡ filled (given (now (counts .entry)) (now (postings .entry))) first (now (out .entry)) ⌝ }
 {
     let front = lead(counts.len());
     if front <= first {
@@ -152,7 +152,7 @@ fn seal(out: &mut [u8])
 // Stores block k.
 fn put_block(counts: &[u32], postings: &[u32], k: usize, out: &mut [u8])
     requires { ⌜ (length (now counts) ≤ 1024) × (k < 8192) × (length (now out) ≡ 512) ⌝ }
-    ensures { λ _. ⌜ now (out .exit) ≡ sealed (blockBody (at (streamOf (now (counts .entry)) (now (postings .entry)))) k) ⌝ }
+    ensures { λ _. ⌜ now (out .exit) ≡ sealed (blockBody (given (now (counts .entry)) (now (postings .entry))) k) ⌝ }
 {
     put32(out, 0, k as u32);
     put_stream(counts, postings, BLOCK_WORDS * k, out);
@@ -162,7 +162,7 @@ fn put_block(counts: &[u32], postings: &[u32], k: usize, out: &mut [u8])
 // Stores the blocks from `from` to `to`.
 fn put_blocks(counts: &[u32], postings: &[u32], from: usize, to: usize, out: &mut [u8])
     requires { ⌜ (length (now counts) ≤ 1024) × (from ≤ to) × (to ≤ 8192) × (512 * to ≤ length (now out)) ⌝ }
-    ensures { λ _. ⌜ now (out .exit) ≡ take (512 * from) (now (out .entry)) ++ blocksFrom (at (streamOf (now (counts .entry)) (now (postings .entry)))) from (to - from) ++ drop (512 * to) (now (out .entry)) ⌝ }
+    ensures { λ _. ⌜ now (out .exit) ≡ stored (given (now (counts .entry)) (now (postings .entry))) from to (now (out .entry)) ⌝ }
 {
     let mut k = from;
     while k < to {
@@ -185,7 +185,7 @@ fn least(a: usize, b: usize) -> usize
 // one test tells the compiled loop that they lie apart, and it copies several postings at a time.
 fn put_volume(counts: &[u32], postings: &[u32], n: usize, out: &mut [u8])
     requires { ⌜ (length (now counts) ≤ 1024) × (n ≤ 8192) × (512 * n ≤ length (now out)) ⌝ }
-    ensures { λ _. ⌜ now (out .exit) ≡ blocksFrom (at (streamOf (now (counts .entry)) (now (postings .entry)))) 0 n ++ drop (512 * n) (now (out .entry)) ⌝ }
+    ensures { λ _. ⌜ now (out .exit) ≡ storedFirst (given (now (counts .entry)) (now (postings .entry))) n (now (out .entry)) ⌝ }
 {
     let front = lead(counts.len());
     let full = least((front + postings.len()) / BLOCK_WORDS, n);
@@ -198,7 +198,8 @@ fn put_volume(counts: &[u32], postings: &[u32], n: usize, out: &mut [u8])
 // Writes the volume of the counts and the postings to the front of the output, and answers the
 // number of its blocks.
 pub fn write(counts: &[u32], postings: &[u32], out: &mut [u8]) -> Written
-    ensures { λ r. ⌜ (saidWritten r ≡ writeAnswer (now (counts .entry)) (now (postings .entry)) (length (now (out .entry)))) × (now (out .exit) ≡ writeOut (now (counts .entry)) (now (postings .entry)) (now (out .entry))) ⌝ }
+    ensures { λ r. ⌜ saidWritten r ≡ writeAnswer (now (counts .entry)) (now (postings .entry)) (length (now (out .entry))) ⌝ }
+    ensures { λ r. ⌜ now (out .exit) ≡ writeOut (now (counts .entry)) (now (postings .entry)) (now (out .entry)) ⌝ }
 {
     let lists = counts.len();
     if lists < 1 || lists > MAX_LISTS {

@@ -34,10 +34,10 @@ pub record Entry (p : List ℕ) (o : Outline) : Type 0 where
   pub inside : o .last < rowCount p
   -- the rows of its variables, and those of its predicates
   pub voices :
-    (i : ℕ) → i < o .vars → rowAt p ((o .condition - o .vars) + i) .kind ≡ kind.Voice (getD (patternAt p (o .pattern) .vars) i 0)
+      (i : ℕ) → i < o .vars → rowAt p ((o .condition - o .vars) + i) .kind ≡ kind.Voice (getD (patternAt p (o .pattern) .vars) i 0)
   pub conditions :
-    (j : ℕ) → j < length (patternAt p (o .pattern) .predicates)
-    → rowAt p (o .condition + j) .kind ≡ kind.Condition (getD (patternAt p (o .pattern) .predicates) j (Window 1))
+      (j : ℕ) → j < length (patternAt p (o .pattern) .predicates)
+      → rowAt p (o .condition + j) .kind ≡ kind.Condition (getD (patternAt p (o .pattern) .predicates) j (Window 1))
 
 -- outline k of a table of four numbers for each pattern
 abbrev pub outlineAt : List ℕ → ℕ → Outline

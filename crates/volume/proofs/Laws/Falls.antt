@@ -25,7 +25,7 @@ use Rattle.seq.proofs.Laws.Rising.{rises-none, rises-suc}
 use Rattle.block.specs.Bytes.{le32}
 use Rattle.volume.specs.Layout.{word, count, listCount, start, extent}
 use Rattle.volume.specs.Check.{orderWrong, badList}
-use Rattle.volume.specs.Falls.{fallOf, fall, fallsBefore, ListFalls}
+use Rattle.volume.specs.Inner.Falls.{fallOf, fall, fallsBefore, ListFalls}
 use Rattle.volume.proofs.Laws.Stream.{word-in-block, word-behind}
 
 -- no fall: the next is above
@@ -153,7 +153,10 @@ lists-more v n s i m r l h c small e =
       exact = λ q. rest (rw same at q) last up w;
     }
   where
-    rest : fallsBefore v (2 + listCount v) + (n + r) ≡ fallsBefore v (s + m + 1) → fallsBefore v (s + m + 1) ≡ fallsBefore v (s + m) + fall (word v) (s + m) → fallsBefore v s ≤ fallsBefore v (s + m) → fallsBefore v (2 + listCount v) + n ≤ fallsBefore v s → firstFrom (orderWrong v) (i + 1) (listCount v - (i + 1)) ≡ badList v
+    rest :
+        fallsBefore v (2 + listCount v) + (n + r) ≡ fallsBefore v (s + m + 1) → fallsBefore v (s + m + 1) ≡ fallsBefore v (s + m) + fall (word v) (s + m)
+        → fallsBefore v s ≤ fallsBefore v (s + m) → fallsBefore v (2 + listCount v) + n ≤ fallsBefore v s
+        → firstFrom (orderWrong v) (i + 1) (listCount v - (i + 1)) ≡ badList v
     rest q last up w =
         let none : fallsBefore v (s + m) ≡ fallsBefore v s = omega arith in
         let all : fallsBefore v (2 + listCount v) + n ≡ fallsBefore v s = omega arith in

@@ -161,6 +161,7 @@ module _ (counts postings out : List ℕ) where
       unfolding writeOut written
       answers n after e h w =
           let room : 512 * blocksFor (2 + length counts + length postings) ≤ length out = rw e at h in
-          let a : writeAnswer counts postings (length out) ≡ answered n = write-answer counts postings (length out) five eighteen seven nineteen (fails (shortOutput-decides counts postings (length out)) (λ (l : length out < 512 * blocksFor (2 + length counts + length postings)). omega arith)) ∙ ap answered (sym e) in
+          let twenty = fails (shortOutput-decides counts postings (length out)) (λ (l : length out < 512 * blocksFor (2 + length counts + length postings)). omega arith) in
+          let a : writeAnswer counts postings (length out) ≡ answered n = write-answer counts postings (length out) five eighteen seven nineteen twenty ∙ ap answered (sym e) in
           let size = length-blocksFrom (at (streamOf counts postings)) 0 n in
           (sym a, w ∙ sym (laid-answered _ n (written counts postings) out a ∙ rw (← e, size)))

@@ -36,12 +36,15 @@ pub record Limits (counts postings : List ℕ) : Type 0 where
   pub size-passes : tooLarge counts postings ≡ false
 
 module _ (cs ps : List ℕ) where
+  limits-sum : Limits cs ps → total (λ x. x) cs ≡ length ps
+  limits-sum l = stable (eqb-decides (total (λ x. x) cs) (length ps)) (sumWrong-decides cs ps .no (l .sum-passes))
+
   pub limits-given : IsWords ps → Limits cs ps → Given cs ps
   unfolding givenWrong
   limits-given words l = record {
     lists-some = range-some;
     lists-most = range-most;
-    sum-is = sum-total cs ∙ stable (eqb-decides (total (λ x. x) cs) (length ps)) (sumWrong-decides cs ps .no (l .sum-passes));
+    sum-is = sum-total cs ∙ limits-sum l;
     fits = let h : (1032192 < 2 + length cs + length ps) → ⊥ = tooLarge-decides cs ps .no (l .size-passes) in omega arith;
     lists-rise = λ i h. not-false (rises (givenList cs ps i)) (given-clear cs ps (l .lists-pass) i h);
     words = words;
@@ -106,8 +109,8 @@ module _ (cs ps : List ℕ) where
       laid-answered (writeAnswer cs ps (length out)) n (written cs ps) out e
       ∙ ap (λ (k : ℕ). written cs ps ++ drop k out) (length-written cs ps ∙ ap (λ (k : ℕ). 512 * k) (answer-limits (length out) n e .2))
 
-  lays : IsWords ps → (out : List ℕ) (n : ℕ) → writeAnswer cs ps (length out) ≡ answered n → Lays cs ps out n
-  lays words out n e = record {
+  lays : (out : List ℕ) (n : ℕ) → writeAnswer cs ps (length out) ≡ answered n → Lays cs ps out n
+  lays out n e = record {
     blocks = rw q at (least-blocksFor (2 + length cs + length ps));
     room = let h : (length out < 512 * blocksFor (2 + length cs + length ps)) → ⊥ = shortOutput-decides cs ps (length out) .no (w .1) in let k = q in omega arith;
     volume = volume;
@@ -122,10 +125,10 @@ module _ (cs ps : List ℕ) where
       q = w .2
 
       volume : written cs ps ≡ volumeOf (givenLists cs ps)
-      volume = written-volumeOf cs ps (sym (sum-total cs) ∙ limits-given words (w .0) .sum-is)
+      volume = written-volumeOf cs ps (limits-sum (w .0))
 
-  pub writes : IsWords ps → (out : List ℕ) → Writes cs ps out
-  writes words out = record { refuses = (outside, inside); lays = lays words out }
+  pub writes : (out : List ℕ) → Writes cs ps out
+  writes out = record { refuses = λ words. (outside, inside words); lays = lays out }
     where
       outside : ((n : ℕ) × (p : ℕ) × (writeAnswer cs ps (length out) ≡ refused n p) × (n ≢ 20)) → (Within (givenLists cs ps) × (total (λ x. x) cs ≡ length ps)) → ⊥
       outside r w = ⊎-elim twenty answer (left (length out) (given-limits (within-back cs ps (w .0) (w .1))))
@@ -139,8 +142,8 @@ module _ (cs ps : List ℕ) where
           answer : writeAnswer cs ps (length out) ≡ answered (blocksFor (2 + length cs + length ps)) → ⊥
           answer e = not-both (writeAnswer cs ps (length out)) (blocksFor (2 + length cs + length ps)) (r .0) (r .1) e (r .2)
 
-      inside : ((Within (givenLists cs ps) × (total (λ x. x) cs ≡ length ps)) → ⊥) → (n : ℕ) × (p : ℕ) × (writeAnswer cs ps (length out) ≡ refused n p) × (n ≢ 20)
-      inside h = ⊎-elim (λ r. r) (λ l. let g = limits-given words l in absurd (h (given-within cs ps g, sym (sum-total cs) ∙ g .sum-is))) (refusal-or (length out))
+      inside : IsWords ps → ((Within (givenLists cs ps) × (total (λ x. x) cs ≡ length ps)) → ⊥) → (n : ℕ) × (p : ℕ) × (writeAnswer cs ps (length out) ≡ refused n p) × (n ≢ 20)
+      inside words h = ⊎-elim (λ r. r) (λ l. absurd (h (given-within cs ps (limits-given words l), limits-sum l))) (refusal-or (length out))
 
 -- lists within the limits are written
 pub writes-every :

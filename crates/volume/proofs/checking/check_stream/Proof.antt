@@ -129,7 +129,7 @@ bad-list-requires : tie.Need-bad-list-requires
 bad-list-requires c κs =
     let p = start-of (tests-of (c .before)) .pre in
     let e = extent-is (c .before) in
-    (p .0, lists-are (c .before), omega arith, e, omega arith, p .3)
+    (p .0, (lists-are (c .before), (omega arith, (e, (omega arith, p .1 .1 .1)))))
 
 cast-list : tie.Need-cast-list
 cast-list c = search needs
@@ -148,7 +148,7 @@ bad-word-requires c κs = search needs
 
 cast-i : tie.Need-cast-i
 cast-i c =
-    let few = few-words _ _ (c .if7 .taken) (start-of (tests-of (extent-from (c .before))) .pre .2) in
+    let few = few-words _ _ (c .if7 .taken) (start-of (tests-of (extent-from (c .before))) .pre .1 .1 .0) in
     record { fits = few }
 
 returns-7 : tie.Need-returns-7
@@ -162,7 +162,7 @@ returns-7 c =
 cast-postings : tie.Need-cast-postings
 cast-postings c =
     let used = extent-from (c .before) in
-    let few = few-postings _ _ _ _ (used .extent-of .ensures) (c .before .before .before .before .if5 .left) (start-of (tests-of used) .pre .2) in
+    let few = few-postings _ _ _ _ (used .extent-of .ensures) (c .before .before .before .before .if5 .left) (start-of (tests-of used) .pre .1 .1 .0) in
     record { fits = few }
 
 returns-8 : tie.Need-returns-8

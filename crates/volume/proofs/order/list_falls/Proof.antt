@@ -33,7 +33,7 @@ lead-requires : tie.Need-lead-requires Inv-loop μ-loop
 lead-requires c κs = omega arith
 
 loop-holds : tie.Need-loop-holds Inv-loop μ-loop
-loop-holds c = let p = c .before .before .pre .1 in (p, rw (c .lead .ensures, p) (lists-first _))
+loop-holds c = let p = c .before .before .pre .1 .0 in (p, rw (c .lead .ensures, p) (lists-first _))
 
 count-at-requires : tie.Need-count-at-requires Inv-loop μ-loop
 count-at-requires c κs = omega arith

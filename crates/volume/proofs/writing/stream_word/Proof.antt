@@ -3,7 +3,6 @@
 use Prim.Native.Nat.{_-_}
 use native.Mathlib.Omega.{arith}
 use mathlib.Core.Path.{sym}
-use lib.ListN.{length}
 use denote.Ref.{now}
 use Rattle.volume.proofs.Laws.Write.{stream-count, stream-posting, stream-zero}
 use Rattle.volume.proofs.writing.stream_word.Statement.{statement}

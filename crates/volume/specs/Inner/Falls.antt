@@ -1,4 +1,4 @@
--- Falls of the stream: what `src/order.rt` counts. No call's promise rests on this file alone. Assumes nothing.
+-- Falls of the stream: what `src/order.rt` counts. No call's promise rests on this file. Assumes nothing.
 use Prim.Native.Nat.{ℕ, _+_, _≤_}
 use mathlib.Core.Path.{_≡_}
 use mathlib.Core.Bool.{cond}
