@@ -16,6 +16,7 @@ use super::layout::Span;
 use super::layout::lead;
 use super::stream::count_at;
 use super::stream::count_sum;
+use super::stream::posting_at;
 use super::stream::word_at;
 
 // The span of a list of an accepted volume.
@@ -30,14 +31,14 @@ pub fn list_span(volume: &[u8], list: usize) -> Span
     Span { start, count }
 }
 
-// Copies the words from stream index `from` on, n of them, to the front of out.
-fn copy_words(volume: &[u8], from: usize, n: usize, out: &mut [u32])
+// Copies the postings from stream index `from` on, n of them, to the front of out.
+fn copy_postings(volume: &[u8], from: usize, n: usize, out: &mut [u32])
     requires { ⌜ (from + n ≤ streamLength (now volume)) × (n ≤ length (now out)) ⌝ }
     ensures { λ _. ⌜ now (out .exit) ≡ run (word (now (volume .entry))) from n ++ drop n (now (out .entry)) ⌝ }
 {
     let mut i: usize = 0;
     while i < n {
-        out[i] = word_at(volume, from + i);
+        out[i] = posting_at(volume, from + i).bits;
         i += 1;
     }
 }
@@ -61,7 +62,7 @@ pub fn read_list(volume: &[u8], list: u32, out: &mut [u32]) -> ListRead
                 return ListRead::Short;
             }
             let start = span.start;
-            copy_words(volume, start, n, out);
+            copy_postings(volume, start, n, out);
             let count = n as u32;
             ListRead::Read(count)
         }
