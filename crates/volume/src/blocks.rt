@@ -7,6 +7,9 @@ ghost use Rattle.volume.specs.Check.{numberWrong, checksumWrong, badBloc
 ghost use Rattle.volume.specs.Inner.Falls.{fallsBefore};
 use super::layout::BLOCK_BYTES;
 use super::layout::BLOCK_WORDS;
+use super::layout::LAST_WORD;
+use super::layout::SUM_A;
+use super::layout::SUM_B;
 use super::order::fall_at;
 use super::order::falls_in;
 use block::block_sums;
@@ -34,10 +37,10 @@ fn checksum_wrong(volume: &[u8], k: usize) -> bool
 {
     let from = BLOCK_BYTES * k;
     let sums = block_sums(volume, from);
-    if read16(volume, from + 508) != sums.a {
+    if read16(volume, from + SUM_A) != sums.a {
         return true;
     }
-    read16(volume, from + 510) != sums.b
+    read16(volume, from + SUM_B) != sums.b
 }
 
 // One pass over the blocks.
@@ -58,7 +61,7 @@ pub fn check_blocks(volume: &[u8]) -> Pass
             return Pass { bad: k, falls };
         }
         falls += falls_in(volume, k) as usize;
-        falls += fall_at(volume, BLOCK_WORDS * k + 125) as usize;
+        falls += fall_at(volume, BLOCK_WORDS * k + LAST_WORD) as usize;
         k += 1;
     }
     Pass { bad: n, falls }

@@ -12,6 +12,7 @@ use super::blocks::check_blocks;
 use super::blocks::number_wrong;
 use super::layout::BLOCK_BYTES;
 use super::layout::BLOCK_WORDS;
+use super::layout::LAST_WORD;
 use super::layout::MAX_BLOCKS;
 use super::layout::MAX_LISTS;
 use super::layout::extent_of;
@@ -46,7 +47,7 @@ fn check_stream(volume: &[u8], all: usize) -> Checked
     }
     let sum = count_sum(volume, lists) as usize;
     let used = extent_of(lists, sum);
-    if (used + 125) / BLOCK_WORDS != volume.len() / BLOCK_BYTES {
+    if (used + LAST_WORD) / BLOCK_WORDS != volume.len() / BLOCK_BYTES {
         return Checked::Refused(Refusal::Extent);
     }
     let bad = bad_list(volume, lists, used, all);

@@ -14,6 +14,7 @@ ghost use Rattle.volume.specs.Check.{badList};
 ghost use Rattle.volume.specs.Inner.Falls.{fallOf, fall, fallsBefore, ListFalls};
 use super::layout::BLOCK_BYTES;
 use super::layout::BLOCK_WORDS;
+use super::layout::LAST_WORD;
 use super::layout::lead;
 use super::stream::count_at;
 use super::stream::word_at;
@@ -35,7 +36,7 @@ pub fn falls_in(volume: &[u8], k: usize) -> u32
     let from = BLOCK_BYTES * k + 4;
     let mut n: u32 = 0;
     let mut i: usize = 0;
-    while i < 125 {
+    while i < LAST_WORD {
         let at = from + 4 * i;
         n += fall_of(read32(volume, at), read32(volume, at + 4));
         i += 1;

@@ -6,6 +6,7 @@ ghost use Rattle.volume.specs.Layout.{word, entry, count, streamLength};
 ghost use Rattle.volume.specs.Check.{paddingWrong};
 ghost use Rattle.volume.specs.Inner.Below.{belowOf, belowCount};
 use super::layout::BLOCK_WORDS;
+use super::layout::entry;
 use super::posting::Posting;
 use block::read32;
 
@@ -54,7 +55,7 @@ pub fn count_at(volume: &[u8], i: usize) -> u32
     requires { ⌜ entry i < streamLength (now volume) ⌝ }
     ensures { λ r. ⌜ r ≡ count (now (volume .entry)) i ⌝ }
 {
-    word_at(volume, 2 + i)
+    word_at(volume, entry(i))
 }
 
 // The sum of the first n counts.

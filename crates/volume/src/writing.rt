@@ -13,8 +13,12 @@ ghost use Rattle.volume.specs.Inner.Storing.{given, filled, stored, stor
 use super::answers::Written;
 use super::layout::BLOCK_BYTES;
 use super::layout::BLOCK_WORDS;
+use super::layout::LAST_WORD;
 use super::layout::MAX_LISTS;
 use super::layout::MAX_WORDS;
+use super::layout::SUM_A;
+use super::layout::SUM_B;
+use super::layout::entry;
 use super::layout::extent_of;
 use super::layout::lead;
 use super::order::fall_of;
@@ -84,7 +88,7 @@ fn stream_word(counts: &[u32], postings: &[u32], i: usize) -> u32
     }
     let front = lead(lists);
     if i < front {
-        let list = i - lead(0);
+        let list = i - entry(0);
         return counts[list];
     }
     let j = i - front;
@@ -145,8 +149,8 @@ fn seal(out: &mut [u8])
     ensures { λ _. ⌜ now (out .exit) ≡ sealed (take 508 (now (out .entry))) ⌝ }
 {
     let sums = block_sums(&out[..], 0);
-    put16(out, 508, sums.a);
-    put16(out, 510, sums.b);
+    put16(out, SUM_A, sums.a);
+    put16(out, SUM_B, sums.b);
 }
 
 // Stores block k.
@@ -189,7 +193,7 @@ fn put_volume(counts: &[u32], postings: &[u32], n: usize, out: &mut [u8])
 {
     let front = lead(counts.len());
     let full = least((front + postings.len()) / BLOCK_WORDS, n);
-    let first = least((front + 125) / BLOCK_WORDS, full);
+    let first = least((front + LAST_WORD) / BLOCK_WORDS, full);
     put_blocks(counts, postings, 0, first, out);
     put_blocks(counts, postings, first, full, out);
     put_blocks(counts, postings, full, n, out);
@@ -217,7 +221,7 @@ pub fn write(counts: &[u32], postings: &[u32], out: &mut [u8]) -> Written
     if words > MAX_WORDS {
         return Written::TooLarge;
     }
-    let n = (words + 125) / BLOCK_WORDS;
+    let n = (words + LAST_WORD) / BLOCK_WORDS;
     let size = BLOCK_BYTES * n;
     if out.len() < size {
         return Written::Short;

@@ -20,8 +20,8 @@ returns-2 c = rw (c .if2 .taken)
 lead-requires : tie.Need-lead-requires
 lead-requires c κs = omega arith
 
-lead-requires-2 : tie.Need-lead-requires-2
-lead-requires-2 c κs = omega arith
+entry-requires : tie.Need-entry-requires
+entry-requires c κs = omega arith
 
 sub-list : tie.Need-sub-list
 sub-list c = omega arith
@@ -35,7 +35,7 @@ shared-slice-read-result c = omega arith
 returns-3 : tie.Need-returns-3
 returns-3 c =
     let a = c .before .before .before .before .before .before .before .before .args in
-    rw (c .before .lead2 .ensures) (sym (stream-count (now (a .counts)) (now (a .postings)) (a .i) (omega arith) (omega arith)))
+    rw (c .before .entry .ensures) (sym (stream-count (now (a .counts)) (now (a .postings)) (a .i) (omega arith) (omega arith)))
 
 mul-result-2 : tie.Need-mul-result-2
 mul-result-2 c = omega arith
@@ -62,7 +62,7 @@ stream-word-spec =
     cast-result
     returns-2
     lead-requires
-    lead-requires-2
+    entry-requires
     sub-list
     mul-result
     shared-slice-read-result
