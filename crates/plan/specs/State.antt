@@ -35,10 +35,14 @@ takes FirstNotSecond = 2
 
 -- behind a row: a variable is added; conditions have begun; the pattern is closed and its answer stacked; the top answers become one
 abbrev pub after : State → Kind → State
-after s (kind.Voice list) = record { vars = s .vars + 1; begun = s .begun; patterns = s .patterns; answers = s .answers; total = s .total + 1 }
-after s (kind.Condition c) = record { vars = s .vars; begun = true; patterns = s .patterns; answers = s .answers; total = s .total }
-after s kind.End = record { vars = 0; begun = false; patterns = s .patterns + 1; answers = s .answers + 1; total = s .total }
-after s (kind.Operator o) = record { vars = s .vars; begun = s .begun; patterns = s .patterns; answers = s .answers + 1 - takes o; total = s .total }
+after s (kind.Voice list) =
+    record { vars = s .vars + 1; begun = s .begun; patterns = s .patterns; answers = s .answers; total = s .total + 1 }
+after s (kind.Condition c) =
+    record { vars = s .vars; begun = true; patterns = s .patterns; answers = s .answers; total = s .total }
+after s kind.End =
+    record { vars = 0; begun = false; patterns = s .patterns + 1; answers = s .answers + 1; total = s .total }
+after s (kind.Operator o) =
+    record { vars = s .vars; begun = s .begun; patterns = s .patterns; answers = s .answers + 1 - takes o; total = s .total }
 
 -- behind several rows
 unfoldable pub afterAll : State → List Row → State

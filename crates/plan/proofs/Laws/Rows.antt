@@ -90,15 +90,15 @@ used u a b c e = record {
     s : (ltb c (u .least) ≡ false) × (ltb (u .most) c ≡ false)
     s = neither (ltb c (u .least)) (ltb (u .most) c) (r .1)
 
--- four words of the right form are of a kind that there is, and as that kind uses them
-pub formed-known : (k a b c : ℕ) → formWrong k a b c ≡ false → (1 ≤ k) × (k ≤ lastKind) × (Used (usesOf (kindOf k a b c)) a b c)
+-- four words of the right form are of a kind that there is, as that kind uses them, and fit each other
+pub formed-known : (k a b c : ℕ) → formWrong k a b c ≡ false → (1 ≤ k) × (k ≤ lastKind) × Used (usesOf (kindOf k a b c)) a b c × (pairWrong (kindOf k a b c) ≡ false)
 unfolding formWrong
 formed-known k a b c e =
     let u = usesOf (kindOf k a b c) in
     let p = neither (ltb k 1) (ltb lastKind k || (misused u a b c || pairWrong (kindOf k a b c))) e in
     let q = neither (ltb lastKind k) (misused u a b c || pairWrong (kindOf k a b c)) (p .1) in
     let r = neither (misused u a b c) (pairWrong (kindOf k a b c)) (q .1) in
-    (ltb-false k 1 (p .0), ltb-false lastKind k (q .0), used u a b c (r .0))
+    (ltb-false k 1 (p .0), ltb-false lastKind k (q .0), used u a b c (r .0), r .1)
 
 module _ (a b c : ℕ) where
   -- four words, by which of them are used
@@ -118,16 +118,16 @@ module _ (a b c : ℕ) where
       (λ u. words-are 8 0 0 0 (u .a-used refl) (u .b-used refl) (u .c-used refl))
       (λ u. words-are 9 0 0 0 (u .a-used refl) (u .b-used refl) (u .c-used refl))
 
-  used-range : (k : ℕ) → 1 ≤ k → k ≤ lastKind → Used (usesOf (kindOf k a b c)) a b c → InRange (kindOf k a b c)
+  used-range : (k : ℕ) → 1 ≤ k → k ≤ lastKind → Used (usesOf (kindOf k a b c)) a b c → pairWrong (kindOf k a b c) ≡ false → InRange (kindOf k a b c)
   used-range =
-      each-kind (λ k. Used (usesOf (kindOf k a b c)) a b c → InRange (kindOf k a b c))
-      (λ u. tt) (λ u. u .c-most) (λ u. tt) (λ u. tt) (λ u. (u .c-least, u .c-most)) (λ u. tt) (λ u. tt) (λ u. tt) (λ u. tt)
+      each-kind (λ k. Used (usesOf (kindOf k a b c)) a b c → pairWrong (kindOf k a b c) ≡ false → InRange (kindOf k a b c))
+      (λ u f. tt) (λ u f. u .c-most) (λ u f. tt) (λ u f. tt) (λ u f. (u .c-least, u .c-most)) (λ u f. tt) (λ u f. tt) (λ u f. tt) (λ u f. tt)
 
 pub words-of : (k a b c : ℕ) → formWrong k a b c ≡ false → wordsOf (kindOf k a b c) ≡ k ∷ a ∷ b ∷ c ∷ []
 words-of k a b c e = let f = formed-known k a b c e in used-words a b c k (f .0) (f .1) (f .2)
 
 pub range-of : (k a b c : ℕ) → formWrong k a b c ≡ false → InRange (kindOf k a b c)
-range-of k a b c e = let f = formed-known k a b c e in used-range a b c k (f .0) (f .1) (f .2)
+range-of k a b c e = let f = formed-known k a b c e in used-range a b c k (f .0) (f .1) (f .2) (f .3)
 
 -- words are read as a row of this kind, and have the right form
 abbrev ReadAs : Kind → List ℕ → Type 0
