@@ -12,7 +12,7 @@ use Rattle.plan.specs.Patterns.{Pattern}
 use Rattle.plan.specs.Check.{Accepted, sizes}
 use Rattle.plan.specs.Accepted.{patternAt}
 use Rattle.fulltext.specs.Calculus.{at}
-use Rattle.fulltext.specs.Matches.{matchesAt}
+use Rattle.fulltext.specs.Matches.{MatchFrom}
 use Rattle.matcher.specs.declared.cursor.Cursor.{Cursor}
 use Rattle.matcher.specs.Cursors.{seekFrom, listEnd, Stands}
 use Rattle.matcher.specs.Shortfall.{InDocument}
@@ -50,10 +50,15 @@ Jumped v d e b x here ps false here′ ps′ =
     ((e ≤ seekFrom v (d * 65536 + b) (getD here x 0) e) ⊎ ((seekFrom v (d * 65536 + b) (getD here x 0) e < e) × (docOf (word v (seekFrom v (d * 65536 + b) (getD here x 0) e)) ≢ d)))
     × ((here′ ≡ here) × (ps′ ≡ ps))
 
--- the variables of a pattern stand at positions of document d that no match is in front of
-pub record Low (v : List ℕ) (d : ℕ) (f : Pattern) (here ps : List ℕ) : Type 0 where
+-- the variables of a pattern stand at positions of document d
+pub record Standing (v : List ℕ) (d : ℕ) (f : Pattern) (here ps : List ℕ) : Type 0 where
+  pub each : (x : ℕ) → x < length (f .vars) → AtPos v (getD (f .vars) x 0) d (getD here x 0) (getD ps x 0)
+
+-- they stand at bs or behind, and no match from bs on is in front of them
+pub record Low (v : List ℕ) (d : ℕ) (f : Pattern) (bs here ps : List ℕ) : Type 0 where
   pub standing : (x : ℕ) → x < length (f .vars) → AtPos v (getD (f .vars) x 0) d (getD here x 0) (getD ps x 0)
-  pub low : (qs : List ℕ) → matchesAt (listsOf v) d f qs ≡ true → (x : ℕ) → x < length (f .vars) → getD ps x 0 ≤ at qs x
+  pub above : (x : ℕ) → x < length (f .vars) → at bs x ≤ getD ps x 0
+  pub low : (qs : List ℕ) → MatchFrom (listsOf v) d f bs qs → (x : ℕ) → x < length (f .vars) → getD ps x 0 ≤ at qs x
 
 -- these positions, or nothing
 abbrev pub givenIf : Bool → List ℕ → Option (List ℕ)

@@ -10,10 +10,10 @@ ghost use Rattle.plan.specs.declared.row.Predicate.{Predicate};
 ghost use Rattle.plan.specs.declared.row.Kind.the-variants as kind;
 ghost use Rattle.plan.specs.Rows.{rowCount, rowAt, formWrongAt};
 ghost use Rattle.plan.specs.Accepted.{patternAt};
-ghost use Rattle.fulltext.specs.Matches.{leastIn};
+ghost use Rattle.fulltext.specs.Matches.{leastFrom};
 ghost use Rattle.fulltext.specs.Documents.{found, shownIn};
 ghost use Rattle.matcher.specs.Cursors.{Stretch};
-ghost use Rattle.matcher.specs.Settling.{Jumped, Low, givenIf, Posed, Ready};
+ghost use Rattle.matcher.specs.Settling.{Jumped, Standing, givenIf, Posed, Ready};
 use super::cursor::Cursor;
 use super::predicates::Shortfall;
 use super::predicates::falls_short;
@@ -95,9 +95,9 @@ fn jump(
     true
 }
 
-// Moves the cursors of pattern k, which stand in a document with no match in front of them, to its
-// least match there: each time a predicate fails, the variable that it leaves short jumps to the
-// first position that it needs at least. Whether there is one.
+// Moves the cursors of pattern k from where they stand in a document to its least match there that
+// is not in front of them: each time a predicate fails, the variable that it leaves short jumps to
+// the first position that it needs at least. Whether there is one.
 fn match_from(
     volume: &[u8],
     plan: &[u32],
@@ -115,8 +115,8 @@ fn match_from(
     requires { ⌜ Posed (now volume) (now plan) (now ends) k first n condition last doc starts ⌝ }
     requires { ⌜ n ≤ length (now here) ⌝ }
     requires { ⌜ n ≤ length (now positions) ⌝ }
-    requires { ⌜ Low (now volume) doc (patternAt (now plan) k) (now here) (now positions) ⌝ }
-    ensures { λ r. ⌜ leastIn (listsOf (now (volume .entry))) doc (patternAt (now (plan .entry)) k) ≡ givenIf r (take n (now (positions .exit))) ⌝ }
+    requires { ⌜ Standing (now volume) doc (patternAt (now plan) k) (now here) (now positions) ⌝ }
+    ensures { λ r. ⌜ leastFrom (listsOf (now (volume .entry))) doc (patternAt (now (plan .entry)) k) (take n (now (positions .entry))) ≡ givenIf r (take n (now (positions .exit))) ⌝ }
     ensures { λ r. ⌜ length (now (positions .exit)) ≡ length (now (positions .entry)) ⌝ }
 {
     let mut row = condition;

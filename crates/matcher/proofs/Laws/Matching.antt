@@ -15,6 +15,7 @@ use mathlib.Core.Logic.{_⊎_, ⊎-elim}
 use mathlib.Core.List.{List, [], _∷_}
 use mathlib.Core.Option.{none, some}
 use lib.ListN.{length, getD, set, take, length-set}
+use lib.Seq.{length-take-le}
 use Rattle.seq.proofs.Laws.Tests.{below-or}
 use Rattle.volume.specs.Posting.{docOf, posOf}
 use Rattle.volume.specs.Layout.{word, listCount, listsOf}
@@ -28,11 +29,11 @@ use Rattle.plan.specs.Standing.{namesBelow}
 use Rattle.plan.specs.Accepted.{patternAt, Given, WellMade}
 use Rattle.plan.proofs.Laws.Accepted.{given}
 use Rattle.matcher.specs.declared.cursor.Cursor.{Cursor}
-use Rattle.fulltext.specs.Matches.{holds, startsIn, leastIn}
+use Rattle.fulltext.specs.Matches.{holds, startsIn, leastFrom}
 use Rattle.matcher.specs.Shortfall.{LeftShort}
 use Rattle.matcher.specs.Cursors.{seekFrom, Stretch, listEnd, Stands}
-use Rattle.matcher.specs.Settling.{Jumped, Low, Posed}
-use Rattle.matcher.proofs.Laws.Settling.{low-done, low-var, low-stretch, low-end, low-out, low-later, low-jump}
+use Rattle.matcher.specs.Settling.{Jumped, Standing, Low, Posed}
+use Rattle.matcher.proofs.Laws.Settling.{low-first, low-done, low-var, low-stretch, low-end, low-out, low-later, low-jump}
 
 -- how far positions are from the end of a document, added up
 abbrev pub slack : List ℕ → ℕ
@@ -57,7 +58,7 @@ pub record Matching (v p : List ℕ) (k n condition last d : ℕ) (here₀ ps₀
   pub to : row ≤ last
   pub here-length : length here ≡ length here₀
   pub ps-length : length ps ≡ length ps₀
-  pub low : Low v d (patternAt p k) here ps
+  pub low : Low v d (patternAt p k) (take n ps₀) here ps
   pub holding : (j : ℕ) → condition + j < row → holds (startsIn (listsOf v) d) (getD (patternAt p k .predicates) j (Window 1)) (take n ps) ≡ true
 
 module _ (v p ends : List ℕ) (k first n condition last d : ℕ) (starts : Cursor) (q : Posed v p ends k first n condition last d starts) where
@@ -76,13 +77,13 @@ module _ (v p ends : List ℕ) (k first n condition last d : ℕ) (starts : Curs
   many : n ≡ length (patternAt p k .vars)
   many = q .entry .vars-are
 
-  pub matching-first : (here₀ ps₀ : List ℕ) → Low v d (patternAt p k) here₀ ps₀ → Matching v p k n condition last d here₀ ps₀ here₀ ps₀ condition
-  matching-first here₀ ps₀ l = record {
+  pub matching-first : (here₀ ps₀ : List ℕ) → n ≤ length ps₀ → Standing v d (patternAt p k) here₀ ps₀ → Matching v p k n condition last d here₀ ps₀ here₀ ps₀ condition
+  matching-first here₀ ps₀ room l = record {
     from = omega arith;
     to = let e = q .entry .last-is in omega arith;
     here-length = refl;
     ps-length = refl;
-    low = l;
+    low = rw many (low-first v ok d (patternAt p k) there here₀ ps₀ (let e = many in omega arith) l);
     holding = λ j h. absurd (let z : ⊥ = omega arith in z);
   }
 
@@ -143,7 +144,7 @@ module _ (v p ends : List ℕ) (k first n condition last d : ℕ) (starts : Curs
           left = subst (λ (i : ℕ). LeftShort (startsIn (listsOf v) d) (getD (patternAt p k .predicates) (row - condition) (Window 1)) (take i ps) x b) many (subst (λ (r : Predicate). LeftShort (startsIn (listsOf v) d) r (take n ps) x b) predicate-is short)
 
           pub jump-var : x < n
-          jump-var = let w = low-var v ok d (patternAt p k) there here ps ps-room here-room (m .low) (row - condition) inside x b left in let e = many in omega arith
+          jump-var = let w = low-var v ok d (patternAt p k) there (take n ps₀) here ps ps-room here-room (m .low) (row - condition) inside x b left in let e = many in omega arith
 
           pub jump-need : 1 ≤ b
           jump-need = let w = short .before in omega arith
@@ -152,18 +153,18 @@ module _ (v p ends : List ℕ) (k first n condition last d : ℕ) (starts : Curs
           the-end = q .ends-are x jump-var
 
           pub jump-stretch : Stretch v (getD here x 0) (getD ends (first + x) 0)
-          jump-stretch = rw the-end (low-stretch v ok d (patternAt p k) there here ps ps-room here-room (m .low) (row - condition) inside x b left _ refl)
+          jump-stretch = rw the-end (low-stretch v ok d (patternAt p k) there (take n ps₀) here ps ps-room here-room (m .low) (row - condition) inside x b left _ refl)
 
-          pub matching-out : (r : Bool) (here′ ps′ : List ℕ) → Jumped v d (getD ends (first + x) 0) b x here ps r here′ ps′ → r ≡ false → leastIn (listsOf v) d (patternAt p k) ≡ none
+          pub matching-out : (r : Bool) (here′ ps′ : List ℕ) → Jumped v d (getD ends (first + x) 0) b x here ps r here′ ps′ → r ≡ false → leastFrom (listsOf v) d (patternAt p k) (take n ps₀) ≡ none
           matching-out r here′ ps′ j e = go (subst (λ (t : Bool). Jumped v d (getD ends (first + x) 0) b x here ps t here′ ps′) e j)
             where
-              out : getD ends (first + x) 0 ≤ seekFrom v (d * 65536 + b) (getD here x 0) (getD ends (first + x) 0) → leastIn (listsOf v) d (patternAt p k) ≡ none
-              out o = low-end v ok d (patternAt p k) there here ps ps-room here-room (m .low) (row - condition) inside x b left _ refl (rw (← the-end) o)
+              out : getD ends (first + x) 0 ≤ seekFrom v (d * 65536 + b) (getD here x 0) (getD ends (first + x) 0) → leastFrom (listsOf v) d (patternAt p k) (take n ps₀) ≡ none
+              out o = low-end v ok d (patternAt p k) there (take n ps₀) here ps ps-room here-room (m .low) (row - condition) inside x b left _ refl (rw (← the-end) o)
 
-              away : (seekFrom v (d * 65536 + b) (getD here x 0) (getD ends (first + x) 0) < getD ends (first + x) 0) × (docOf (word v (seekFrom v (d * 65536 + b) (getD here x 0) (getD ends (first + x) 0))) ≡ d → ⊥) → leastIn (listsOf v) d (patternAt p k) ≡ none
-              away o = low-out v ok d (patternAt p k) there here ps ps-room here-room (m .low) (row - condition) inside x b left _ refl (rw (← the-end) (o .0)) (λ e. o .1 (rw the-end e))
+              away : (seekFrom v (d * 65536 + b) (getD here x 0) (getD ends (first + x) 0) < getD ends (first + x) 0) × (docOf (word v (seekFrom v (d * 65536 + b) (getD here x 0) (getD ends (first + x) 0))) ≡ d → ⊥) → leastFrom (listsOf v) d (patternAt p k) (take n ps₀) ≡ none
+              away o = low-out v ok d (patternAt p k) there (take n ps₀) here ps ps-room here-room (m .low) (row - condition) inside x b left _ refl (rw (← the-end) (o .0)) (λ e. o .1 (rw the-end e))
 
-              go : Jumped v d (getD ends (first + x) 0) b x here ps false here′ ps′ → leastIn (listsOf v) d (patternAt p k) ≡ none
+              go : Jumped v d (getD ends (first + x) 0) b x here ps false here′ ps′ → leastFrom (listsOf v) d (patternAt p k) (take n ps₀) ≡ none
               go t = ⊎-elim out away (t .0)
 
           jumped : (here′ ps′ : List ℕ) → Jumped v d (getD ends (first + x) 0) b x here ps true here′ ps′ → Matching v p k n condition last d here₀ ps₀ here′ ps′ condition × (slack ps′ < slack ps)
@@ -173,14 +174,14 @@ module _ (v p ends : List ℕ) (k first n condition last d : ℕ) (starts : Curs
               to = let e = q .entry .last-is in omega arith;
               here-length = ap length (j .1 .1 .0) ∙ length-set here x _ ∙ m .here-length;
               ps-length = ap length (j .1 .1 .1) ∙ length-set ps x _ ∙ m .ps-length;
-              low = rw (j .1 .1 .0, j .1 .1 .1) (low-jump v ok d (patternAt p k) there here ps ps-room here-room (m .low) (row - condition) inside x b left (seekFrom v (d * 65536 + b) (getD here x 0) (getD ends (first + x) 0)) (rw the-end refl) (rw (← the-end) (j .0)) (j .1 .0));
+              low = rw (j .1 .1 .0, j .1 .1 .1) (low-jump v ok d (patternAt p k) there (take n ps₀) here ps ps-room here-room (m .low) (row - condition) inside x b left (seekFrom v (d * 65536 + b) (getD here x 0) (getD ends (first + x) 0)) (rw the-end refl) (rw (← the-end) (j .0)) (j .1 .0));
               holding = λ i s. absurd (let z : ⊥ = omega arith in z);
             },
             less,
           )
             where
               later : getD ps x 0 < posOf (word v (seekFrom v (d * 65536 + b) (getD here x 0) (getD ends (first + x) 0)))
-              later = low-later v ok d (patternAt p k) there here ps ps-room here-room (m .low) (row - condition) inside x b left (seekFrom v (d * 65536 + b) (getD here x 0) (getD ends (first + x) 0)) (rw the-end refl) (rw (← the-end) (j .0)) (j .1 .0)
+              later = low-later v ok d (patternAt p k) there (take n ps₀) here ps ps-room here-room (m .low) (row - condition) inside x b left (seekFrom v (d * 65536 + b) (getD here x 0) (getD ends (first + x) 0)) (rw the-end refl) (rw (← the-end) (j .0)) (j .1 .0)
 
               less : slack ps′ < slack ps
               less = rw (j .1 .1 .1) (slack-set ps x (posOf (word v (seekFrom v (d * 65536 + b) (getD here x 0) (getD ends (first + x) 0)))) (let w = m .ps-length in let y = jump-var in omega arith) later (omega arith))
@@ -188,7 +189,7 @@ module _ (v p ends : List ℕ) (k first n condition last d : ℕ) (starts : Curs
           pub matching-jump : (r : Bool) (here′ ps′ : List ℕ) → Jumped v d (getD ends (first + x) 0) b x here ps r here′ ps′ → r ≡ true → Matching v p k n condition last d here₀ ps₀ here′ ps′ condition × (slack ps′ < slack ps)
           matching-jump r here′ ps′ j e = jumped here′ ps′ (subst (λ (t : Bool). Jumped v d (getD ends (first + x) 0) b x here ps t here′ ps′) e j)
 
-  pub matching-done : (here₀ ps₀ here ps : List ℕ) (row : ℕ) → n ≤ length ps₀ → Matching v p k n condition last d here₀ ps₀ here ps row → last ≤ row → leastIn (listsOf v) d (patternAt p k) ≡ some (take n ps)
+  pub matching-done : (here₀ ps₀ here ps : List ℕ) (row : ℕ) → n ≤ length ps₀ → Matching v p k n condition last d here₀ ps₀ here ps row → last ≤ row → leastFrom (listsOf v) d (patternAt p k) (take n ps₀) ≡ some (take n ps)
   matching-done here₀ ps₀ here ps row room m h =
-      low-done v ok d (patternAt p k) there here ps (let e = many in let w = m .ps-length in omega arith) (m .low) (λ j s. subst (λ (i : ℕ). holds (startsIn (listsOf v) d) (getD (patternAt p k .predicates) j (Window 1)) (take i ps) ≡ true) many (m .holding j (let e = q .entry .last-is in omega arith)))
+      low-done v ok d (patternAt p k) there (take n ps₀) here ps (length-take-le n ps₀ room ∙ many) (let e = many in let w = m .ps-length in omega arith) (m .low) (λ j s. subst (λ (i : ℕ). holds (startsIn (listsOf v) d) (getD (patternAt p k .predicates) j (Window 1)) (take i ps) ≡ true) many (m .holding j (let e = q .entry .last-is in omega arith)))
       ∙ ap (λ (i : ℕ). some (take i ps)) (sym many)

@@ -1,7 +1,7 @@
 -- A pattern that stands in a document, from its table and cursors to what is shown of it. No contract cites this file.
 --     ready-entry, ready-posed     its entry in the table, and what it asks
 --     ready-stands                 where its cursors stand
---     ready-low                    copies of them, in front of every match
+--     ready-standing, ready-least  copies of them; the least match from there on is the least of all
 --     settled-found, settled-yes, settled-no     whether it is found, and what is shown
 --     away-found, away-shown       the same of a pattern that can be found next in a later document
 -- Assumes nothing.
@@ -19,15 +19,17 @@ use Rattle.plan.specs.Check.{sizes}
 use Rattle.plan.specs.Accepted.{patternAt, Given, WellMade}
 use Rattle.plan.proofs.Laws.Accepted.{given}
 use Rattle.matcher.specs.declared.cursor.Cursor.{Cursor}
-use Rattle.fulltext.specs.Matches.{leastIn}
+use Rattle.fulltext.specs.Matches.{leastIn, leastFrom}
 use Rattle.fulltext.specs.Documents.{present, found, shown, shownIn}
 use Rattle.matcher.specs.Cursors.{listEnd, Stands}
 use Rattle.matcher.specs.Tables.{Entry, varsBefore, varAt}
-use Rattle.matcher.specs.Settling.{Among, Low, givenIf, Posed, Ready}
+use Rattle.matcher.specs.Settling.{Among, Standing, givenIf, Posed, Ready}
+use Rattle.fulltext.proofs.Laws.Positions.{lists-rise}
+use Rattle.fulltext.proofs.Laws.Least.{leastFrom-all}
 use Rattle.matcher.proofs.Laws.Volume.{list-stretch}
 use Rattle.matcher.proofs.Laws.Tables.{vars-within}
 use Rattle.matcher.proofs.Laws.Placed.{varAt-is}
-use Rattle.matcher.proofs.Laws.Settling.{low-first}
+use Rattle.matcher.proofs.Laws.Settling.{first-low}
 
 module _ (v p table ats ends : List ℕ) (k d : ℕ) (starts : Cursor) (r : Ready v p table ats ends k d d starts) where
   g : Given v p
@@ -85,16 +87,26 @@ module _ (v p table ats ends : List ℕ) (k d : ℕ) (starts : Cursor) (r : Read
     ends-are = λ x h. ready-ends x (let e = ready-entry .vars-are in omega arith);
   }
 
-  pub ready-low : (here ps : List ℕ)
-      → ((x : ℕ) → x < getD table (4 * k + 1) 0 → (getD here x 0 ≡ getD ats (getD table (4 * k) 0 + x) 0) × (getD ps x 0 ≡ posOf (word v (getD ats (getD table (4 * k) 0 + x) 0))))
-      → Low v d (patternAt p k) here ps
-  ready-low here ps copied = low-first v (g .volume-accepted) d (patternAt p k) (λ x h. made .lists x h .1) here ps each
-    where
-      each : (x : ℕ) → x < length (patternAt p k .vars) → Stands v (getD (patternAt p k .vars) x 0) d (getD here x 0) × ((getD here x 0 < listEnd v (getD (patternAt p k .vars) x 0)) × ((docOf (word v (getD here x 0)) ≡ d) × (getD ps x 0 ≡ posOf (word v (getD here x 0)))))
-      each x h =
+  module _ (here ps : List ℕ) (copied : (x : ℕ) → x < getD table (4 * k + 1) 0 → (getD here x 0 ≡ getD ats (getD table (4 * k) 0 + x) 0) × (getD ps x 0 ≡ posOf (word v (getD ats (getD table (4 * k) 0 + x) 0)))) where
+    -- copies of the cursors stand in the document
+    pub ready-standing : Standing v d (patternAt p k) here ps
+    ready-standing = record {
+      each = λ x h.
           let c = copied x (let e = ready-entry .vars-are in omega arith) in
           let s = ready-stands x h in
-          rw (c .0) (s .0, (s .1 .0, (s .1 .1, c .1)))
+          let w = s .1 .1 in
+          let q = c .1 in
+          rw (c .0) (record { from = s .0 .from; inside = s .1 .0; small = omega arith; word-is = omega arith });
+    }
+
+    -- the least match from there on is the least of all
+    pub ready-least : getD table (4 * k + 1) 0 ≤ length ps → leastFrom (listsOf v) d (patternAt p k) (take (getD table (4 * k + 1) 0) ps) ≡ leastIn (listsOf v) d (patternAt p k)
+    ready-least room =
+        rw (ready-entry .vars-are)
+        (leastFrom-all (listsOf v) (lists-rise v (g .volume-accepted)) d (patternAt p k) (take (length (patternAt p k .vars)) ps)
+        (λ qs m. first-low v (g .volume-accepted) d (patternAt p k) (λ x h. made .lists x h .1) [] here ps (let e = ready-entry .vars-are in omega arith) ready-standing
+        (λ x h j a b. let l = ready-stands x h .0 .behind j a (let e = copied x (let e = ready-entry .vars-are in omega arith) .0 in omega arith) in omega arith)
+        qs (m, λ x. omega arith)))
 
 -- zeros, as many as are taken
 pub take-zeros : (n m : ℕ) → n ≤ m → take {A = ℕ} n (replicate m 0) ≡ replicate n 0

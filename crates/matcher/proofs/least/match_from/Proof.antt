@@ -1,4 +1,4 @@
--- The predicates in front of `row` hold of the positions, which no match is in front of (`Matching`). A jump moves a position on; else the row grows.
+-- The predicates in front of `row` hold of the positions, and no match from the first ones on is in front of them (`Matching`). A jump moves a position on; else the row grows.
 use Rattle.matcher.proofs.least.match_from.Statement.{statement}
 use Rattle.matcher.proofs.least.match_from.Tie as tie
 use Prim.Native.Nat.{_+_, _-_, _*_, _<_}
@@ -47,7 +47,7 @@ var c =
     jump-var _ _ _ _ _ _ _ _ _ _ (s .0) (l .row) (l .inv .from) (p .before .loop-test .taken) _ (p .predicate-at .ensures) _ _ _ _ (l .inv) (s .1 .0) (s .1 .1 .0) _ _ (short c)
 
 loop-holds : tie.Need-loop-holds Inv-loop μ-loop
-loop-holds c = let s = c .before .before .before .before .before .pre in matching-first _ _ _ _ _ _ _ _ _ _ (s .0) _ _ (s .1 .1 .1)
+loop-holds c = let s = c .before .before .before .before .before .pre in matching-first _ _ _ _ _ _ _ _ _ _ (s .0) _ _ (s .1 .1 .0) (s .1 .1 .1)
 
 predicate-at-requires : tie.Need-predicate-at-requires Inv-loop μ-loop
 predicate-at-requires c κs = let l = c .before .loop in matching-asks _ _ _ _ _ _ _ _ _ _ (start (c .before) .pre .0) (l .row) (l .inv .from) (c .loop-test .taken)

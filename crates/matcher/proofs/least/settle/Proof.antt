@@ -4,14 +4,16 @@ use Rattle.matcher.proofs.least.settle.Statement.{statement}
 use Rattle.matcher.proofs.least.settle.Tie as tie
 use Prim.Native.Nat.{ℕ, _+_, _*_}
 use native.Mathlib.Omega.{arith}
-use mathlib.Core.Path.{sym, ap, _∙_}
+use mathlib.Core.Path.{_≡_, sym, ap, _∙_}
 use mathlib.Core.List.{List, _++_}
 use lib.ListN.{getD, take, drop}
 use denote.Ref.{now}
 use Rattle.volume.specs.Layout.{listsOf}
 use Rattle.plan.specs.Accepted.{patternAt}
+use Rattle.fulltext.specs.Matches.{leastIn}
 use Rattle.fulltext.specs.Documents.{shownIn}
-use Rattle.matcher.proofs.Laws.Settled.{ready-entry, ready-vars, ready-within, ready-stream, ready-posed, ready-low, settled-found, settled-yes, settled-no}
+use Rattle.matcher.specs.Settling.{givenIf}
+use Rattle.matcher.proofs.Laws.Settled.{ready-entry, ready-vars, ready-within, ready-stream, ready-posed, ready-standing, ready-least, settled-found, settled-yes, settled-no}
 
 -- the places that the answers speak of, each from the one behind it
 abbrev start-of : tie.After-stand → tie.Start
@@ -19,6 +21,16 @@ start-of c = c .before .before .before .before .before .before .before .before .
 
 abbrev stood-of : tie.After-match-from → tie.After-stand
 stood-of c = c .before .before .before .before .before
+
+-- what the search from the document's first postings leaves is the least match of all, or nothing
+least-of : (c : tie.After-match-from) → let a = start-of (stood-of c) .args in
+    leastIn (listsOf (now (a .volume))) (a .doc) (patternAt (now (a .plan)) (a .k)) ≡ givenIf (c .match-from .result) (take (getD (now (a .table)) (4 * a .k + 1) 0) (c .match-from .last .1 .1 .1 .1 .1 .1 .1 .1 .1 .1 .1 .0))
+least-of c =
+    let stood = stood-of c in
+    let start = start-of stood in
+    let n = ready-vars _ _ _ _ _ _ _ _ (start .pre .0) in
+    let p = stood .stand .ensures .1 .0 in
+    sym (ready-least _ _ _ _ _ _ _ _ (start .pre .0) (stood .stand .last .1 .1 .1 .1 .0) _ (stood .stand .ensures .1 .1) (omega arith)) ∙ c .match-from .ensures .0
 
 mul-first : tie.Need-mul-first
 mul-first c = search needs
@@ -90,7 +102,7 @@ match-from-requires c κs =
     let n = ready-vars _ _ _ _ _ _ _ _ (start .pre .0) in
     let h = s .0 in
     let p = s .1 .0 in
-    (ready-posed _ _ _ _ _ _ _ _ (start .pre .0), (omega arith, (omega arith, ready-low _ _ _ _ _ _ _ _ (start .pre .0) _ _ (s .1 .1))))
+    (ready-posed _ _ _ _ _ _ _ _ (start .pre .0), (omega arith, (omega arith, ready-standing _ _ _ _ _ _ _ _ (start .pre .0) _ _ (s .1 .1))))
 
 slice-aggregate-show : tie.Need-slice-aggregate-show
 slice-aggregate-show c = search needs
@@ -115,9 +127,9 @@ returns c =
     let matched = c .before .before .before .before .before .before .before .before in
     let start = start-of (stood-of matched) in
     let a = start .args in (
-      sym (c .before .before .before .before .before .if1 .taken) ∙ settled-found (now (a .volume)) (now (a .plan)) (a .k) (a .doc) (getD (now (a .table)) (4 * a .k + 1) 0) (matched .match-from .last .1 .1 .1 .1 .1 .1 .1 .1 .1 .1 .1 .0) (matched .match-from .result) (matched .match-from .ensures .0),
+      sym (c .before .before .before .before .before .if1 .taken) ∙ settled-found (now (a .volume)) (now (a .plan)) (a .k) (a .doc) (getD (now (a .table)) (4 * a .k + 1) 0) (matched .match-from .last .1 .1 .1 .1 .1 .1 .1 .1 .1 .1 .1 .0) (matched .match-from .result) (least-of matched),
       c .before .before .show .ensures
-          ∙ ap (λ (xs : List ℕ). take (a .to) (now (a .row)) ++ (xs ++ drop (a .to + (1 + getD (now (a .table)) (4 * a .k + 1) 0)) (now (a .row)))) (settled-yes (now (start .args .volume)) (now (start .args .plan)) (start .args .k) (start .args .doc) (getD (now (a .table)) (4 * a .k + 1) 0) (matched .match-from .last .1 .1 .1 .1 .1 .1 .1 .1 .1 .1 .1 .0) (matched .match-from .result) (matched .match-from .ensures .0) (c .before .before .before .before .before .if1 .taken))
+          ∙ ap (λ (xs : List ℕ). take (a .to) (now (a .row)) ++ (xs ++ drop (a .to + (1 + getD (now (a .table)) (4 * a .k + 1) 0)) (now (a .row)))) (settled-yes (now (start .args .volume)) (now (start .args .plan)) (start .args .k) (start .args .doc) (getD (now (a .table)) (4 * a .k + 1) 0) (matched .match-from .last .1 .1 .1 .1 .1 .1 .1 .1 .1 .1 .1 .0) (matched .match-from .result) (least-of matched) (c .before .before .before .before .before .if1 .taken))
           ∙ ap (λ (n : ℕ). take (a .to) (now (a .row)) ++ (shownIn (listsOf (now (a .volume))) (a .doc) (patternAt (now (a .plan)) (a .k)) ++ drop (a .to + (1 + n)) (now (a .row)))) (ready-entry _ _ _ _ _ _ _ _ (start .pre .0) .vars-are),
     )
 
@@ -137,9 +149,9 @@ returns-2 c =
     let matched = c .before .before .before .before .before .before .before .before in
     let start = start-of (stood-of matched) in
     let a = start .args in (
-      sym (c .before .before .before .before .before .if1 .left) ∙ settled-found (now (a .volume)) (now (a .plan)) (a .k) (a .doc) (getD (now (a .table)) (4 * a .k + 1) 0) (matched .match-from .last .1 .1 .1 .1 .1 .1 .1 .1 .1 .1 .1 .0) (matched .match-from .result) (matched .match-from .ensures .0),
+      sym (c .before .before .before .before .before .if1 .left) ∙ settled-found (now (a .volume)) (now (a .plan)) (a .k) (a .doc) (getD (now (a .table)) (4 * a .k + 1) 0) (matched .match-from .last .1 .1 .1 .1 .1 .1 .1 .1 .1 .1 .1 .0) (matched .match-from .result) (least-of matched),
       c .before .before .show2 .ensures
-          ∙ ap (λ (xs : List ℕ). take (a .to) (now (a .row)) ++ (xs ++ drop (a .to + (1 + getD (now (a .table)) (4 * a .k + 1) 0)) (now (a .row)))) (settled-no (now (start .args .volume)) (now (start .args .plan)) (start .args .k) (start .args .doc) (getD (now (a .table)) (4 * a .k + 1) 0) (matched .match-from .last .1 .1 .1 .1 .1 .1 .1 .1 .1 .1 .1 .0) (matched .match-from .result) (matched .match-from .ensures .0) (c .before .before .before .before .before .if1 .left) (ready-entry _ _ _ _ _ _ _ _ (start .pre .0) .vars-are) (ready-vars _ _ _ _ _ _ _ _ (start .pre .0)))
+          ∙ ap (λ (xs : List ℕ). take (a .to) (now (a .row)) ++ (xs ++ drop (a .to + (1 + getD (now (a .table)) (4 * a .k + 1) 0)) (now (a .row)))) (settled-no (now (start .args .volume)) (now (start .args .plan)) (start .args .k) (start .args .doc) (getD (now (a .table)) (4 * a .k + 1) 0) (matched .match-from .last .1 .1 .1 .1 .1 .1 .1 .1 .1 .1 .1 .0) (matched .match-from .result) (least-of matched) (c .before .before .before .before .before .if1 .left) (ready-entry _ _ _ _ _ _ _ _ (start .pre .0) .vars-are) (ready-vars _ _ _ _ _ _ _ _ (start .pre .0)))
           ∙ ap (λ (n : ℕ). take (a .to) (now (a .row)) ++ (shownIn (listsOf (now (a .volume))) (a .doc) (patternAt (now (a .plan)) (a .k)) ++ drop (a .to + (1 + n)) (now (a .row)))) (ready-entry _ _ _ _ _ _ _ _ (start .pre .0) .vars-are),
     )
 
