@@ -1,4 +1,5 @@
 -- What a plan is and what the calls on it answer, in reading order.
+--     Limits      document 01's limits of a plan, and the words of a row of a listing
 --     Rows        the rows of a plan, and the kinds that they are read as
 --     Standing    where the reading of a plan stands, row by row
 --     Patterns    what a plan means: its patterns, and its answer by a stack
@@ -9,6 +10,7 @@
 --     Refusals    document 01's refusals as relations, one line for each number
 --     Accepted    what acceptance gives
 --     Demands     the statements that the crate is held to
+pub mod Limits
 pub mod Rows
 pub mod Standing
 pub mod Patterns

@@ -18,6 +18,7 @@ use lib.ListN.{length}
 use Rattle.seq.specs.Lists.{total}
 use Rattle.seq.specs.Numbers.{run}
 use Rattle.seq.proofs.Laws.Numbers.{length-run}
+use Rattle.plan.specs.Limits.{mostPatterns, mostVars, rowWords, mostRowWords}
 use Rattle.plan.specs.Rows.{rowCount, kindAt, aAt, bAt, cAt, rowAt, rowsOf, formWrongAt, InRange}
 use Rattle.plan.specs.Standing.{outset, after, standing}
 use Rattle.plan.specs.Patterns.{Pattern, noRow, patternsOf, answersFrom}
@@ -79,14 +80,14 @@ module _ (t : ℕ) (p : List ℕ) (ok : Passed t p) where
   pub some-patterns : 1 ≤ sizes p .patterns
   some-patterns = rw (sizes-are p (ok .closed)) (let b = end-bound in omega arith)
 
-  pub most-patterns : sizes p .patterns ≤ 8
+  pub most-patterns : sizes p .patterns ≤ mostPatterns
   most-patterns = rw (sizes-are p (ok .closed)) (end-bound .few-patterns)
 
   pub some-vars : 1 ≤ sizes p .vars
   some-vars = rw (sizes-are p (ok .closed)) (let b = end-bound in omega arith)
 
-  pub most-vars : sizes p .vars ≤ 51
+  pub most-vars : sizes p .vars ≤ mostVars
   most-vars = rw (sizes-are p (ok .closed)) (let b = end-bound in omega arith)
 
-  pub width : 1 + sizes p .patterns + sizes p .vars ≤ 59
+  pub width : rowWords (sizes p .patterns) (sizes p .vars) ≤ mostRowWords
   width = rw (sizes-are p (ok .closed)) (let b = end-bound in omega arith)
