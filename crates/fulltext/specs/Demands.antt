@@ -17,7 +17,7 @@ use Rattle.plan.specs.Accepted.{patternAt}
 use Rattle.fulltext.specs.Positions.{limit}
 use Rattle.fulltext.specs.Calculus.{True, openFormula, patternFormula, planFormula}
 use Rattle.fulltext.specs.Matches.{matchesAt, leastIn, Least}
-use Rattle.fulltext.specs.Documents.{found, matching, varsOf}
+use Rattle.fulltext.specs.Documents.{found, matching}
 
 -- the tests and the calculus, over an accepted volume and plan
 pub record Agrees (v p : List ℕ) : Type 0 where

@@ -9,8 +9,9 @@ use Rattle.volume.specs.Layout.{count}
 use Rattle.volume.specs.Check as volume
 use Rattle.plan.specs.Rows.{rowsOf}
 use Rattle.plan.specs.Check as plan
+use Rattle.plan.specs.Patterns.{varsOf}
 use Rattle.fulltext.specs.Positions.{limit}
-use Rattle.fulltext.specs.Documents.{varsOf, work}
+use Rattle.fulltext.specs.Documents.{work}
 use Rattle.lihambozy.specs.Flat.{flatSizes, flatPlan}
 use Rattle.lihambozy.specs.Search.{Call, IsSearch, outcome, Searched}
 

@@ -18,7 +18,7 @@ use Rattle.plan.specs.Patterns.{Pattern}
 use Rattle.plan.specs.Accepted.{patternAt}
 use Rattle.matcher.specs.declared.answers.Tested.{Tested}
 use Rattle.fulltext.specs.Matches.{matchesAt, leastIn, Least}
-use Rattle.fulltext.specs.Documents.{found, matching, varsOf, work}
+use Rattle.fulltext.specs.Documents.{found, matching, work}
 use Rattle.matcher.specs.Testing.{testAnswer}
 use Rattle.matcher.specs.Refusals.{TestApplies, testStages}
 

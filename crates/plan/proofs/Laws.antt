@@ -12,6 +12,8 @@
 --     CheckFirst           checking answers the first refusal that applies
 --     ShownFirst           a part is empty exactly if a refusal applies; the parts and the plan
 --     Accepted             what acceptance gives
+--     Outline              the rows and the variables of each pattern
+--     Stack                the answers as bits, row by row
 --     Answers, Sample      an answer is known from its number and values; document 01's sample plan
 pub mod Kinds
 pub mod Rows
@@ -29,5 +31,7 @@ pub mod Shown
 pub mod CheckFirst
 pub mod ShownFirst
 pub mod Accepted
+pub mod Outline
+pub mod Stack
 pub mod Answers
 pub mod Sample

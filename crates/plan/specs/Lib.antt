@@ -10,6 +10,7 @@
 --     Refusals    document 01's refusals as relations, one line for each number
 --     Accepted    what acceptance gives
 --     Demands     the statements that the crate is held to
+--     Inner       what serves contracts inside the engine only
 pub mod Limits
 pub mod Rows
 pub mod Standing
@@ -21,3 +22,4 @@ pub mod Counts
 pub mod Refusals
 pub mod Accepted
 pub mod Demands
+pub mod Inner

@@ -18,14 +18,14 @@ use Rattle.volume.specs.Layout.{count, listsOf}
 use Rattle.volume.specs.Check as volume
 use Rattle.plan.specs.Rows.{rowsOf}
 use Rattle.plan.specs.Check as plan
-use Rattle.plan.specs.Patterns.{Pattern}
+use Rattle.plan.specs.Patterns.{Pattern, varsOf}
 use Rattle.plan.specs.Accepted.{patternAt}
 use Rattle.search.specs.declared.answers.Listed.{Listed}
 use Rattle.matcher.specs.declared.answers.Tested.{Tested}
 use Rattle.fulltext.specs.Positions.{limit}
 use Rattle.fulltext.specs.Calculus.{True, openFormula, patternFormula, planFormula}
 use Rattle.fulltext.specs.Matches.{matchesAt, leastIn, Least}
-use Rattle.fulltext.specs.Documents.{found, matching, varsOf, work}
+use Rattle.fulltext.specs.Documents.{found, matching, work}
 use Rattle.search.specs.Answers.{Page, saidListed}
 use Rattle.matcher.specs.Answers.{saidTested}
 use Rattle.matcher.specs.Testing.{testAnswer}

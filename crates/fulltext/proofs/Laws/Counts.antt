@@ -33,14 +33,14 @@ use Rattle.volume.proofs.Laws.Bytes.{le32-lt}
 use Rattle.volume.proofs.Laws.Volume.{list-of}
 use Rattle.plan.specs.declared.row.Row.{Row}
 use Rattle.plan.specs.Rows.{rowsOf}
-use Rattle.plan.specs.Patterns.{Pattern, noRow, patternsOf}
+use Rattle.plan.specs.Patterns.{Pattern, noRow, patternsOf, varsOf}
 use Rattle.plan.specs.Check.{sizes}
 use Rattle.plan.specs.Check as plan
 use Rattle.plan.specs.Accepted.{patternAt}
 use Rattle.plan.proofs.Laws.Accepted.{given}
 use Rattle.fulltext.specs.Positions.{limit, listOf, positionsIn, countIn}
 use Rattle.fulltext.specs.Matches.{withEach, tuples, matches, allHold, startsIn, varsIn, leastIn}
-use Rattle.fulltext.specs.Documents.{shown, shownIn, rowIn, varsOf, postingsIn, workOf, work}
+use Rattle.fulltext.specs.Documents.{shown, shownIn, rowIn, postingsIn, workOf, work}
 
 -- a tuple has n positions
 abbrev ofLength : ℕ → List ℕ → Bool

@@ -25,12 +25,12 @@ use Rattle.volume.proofs.Demands as volume
 use Rattle.plan.specs.Answers.{Sizes}
 use Rattle.plan.specs.Rows.{rowAt, rowsOf, misused, formWrong}
 use Rattle.plan.specs.Standing.{stand, standing, step}
-use Rattle.plan.specs.Patterns.{patternsFrom, answersFrom, answer}
+use Rattle.plan.specs.Patterns.{patternsFrom, answersFrom, answer, varsOf}
 use Rattle.plan.specs.Check.{lengthWrong, rowWrong, rowFault, rowsWrong, unfinished, sizes, rowsVerdict, planVerdict, verdictBy, verdict, Accepted}
 use Rattle.plan.proofs.Laws.CheckFirst.{check-sound}
 use Rattle.fulltext.specs.Positions.{limit, listOf, positionsIn, countIn}
 use Rattle.fulltext.specs.Matches.{holds, withEach, tuples, matches, leastIn}
-use Rattle.fulltext.specs.Documents.{found, matching, rowIn, varsOf, postingsIn, Work, workOf, docsIn, rowsOfDocs, work}
+use Rattle.fulltext.specs.Documents.{found, matching, rowIn, postingsIn, Work, workOf, docsIn, rowsOfDocs, work}
 use Rattle.search.specs.Answers.{Page}
 use Rattle.search.specs.Listing.{pageBy, pageOf, rowsFrom, listBy, listAnswer, listOut}
 use Rattle.search.specs.Cases.{sample, untouched, Question, zeroBytes, checkSample, list, Result, checked, listed, told, Case, table}

@@ -1,4 +1,4 @@
--- The laws of `specs/Tables.antt`: the rows and the variables of each pattern of an accepted plan. No contract cites this file.
+-- The laws of `specs/Inner/Outline.antt`: the rows and the variables of each pattern of an accepted plan. No contract cites this file.
 --     varsBefore-first, varsBefore-next, varsBefore-end, vars-within     the variables in front of a pattern
 --     last-row, behindVoices-is                the rows of a pattern
 --     entry-is                                 its entry in a table
@@ -24,21 +24,21 @@ use Rattle.seq.proofs.Laws.Lists.{total-snoc}
 use Rattle.seq.proofs.Laws.Numbers.{first-ge, first-at, first-before, length-run, getD-run}
 use Rattle.seq.proofs.Laws.Tests.{contrary, below-or}
 use Rattle.volume.specs.Layout.{listCount}
 use Rattle.plan.specs.declared.row.Predicate.{Predicate}
 use Rattle.plan.specs.declared.row.Predicate.the-variants.{Distance, Ordered, Samepara, Window}
 use Rattle.plan.specs.declared.row.Kind.the-variants as kind
 use Rattle.plan.specs.declared.row.Row.{Row}
 use Rattle.plan.specs.declared.showing.Span.{Span}
 use Rattle.plan.specs.Rows.{rowCount, kindAt, rowAt, rowsOf}
 use Rattle.plan.specs.Patterns.{Pattern, noRow, patternsOf}
 use Rattle.plan.specs.Parts.{firstRow, lastRow, spanAt, patternRows}
 use Rattle.plan.specs.Check.{Accepted, sizes}
 use Rattle.plan.specs.Accepted.{patternAt}
 use Rattle.plan.proofs.Laws.Passed.{Passed}
 use Rattle.plan.proofs.Laws.Check.{verdict-passed}
 use Rattle.plan.proofs.Laws.Rows.{numberOf, number-at, rows-slice}
 use Rattle.plan.proofs.Laws.Parts.{span-within, span-rises, part-rows}
-use Rattle.matcher.specs.Tables.{behindVoices, varsBefore, Entry, Tabled}
+use Rattle.plan.specs.Inner.Outline.{behindVoices, varsBefore, outlineAt, Entry, Tabled}
 
 -- the number of a pattern's variables, and of its predicates
 abbrev varCount : Pattern → ℕ
@@ -208,7 +208,7 @@ module _ (v p : List ℕ) (accepted : Accepted v p) (k : ℕ) (h : k < sizes p .
           let q : kindAt p (firstRow p k + (j - firstRow p k)) ≡ 1 = sym (number-is (j - firstRow p k) (omega arith)) ∙ ap numberOf (voice-row (j - firstRow p k) (omega arith)) in
           ap not (eq-eqb (kindAt p j) 1 (rw i at q))
 
-  entry-is : (first vars behind last : ℕ) → first ≡ varsBefore p k → vars ≡ varCount (patternAt p k) → behind ≡ firstRow p k + varCount (patternAt p k) → last ≡ lastRow p k → Entry p k first vars behind last
+  entry-is : (first vars behind last : ℕ) → first ≡ varsBefore p k → vars ≡ varCount (patternAt p k) → behind ≡ firstRow p k + varCount (patternAt p k) → last ≡ lastRow p k → Entry p (record { pattern = k; first = first; vars = vars; condition = behind; last = last })
   entry-is first vars behind last a b c d =
       let e = last-row in
       let s = span-order in
@@ -281,7 +281,7 @@ module _ (table : List ℕ) (i a b c d : ℕ) where
 
 -- the entry of pattern k
 abbrev pub EntryAt : List ℕ → List ℕ → ℕ → Type 0
-EntryAt p table k = Entry p k (getD table (4 * k) 0) (getD table (4 * k + 1) 0) (getD table (4 * k + 2) 0) (getD table (4 * k + 3) 0)
+EntryAt p table k = Entry p (outlineAt table k)
 
 -- the entries of the first k patterns, which have so many variables, in a table of n numbers
 pub record Laid (p : List ℕ) (n : ℕ) (table : List ℕ) (vars k : ℕ) : Type 0 where

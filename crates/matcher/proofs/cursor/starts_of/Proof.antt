@@ -1,4 +1,4 @@
--- `setup::starts_of` meets its contract. Assumes nothing.
+-- `cursor::starts_of` meets its contract. Assumes nothing.
 use native.Mathlib.Omega.{arith}
 use Prim.Native.Nat.{_+_}
 use mathlib.Core.Path.{ap}
@@ -6,8 +6,8 @@ use denote.Ref.{now}
 use Rattle.volume.specs.declared.reading.Span.{Span}
 use Rattle.volume.proofs.Laws.Check.{good}
 use Rattle.matcher.proofs.Laws.Testing.{span-small}
-use Rattle.matcher.proofs.outline.starts_of.Statement.{statement}
-use Rattle.matcher.proofs.outline.starts_of.Tie as tie
+use Rattle.matcher.proofs.cursor.starts_of.Statement.{statement}
+use Rattle.matcher.proofs.cursor.starts_of.Tie as tie
 
 list-span-requires : tie.Need-list-span-requires
 list-span-requires c κs = (c .before .pre, good _ (c .before .pre) .lists-some)

@@ -1,13 +1,13 @@
--- `setup::lay_out` meets its contract. The loop's invariant: the entries of the first k patterns are laid out, and they have `vars` variables.
+-- `outline::lay_out` meets its contract. The loop's invariant: the entries of the first k patterns are laid out, and they have `vars` variables.
 -- The measure is what is left of the patterns. Assumes nothing.
 use native.Mathlib.Omega.{arith}
 use Prim.Native.Nat.{_-_}
 use lib.ListN.{length, length-set}
 use denote.Ref.{now}
 use Rattle.plan.proofs.Laws.Accepted.{given}
-use Rattle.matcher.proofs.Laws.Tables.{vars-within, Spanned, spanned, Laid, laid-first, laid-next, laid-done}
-use Rattle.matcher.proofs.outline.lay_out.Statement.{statement}
-use Rattle.matcher.proofs.outline.lay_out.Tie as tie
+use Rattle.plan.proofs.Laws.Outline.{vars-within, Spanned, spanned, Laid, laid-first, laid-next, laid-done}
+use Rattle.plan.proofs.outline.lay_out.Statement.{statement}
+use Rattle.plan.proofs.outline.lay_out.Tie as tie
 
 abbrev Inv-loop : tie.InvT-loop
 Inv-loop plan patterns table₀ vars₀ k₀ table vars k = Laid plan (length table₀) table vars k

@@ -1,14 +1,21 @@
-// What is laid out of a plan before its documents are walked.
+// Where each pattern of a plan lies: its rows, and its variables among those of the plan.
 ghost use mathlib.Core.Path.{_≡_};
 ghost use mathlib.Core.List.{List};
-ghost use Prim.Native.Nat.{ℕ, _*_, _<_, _≤_};
+ghost use Prim.Native.Nat.{ℕ, _+_, _*_, _≤_};
 ghost use lib.ListN.{length};
-ghost use Rattle.volume.specs.Layout.{listCount};
-ghost use Rattle.volume.specs.Check as volumes;
 ghost use Rattle.plan.specs.Check.{Accepted, sizes};
-ghost use Rattle.matcher.specs.Cursors.{listCursor};
-ghost use Rattle.matcher.specs.Tables.{behindVoices, Tabled, cursorOn, Cursors};
-use super::cursor::Cursor;
+ghost use Rattle.plan.specs.Inner.Outline.{behindVoices, outlineAt, Tabled};
+use super::showing::span_at;
+
+// A pattern's number, its first variable among those of the plan, how many it has, the row of its
+// first condition, and that of its END.
+pub struct Outline {
+    pub pattern: usize,
+    pub first: usize,
+    pub vars: usize,
+    pub condition: usize,
+    pub last: usize,
+}
 
 // The first row from row `from` on that is no VOICE; where there is none, the number of rows, or
 // `from` if that is larger.
@@ -26,8 +33,7 @@ fn behind_voices(plan: &[u32], from: usize) -> usize
     i
 }
 
-// The table of a plan's patterns: for each one its first variable among those of the plan, how many
-// it has, the row of its first predicate, and the row of its END.
+// The outlines of a plan's patterns, in a table of four numbers for each pattern.
 pub fn lay_out(plan: &[u32], patterns: usize, table: &mut [usize])
     requires { ⌜ ((v : List ℕ) × Accepted v (now plan)) ⌝ }
     requires { ⌜ patterns ≡ sizes (now plan) .patterns ⌝ }
@@ -37,7 +43,7 @@ pub fn lay_out(plan: &[u32], patterns: usize, table: &mut [usize])
     let mut vars: usize = 0;
     let mut k: usize = 0;
     while k < patterns {
-        let span = plan::span_at(plan, k);
+        let span = span_at(plan, k);
         let first = span.start / 4;
         let condition = behind_voices(plan, first);
         let count = condition - first;
@@ -51,15 +57,17 @@ pub fn lay_out(plan: &[u32], patterns: usize, table: &mut [usize])
     }
 }
 
-// A cursor on list 0, at its first posting.
-pub fn starts_of(volume: &[u8]) -> Cursor
-    requires { ⌜ volumes.Accepted (now volume) ⌝ }
-    ensures { λ r. ⌜ r ≡ listCursor (now (volume .entry)) 0 ⌝ }
+// The outline of pattern k, from such a table.
+pub fn outline_at(table: &[usize], k: usize) -> Outline
+    requires { ⌜ 4 * k + 4 ≤ length (now table) ⌝ }
+    ensures { λ r. ⌜ r ≡ outlineAt (now (table .entry)) k ⌝ }
 {
-    let span = volume::list_span(volume, 0);
-    let end = span.start + span.count;
-    Cursor {
-        at: span.start,
-        end,
+    let at = 4 * k;
+    Outline {
+        pattern: k,
+        first: table[at],
+        vars: table[at + 1],
+        condition: table[at + 2],
+        last: table[at + 3],
     }
 }

@@ -1,11 +1,11 @@
 -- A row that is a condition has its predicate; no other kind is met.
 use borrow.Author.Needs.{needs}
-use Rattle.matcher.proofs.least.predicate_at.Statement.{statement}
-use Rattle.matcher.proofs.least.predicate_at.Tie as tie
+use Rattle.plan.proofs.reading.predicate_at.Statement.{statement}
+use Rattle.plan.proofs.reading.predicate_at.Tie as tie
 use mathlib.Core.Path.{sym, ap, _∙_}
 use mathlib.Core.Bool.{true≢false}
 use Rattle.plan.specs.declared.row.Row.{Row}
 use Rattle.plan.specs.Rows.{isCondition}
 
 row-at-requires : tie.Need-row-at-requires
 row-at-requires c κs = search needs

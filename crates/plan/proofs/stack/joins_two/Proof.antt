@@ -1,7 +1,7 @@
--- `answering::joins_two` meets its contract, return by return. Assumes nothing.
+-- `stack::joins_two` meets its contract, return by return. Assumes nothing.
 use borrow.Author.Tests.{eq-eqb, ne-eqb}
-use Rattle.search.proofs.answering.joins_two.Statement.{statement}
-use Rattle.search.proofs.answering.joins_two.Tie as tie
+use Rattle.plan.proofs.stack.joins_two.Statement.{statement}
+use Rattle.plan.proofs.stack.joins_two.Tie as tie
 
 returns : tie.Need-returns
 returns c = simp (eq-eqb _ _ (c .if1 .taken))

@@ -4,10 +4,10 @@ ghost use mathlib.Core.Bool.{Bool};
 ghost use mathlib.Core.List.{List};
 ghost use Prim.Native.Nat.{ℕ, _<_, _≤_};
 ghost use lib.ListN.{length, getD};
 ghost use Rattle.plan.specs.Rows.{rowsOf};
 ghost use Rattle.plan.specs.Patterns.{Pattern, answer};
 ghost use Rattle.plan.specs.Check.{Accepted, sizes};
-ghost use Rattle.search.specs.Flags.{Flags, joinsTwo, operated};
+ghost use Rattle.plan.specs.Inner.Stack.{Flags, joinsTwo, operated};
 
 // Whether the operator of a kind, 7 to 9, answers yes to the two bits of its answers, the second
 // answer the lower one.

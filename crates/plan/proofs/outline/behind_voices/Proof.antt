@@ -1,4 +1,4 @@
--- `setup::behind_voices` meets its contract. The loop's invariant: the first row that is no VOICE from i on is the first from `from` on.
+-- `outline::behind_voices` meets its contract. The loop's invariant: the first row that is no VOICE from i on is the first from `from` on.
 -- The measure is what is left of the rows. Assumes nothing.
 use native.Mathlib.Omega.{arith}
 use Prim.Native.Nat.{_-_}
@@ -8,10 +8,10 @@ use lib.Dec.{eqb}
 use denote.Ref.{now}
 use borrow.Author.Tests.{eq-eqb, ne-eqb}
 use Rattle.seq.proofs.Laws.Numbers.{first-hit, first-miss, first-end}
 use Rattle.plan.specs.Rows.{rowCount, kindAt}
-use Rattle.matcher.specs.Tables.{behindVoices}
-use Rattle.matcher.proofs.outline.behind_voices.Statement.{statement}
-use Rattle.matcher.proofs.outline.behind_voices.Tie as tie
+use Rattle.plan.specs.Inner.Outline.{behindVoices}
+use Rattle.plan.proofs.outline.behind_voices.Statement.{statement}
+use Rattle.plan.proofs.outline.behind_voices.Tie as tie
 
 abbrev Inv-loop : tie.InvT-loop
 Inv-loop plan from n i₀ i = behindVoices plan i ≡ behindVoices plan from

@@ -1,15 +1,15 @@
--- `answering::answer_of` meets its contract. The loop's invariant: the bits are those of the answers in front of row i, and k patterns are
+-- `stack::answer_of` meets its contract. The loop's invariant: the bits are those of the answers in front of row i, and k patterns are
 -- closed there. The measure is what is left of the rows. Assumes nothing.
 use native.Mathlib.Omega.{arith}
 use Prim.Native.Nat.{_-_, _<_}
 use denote.Ref.{now}
 use Rattle.plan.specs.Rows.{rowCount}
 use Rattle.plan.specs.Check.{sizes}
 use Rattle.plan.proofs.Laws.Check.{verdict-passed}
 use Rattle.plan.proofs.Laws.Accepted.{given}
-use Rattle.search.proofs.Laws.Answering.{Reading, reading-first, reading-small, reading-pass, reading-there, reading-end, reading-operate, reading-done}
-use Rattle.search.proofs.answering.answer_of.Statement.{statement}
-use Rattle.search.proofs.answering.answer_of.Tie as tie
+use Rattle.plan.proofs.Laws.Stack.{Reading, reading-first, reading-small, reading-pass, reading-there, reading-end, reading-operate, reading-done}
+use Rattle.plan.proofs.stack.answer_of.Statement.{statement}
+use Rattle.plan.proofs.stack.answer_of.Tie as tie
 
 abbrev Inv-loop : tie.InvT-loop
 Inv-loop plan flags n stack₀ k₀ i₀ stack k i = Reading plan flags stack k i

@@ -1,9 +1,9 @@
--- `answering::operate` meets its contract. Assumes nothing.
+-- `stack::operate` meets its contract. Assumes nothing.
 use borrow.Author.Needs.{needs}
 use native.Mathlib.Omega.{arith}
 use mathlib.Core.Path.{sym, _∙_}
-use Rattle.search.proofs.answering.operate.Statement.{statement}
-use Rattle.search.proofs.answering.operate.Tie as tie
+use Rattle.plan.proofs.stack.operate.Statement.{statement}
+use Rattle.plan.proofs.stack.operate.Tie as tie
 
 mul-rest : tie.Need-mul-rest
 mul-rest c = search needs

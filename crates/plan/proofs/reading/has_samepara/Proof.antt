@@ -1,6 +1,6 @@
 -- The first SAME TITLE row from i on is the first of all.
-use Rattle.search.proofs.setup.has_samepara.Statement.{statement}
-use Rattle.search.proofs.setup.has_samepara.Tie as tie
+use Rattle.plan.proofs.reading.has_samepara.Statement.{statement}
+use Rattle.plan.proofs.reading.has_samepara.Tie as tie
 use native.Mathlib.Omega.{arith}
 use Prim.Native.Nat.{ℕ, _-_}
 use mathlib.Core.Path.{_≡_, sym, ap, _∙_}
@@ -9,8 +9,8 @@ use denote.Ref.{now}
 use borrow.Author.Tests.{eq-eqb, ne-eqb, lt-ltb, le-ltb}
 use Rattle.seq.specs.Numbers.{firstFrom}
 use Rattle.seq.proofs.Laws.Numbers.{first-hit, first-miss, first-end}
 use Rattle.plan.specs.Rows.{rowCount, kindAt}
-use Rattle.search.specs.Flags.{hasSamepara}
+use Rattle.plan.specs.Inner.Outline.{hasSamepara}
 
 abbrev Inv-loop : tie.InvT-loop
 Inv-loop plan n i₀ i = firstFrom (λ j. eqb (kindAt plan j) 4) i (rowCount plan - i) ≡ firstFrom (λ j. eqb (kindAt plan j) 4) 0 (rowCount plan)

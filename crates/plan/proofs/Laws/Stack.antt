@@ -20,22 +20,22 @@ use lib.Dec.{eqb}
 use Rattle.seq.specs.Numbers.{run}
 use Rattle.seq.proofs.Laws.Tests.{below-or}
 use Rattle.seq.proofs.Laws.Numbers.{run-end, run-step}
 use Rattle.plan.specs.declared.row.Predicate.the-variants.{Distance, Ordered, Samepara, Window}
 use Rattle.plan.specs.declared.row.Operator.{Operator}
 use Rattle.plan.specs.declared.row.Operator.the-variants.{Both, Either, FirstNotSecond}
 use Rattle.plan.specs.declared.row.Kind.{Kind}
 use Rattle.plan.specs.declared.row.Kind.the-variants as kind
 use Rattle.plan.specs.declared.row.Row.{Row}
 use Rattle.plan.specs.declared.standing.Standing.{Standing}
 use Rattle.plan.specs.Rows.{rowCount, kindAt, rowAt, rowsOf, formWrongAt}
 use Rattle.plan.specs.Standing.{takes, after, standing, orderWrong}
 use Rattle.plan.specs.Patterns.{Pattern, noRow, openAfter, closed, patternsFrom, patternsOf, operate, answersAfter, answersFrom, answer}
 use Rattle.plan.specs.Check.{sizes}
 use Rattle.plan.specs.Accepted.{patternAt}
 use Rattle.plan.proofs.Laws.Rows.{numberOf, number-at}
 use Rattle.plan.proofs.Laws.Standing.{standing-first, standing-next, takes-two, operator-stands}
 use Rattle.plan.proofs.Laws.Patterns.{operate-length}
-use Rattle.search.specs.Flags.{flagOf, Flags, bitsOf, joinsTwo, operated}
+use Rattle.plan.specs.Inner.Stack.{flagOf, Flags, bitsOf, joinsTwo, operated}
 
 flag-le : (t : Bool) → flagOf t ≤ 1
 flag-le true = omega arith
