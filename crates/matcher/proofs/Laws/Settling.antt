@@ -232,19 +232,6 @@ shown-next xs row₀ i row x s h room = record {
     size = length-append (take i row₀) (take x xs) ∙ let a = length-take-le i row₀ (omega arith) in let b = length-take-le x xs (omega arith) in omega arith
 
 -- behind a flag that was stored in front of them
-pub shown-done : (xs d : List ℕ) (to flag : ℕ) (row : List ℕ) (x : ℕ) → to < length d → Shown xs (set d to flag) (to + 1) row x → row ≡ take to d ++ ((flag ∷ take x xs) ++ drop (to + (1 + x)) d)
-shown-done xs d to flag row x h s =
-    s .stored
-    ∙ ap (λ (l : List ℕ). (l ++ take x xs) ++ drop (to + 1 + x) (set d to flag)) front
-    ∙ ap (λ (l : List ℕ). ((take to d ++ (flag ∷ [])) ++ take x xs) ++ l) (drop-set-lt (to + 1 + x) d to flag (omega arith) ∙ ap (λ (j : ℕ). drop j d) (let e : to + 1 + x ≡ to + (1 + x) = omega arith in e))
-    ∙ ap (λ (l : List ℕ). l ++ drop (to + (1 + x)) d) (append-assoc (take to d) (flag ∷ []) (take x xs))
-    ∙ append-assoc (take to d) (flag ∷ take x xs) (drop (to + (1 + x)) d)
-  where
-    size : length (take to d) ≡ to
-    size = length-take-le to d (omega arith)
-
-    stored : set d to flag ≡ (take to d ++ (flag ∷ [])) ++ drop (to + 1) d
-    stored = ap (λ (l : List ℕ). set l to flag) (sym (take-append-drop to d)) ∙ put-next (take to d) d to flag size h
-
-    front : take (to + 1) (set d to flag) ≡ take to d ++ (flag ∷ [])
-    front = ap (take (to + 1)) stored ∙ take-at (take to d ++ (flag ∷ [])) (drop (to + 1) d) (to + 1) (length-append (take to d) (flag ∷ []) ∙ let e = size in omega arith)
+pub shown-done : (xs d : List ℕ) (flag : ℕ) (row : List ℕ) (x : ℕ) → 1 ≤ length d → Shown xs (set d 0 flag) 1 row x → row ≡ (flag ∷ take x xs) ++ drop (1 + x) d
+shown-done xs [] flag row x h s = absurd (let z : ⊥ = omega arith in z)
+shown-done xs (w ∷ ws) flag row x h s = s .stored ∙ let e : 1 + x ≡ suc x = omega arith in rw e refl

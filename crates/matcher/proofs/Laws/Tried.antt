@@ -1,10 +1,10 @@
 -- The search for the least match of a pattern, predicate by predicate. No contract cites this file.
---     Matching                 where the search stands: the predicates in front of a row hold, and no match is in front of the positions
---     matching-first           before the first predicate
---     matching-asks            what is asked of a predicate's row
---     matching-holds           a predicate holds
---     matching-jump, matching-out     a variable that is left short jumps; it finds no position
---     matching-done            all predicates hold
+--     Tried                    where the search stands: the predicates in front of a row hold, and no match is in front of the positions
+--     tried-first              before the first predicate
+--     tried-asks            what is asked of a predicate's row
+--     tried-holds           a predicate holds
+--     tried-jump, tried-out     a variable that is left short jumps; it finds no position
+--     tried-done            all predicates hold
 --     slack                    what the positions still may move
 -- Assumes nothing.
 use Prim.Native.Nat.{ℕ, zero, suc, _+_, _-_, _*_, _<_, _≤_}
@@ -28,10 +28,11 @@ use Rattle.plan.specs.Rows.{rowCount, rowAt, formWrongAt, InRange}
 use Rattle.plan.specs.Standing.{namesBelow}
 use Rattle.plan.specs.Accepted.{patternAt, Given, WellMade}
 use Rattle.plan.proofs.Laws.Accepted.{given}
-use Rattle.matcher.specs.declared.cursor.Cursor.{Cursor}
+use Rattle.plan.specs.declared.outline.Outline.{Outline}
+use Rattle.matcher.specs.declared.cursor.Document.{Document}
 use Rattle.fulltext.specs.Matches.{holds, startsIn, leastFrom}
 use Rattle.matcher.specs.Shortfall.{LeftShort}
-use Rattle.matcher.specs.Cursors.{seekFrom, Stretch, listEnd, Stands}
+use Rattle.matcher.specs.Cursors.{seekFrom, Stretch, listEnd, AtDocument}
 use Rattle.matcher.specs.Settling.{Jumped, Standing, Low, Posed}
 use Rattle.matcher.proofs.Laws.Settling.{low-first, low-done, low-var, low-stretch, low-end, low-out, low-later, low-jump}
 
@@ -53,15 +54,30 @@ conditionOf (kind.Condition c) = c
 conditionOf kind.End = Window 1
 conditionOf (kind.Operator o) = Window 1
 
-pub record Matching (v p : List ℕ) (k n condition last d : ℕ) (here₀ ps₀ here ps : List ℕ) (row : ℕ) : Type 0 where
-  pub from : condition ≤ row
-  pub to : row ≤ last
+pub record Tried (v p : List ℕ) (o : Outline) (d : ℕ) (here₀ ps₀ here ps : List ℕ) (row : ℕ) : Type 0 where
+  pub from : o .condition ≤ row
+  pub to : row ≤ o .last
   pub here-length : length here ≡ length here₀
   pub ps-length : length ps ≡ length ps₀
-  pub low : Low v d (patternAt p k) (take n ps₀) here ps
-  pub holding : (j : ℕ) → condition + j < row → holds (startsIn (listsOf v) d) (getD (patternAt p k .predicates) j (Window 1)) (take n ps) ≡ true
+  pub low : Low v d (patternAt p (o .pattern)) (take (o .vars) ps₀) here ps
+  pub holding : (j : ℕ) → o .condition + j < row → holds (startsIn (listsOf v) d) (getD (patternAt p (o .pattern) .predicates) j (Window 1)) (take (o .vars) ps) ≡ true
 
-module _ (v p ends : List ℕ) (k first n condition last d : ℕ) (starts : Cursor) (q : Posed v p ends k first n condition last d starts) where
+module _ (v p : List ℕ) (o : Outline) (doc : Document) (ends : List ℕ) (q : Posed v p o doc ends) where
+  abbrev k : ℕ
+  k = o .pattern
+
+  abbrev n : ℕ
+  n = o .vars
+
+  abbrev condition : ℕ
+  condition = o .condition
+
+  abbrev last : ℕ
+  last = o .last
+
+  abbrev d : ℕ
+  d = doc .doc
+
   g : Given v p
   g = given v p (q .accepted)
 
@@ -77,8 +93,8 @@ module _ (v p ends : List ℕ) (k first n condition last d : ℕ) (starts : Curs
   many : n ≡ length (patternAt p k .vars)
   many = q .entry .vars-are
 
-  pub matching-first : (here₀ ps₀ : List ℕ) → n ≤ length ps₀ → Standing v d (patternAt p k) here₀ ps₀ → Matching v p k n condition last d here₀ ps₀ here₀ ps₀ condition
-  matching-first here₀ ps₀ room l = record {
+  pub tried-first : (here₀ ps₀ : List ℕ) → n ≤ length ps₀ → Standing v d (patternAt p k) here₀ ps₀ → Tried v p o (doc .doc) here₀ ps₀ here₀ ps₀ condition
+  tried-first here₀ ps₀ room l = record {
     from = omega arith;
     to = let e = q .entry .last-is in omega arith;
     here-length = refl;
@@ -88,8 +104,8 @@ module _ (v p ends : List ℕ) (k first n condition last d : ℕ) (starts : Curs
   }
 
   -- the rows of the predicates
-  pub matching-last : last ≤ 64
-  matching-last = let a = q .entry .inside in let b = g .most-rows in omega arith
+  pub tried-last : last ≤ 64
+  tried-last = let a = q .entry .inside in let b = g .most-rows in omega arith
 
   some-vars : 1 ≤ n
   some-vars = let a = made .some-vars in let e = many in omega arith
@@ -104,8 +120,8 @@ module _ (v p ends : List ℕ) (k first n condition last d : ℕ) (starts : Curs
     row-is : rowAt p row .kind ≡ kind.Condition (getD (patternAt p k .predicates) (row - condition) (Window 1))
     row-is = subst (λ (i : ℕ). rowAt p i .kind ≡ kind.Condition (getD (patternAt p k .predicates) (row - condition) (Window 1))) back (q .entry .conditions (row - condition) inside)
 
-    pub matching-asks : (row < rowCount p) × ((formWrongAt p row ≡ false) × ((c : Predicate) × (rowAt p row .kind ≡ kind.Condition c)))
-    matching-asks = let a = q .entry .inside in (omega arith, (g .formed row (omega arith), (getD (patternAt p k .predicates) (row - condition) (Window 1), row-is)))
+    pub tried-asks : (row < rowCount p) × ((formWrongAt p row ≡ false) × ((c : Predicate) × (rowAt p row .kind ≡ kind.Condition c)))
+    tried-asks = let a = q .entry .inside in (omega arith, (g .formed row (omega arith), (getD (patternAt p k .predicates) (row - condition) (Window 1), row-is)))
 
     module _ (c : Predicate) (e : rowAt p row .kind ≡ kind.Condition c) where
       predicate-is : c ≡ getD (patternAt p k .predicates) (row - condition) (Window 1)
@@ -117,14 +133,14 @@ module _ (v p ends : List ℕ) (k first n condition last d : ℕ) (starts : Curs
       predicate-range : InRange (kind.Condition c)
       predicate-range = rw predicate-is (made .ranges (row - condition) inside)
 
-      module _ (here₀ ps₀ here ps : List ℕ) (m : Matching v p k n condition last d here₀ ps₀ here ps row) where
+      module _ (here₀ ps₀ here ps : List ℕ) (m : Tried v p o (doc .doc) here₀ ps₀ here ps row) where
         -- what is asked of its predicate
-        pub predicate-asks : n ≤ length ps₀ → volume.Accepted v × (Stands v 0 d (starts .at) × ((starts .end ≡ listEnd v 0) × ((d ≤ 65535) × ((1 ≤ n) × ((n ≤ length ps) × (((x : ℕ) → x < n → getD ps x 0 ≤ 65535) × ((namesBelow n c ≡ true) × InRange (kind.Condition c))))))))
+        pub predicate-asks : n ≤ length ps₀ → volume.Accepted v × (AtDocument v doc × ((1 ≤ n) × ((n ≤ length ps) × (((x : ℕ) → x < n → getD ps x 0 ≤ 65535) × ((namesBelow n c ≡ true) × InRange (kind.Condition c))))))
         predicate-asks room =
-            (ok, (q .starts-at, (q .starts-end, (q .doc, (some-vars, (let w = m .ps-length in omega arith, (λ x s. m .low .standing x (let e = many in omega arith) .small, (predicate-names, predicate-range))))))))
+            (ok, (q .document, (some-vars, (let w = m .ps-length in omega arith, (λ x s. m .low .standing x (let e = many in omega arith) .small, (predicate-names, predicate-range))))))
 
-        pub matching-holds : holds (startsIn (listsOf v) d) c (take n ps) ≡ true → Matching v p k n condition last d here₀ ps₀ here ps (row + 1)
-        matching-holds t = record {
+        pub tried-holds : holds (startsIn (listsOf v) d) c (take n ps) ≡ true → Tried v p o (doc .doc) here₀ ps₀ here ps (row + 1)
+        tried-holds t = record {
           from = omega arith;
           to = omega arith;
           here-length = m .here-length;
@@ -149,47 +165,47 @@ module _ (v p ends : List ℕ) (k first n condition last d : ℕ) (starts : Curs
           pub jump-need : 1 ≤ b
           jump-need = let w = short .before in omega arith
 
-          the-end : getD ends (first + x) 0 ≡ listEnd v (getD (patternAt p k .vars) x 0)
+          the-end : getD ends x 0 ≡ listEnd v (getD (patternAt p k .vars) x 0)
           the-end = q .ends-are x jump-var
 
-          pub jump-stretch : Stretch v (getD here x 0) (getD ends (first + x) 0)
+          pub jump-stretch : Stretch v (getD here x 0) (getD ends x 0)
           jump-stretch = rw the-end (low-stretch v ok d (patternAt p k) there (take n ps₀) here ps ps-room here-room (m .low) (row - condition) inside x b left _ refl)
 
-          pub matching-out : (r : Bool) (here′ ps′ : List ℕ) → Jumped v d (getD ends (first + x) 0) b x here ps r here′ ps′ → r ≡ false → leastFrom (listsOf v) d (patternAt p k) (take n ps₀) ≡ none
-          matching-out r here′ ps′ j e = go (subst (λ (t : Bool). Jumped v d (getD ends (first + x) 0) b x here ps t here′ ps′) e j)
+          pub tried-out : (r : Bool) (here′ ps′ : List ℕ) → Jumped v d (getD ends x 0) b x here ps r here′ ps′ → r ≡ false → leastFrom (listsOf v) d (patternAt p k) (take n ps₀) ≡ none
+          tried-out r here′ ps′ j e = go (subst (λ (t : Bool). Jumped v d (getD ends x 0) b x here ps t here′ ps′) e j)
             where
-              out : getD ends (first + x) 0 ≤ seekFrom v (d * 65536 + b) (getD here x 0) (getD ends (first + x) 0) → leastFrom (listsOf v) d (patternAt p k) (take n ps₀) ≡ none
+              out : getD ends x 0 ≤ seekFrom v (d * 65536 + b) (getD here x 0) (getD ends x 0) → leastFrom (listsOf v) d (patternAt p k) (take n ps₀) ≡ none
               out o = low-end v ok d (patternAt p k) there (take n ps₀) here ps ps-room here-room (m .low) (row - condition) inside x b left _ refl (rw (← the-end) o)
 
-              away : (seekFrom v (d * 65536 + b) (getD here x 0) (getD ends (first + x) 0) < getD ends (first + x) 0) × (docOf (word v (seekFrom v (d * 65536 + b) (getD here x 0) (getD ends (first + x) 0))) ≡ d → ⊥) → leastFrom (listsOf v) d (patternAt p k) (take n ps₀) ≡ none
+              away : (seekFrom v (d * 65536 + b) (getD here x 0) (getD ends x 0) < getD ends x 0) × (docOf (word v (seekFrom v (d * 65536 + b) (getD here x 0) (getD ends x 0))) ≡ d → ⊥) → leastFrom (listsOf v) d (patternAt p k) (take n ps₀) ≡ none
               away o = low-out v ok d (patternAt p k) there (take n ps₀) here ps ps-room here-room (m .low) (row - condition) inside x b left _ refl (rw (← the-end) (o .0)) (λ e. o .1 (rw the-end e))
 
-              go : Jumped v d (getD ends (first + x) 0) b x here ps false here′ ps′ → leastFrom (listsOf v) d (patternAt p k) (take n ps₀) ≡ none
+              go : Jumped v d (getD ends x 0) b x here ps false here′ ps′ → leastFrom (listsOf v) d (patternAt p k) (take n ps₀) ≡ none
               go t = ⊎-elim out away (t .0)
 
-          jumped : (here′ ps′ : List ℕ) → Jumped v d (getD ends (first + x) 0) b x here ps true here′ ps′ → Matching v p k n condition last d here₀ ps₀ here′ ps′ condition × (slack ps′ < slack ps)
+          jumped : (here′ ps′ : List ℕ) → Jumped v d (getD ends x 0) b x here ps true here′ ps′ → Tried v p o (doc .doc) here₀ ps₀ here′ ps′ condition × (slack ps′ < slack ps)
           jumped here′ ps′ j = (
             record {
               from = omega arith;
               to = let e = q .entry .last-is in omega arith;
               here-length = ap length (j .1 .1 .0) ∙ length-set here x _ ∙ m .here-length;
               ps-length = ap length (j .1 .1 .1) ∙ length-set ps x _ ∙ m .ps-length;
-              low = rw (j .1 .1 .0, j .1 .1 .1) (low-jump v ok d (patternAt p k) there (take n ps₀) here ps ps-room here-room (m .low) (row - condition) inside x b left (seekFrom v (d * 65536 + b) (getD here x 0) (getD ends (first + x) 0)) (rw the-end refl) (rw (← the-end) (j .0)) (j .1 .0));
+              low = rw (j .1 .1 .0, j .1 .1 .1) (low-jump v ok d (patternAt p k) there (take n ps₀) here ps ps-room here-room (m .low) (row - condition) inside x b left (seekFrom v (d * 65536 + b) (getD here x 0) (getD ends x 0)) (rw the-end refl) (rw (← the-end) (j .0)) (j .1 .0));
               holding = λ i s. absurd (let z : ⊥ = omega arith in z);
             },
             less,
           )
             where
-              later : getD ps x 0 < posOf (word v (seekFrom v (d * 65536 + b) (getD here x 0) (getD ends (first + x) 0)))
-              later = low-later v ok d (patternAt p k) there (take n ps₀) here ps ps-room here-room (m .low) (row - condition) inside x b left (seekFrom v (d * 65536 + b) (getD here x 0) (getD ends (first + x) 0)) (rw the-end refl) (rw (← the-end) (j .0)) (j .1 .0)
+              later : getD ps x 0 < posOf (word v (seekFrom v (d * 65536 + b) (getD here x 0) (getD ends x 0)))
+              later = low-later v ok d (patternAt p k) there (take n ps₀) here ps ps-room here-room (m .low) (row - condition) inside x b left (seekFrom v (d * 65536 + b) (getD here x 0) (getD ends x 0)) (rw the-end refl) (rw (← the-end) (j .0)) (j .1 .0)
 
               less : slack ps′ < slack ps
-              less = rw (j .1 .1 .1) (slack-set ps x (posOf (word v (seekFrom v (d * 65536 + b) (getD here x 0) (getD ends (first + x) 0)))) (let w = m .ps-length in let y = jump-var in omega arith) later (omega arith))
+              less = rw (j .1 .1 .1) (slack-set ps x (posOf (word v (seekFrom v (d * 65536 + b) (getD here x 0) (getD ends x 0)))) (let w = m .ps-length in let y = jump-var in omega arith) later (omega arith))
 
-          pub matching-jump : (r : Bool) (here′ ps′ : List ℕ) → Jumped v d (getD ends (first + x) 0) b x here ps r here′ ps′ → r ≡ true → Matching v p k n condition last d here₀ ps₀ here′ ps′ condition × (slack ps′ < slack ps)
-          matching-jump r here′ ps′ j e = jumped here′ ps′ (subst (λ (t : Bool). Jumped v d (getD ends (first + x) 0) b x here ps t here′ ps′) e j)
+          pub tried-jump : (r : Bool) (here′ ps′ : List ℕ) → Jumped v d (getD ends x 0) b x here ps r here′ ps′ → r ≡ true → Tried v p o (doc .doc) here₀ ps₀ here′ ps′ condition × (slack ps′ < slack ps)
+          tried-jump r here′ ps′ j e = jumped here′ ps′ (subst (λ (t : Bool). Jumped v d (getD ends x 0) b x here ps t here′ ps′) e j)
 
-  pub matching-done : (here₀ ps₀ here ps : List ℕ) (row : ℕ) → n ≤ length ps₀ → Matching v p k n condition last d here₀ ps₀ here ps row → last ≤ row → leastFrom (listsOf v) d (patternAt p k) (take n ps₀) ≡ some (take n ps)
-  matching-done here₀ ps₀ here ps row room m h =
+  pub tried-done : (here₀ ps₀ here ps : List ℕ) (row : ℕ) → n ≤ length ps₀ → Tried v p o (doc .doc) here₀ ps₀ here ps row → last ≤ row → leastFrom (listsOf v) d (patternAt p k) (take n ps₀) ≡ some (take n ps)
+  tried-done here₀ ps₀ here ps row room m h =
       low-done v ok d (patternAt p k) there (take n ps₀) here ps (length-take-le n ps₀ room ∙ many) (let e = many in let w = m .ps-length in omega arith) (m .low) (λ j s. subst (λ (i : ℕ). holds (startsIn (listsOf v) d) (getD (patternAt p k .predicates) j (Window 1)) (take i ps) ≡ true) many (m .holding j (let e = q .entry .last-is in omega arith)))
       ∙ ap (λ (i : ℕ). some (take i ps)) (sym many)
