@@ -4,7 +4,7 @@ use Prim.Native.Nat.{ℕ}
 use mathlib.Core.Path.{_≡_}
 use mathlib.Core.List.{List}
 use Rattle.seq.specs.Lists.{total}
-use Rattle.volume.specs.Bytes.{IsBytes}
+use Rattle.block.specs.Bytes.{IsBytes}
 use Rattle.volume.specs.Layout.{count}
 use Rattle.volume.specs.Check as volume
 use Rattle.plan.specs.Rows.{rowsOf}

@@ -9,7 +9,7 @@ ghost use Rattle.volume.specs.Layout.{listCount, listsOf};
 ghost use Rattle.volume.specs.Check.{Accepted};
 ghost use Rattle.plan.specs.declared.row.Kind.the-variants as kind;
 ghost use Rattle.plan.specs.Rows.{InRange};
-ghost use Rattle.plan.specs.Standing.{namesBelow};
+ghost use Rattle.plan.specs.State.{namesBelow};
 ghost use Rattle.plan.specs.Check as plans;
 ghost use Rattle.plan.specs.Accepted.{patternAt};
 ghost use Rattle.fulltext.specs.Positions.{listOf, positionsIn};

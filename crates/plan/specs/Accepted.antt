@@ -10,7 +10,7 @@ use Rattle.plan.specs.declared.row.Predicate.the-variants.{Window}
 use Rattle.plan.specs.declared.row.Kind.the-variants as kind
 use Rattle.plan.specs.Limits.{mostRows, mostPatterns, mostPatternVars, mostVars, rowWords, mostRowWords}
 use Rattle.plan.specs.Rows.{rowCount, rowsOf, formWrongAt, planOf, InRange}
-use Rattle.plan.specs.Standing.{namesBelow}
+use Rattle.plan.specs.State.{namesBelow}
 use Rattle.plan.specs.Patterns.{Pattern, noRow, patternsOf, answersFrom}
 use Rattle.plan.specs.Check.{sizes}
 

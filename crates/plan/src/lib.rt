@@ -15,7 +15,7 @@ mod reading;
 mod row;
 mod showing;
 mod stack;
-mod standing;
+mod state;
 
 pub use answers::Checked;
 pub use answers::Fault;

@@ -9,7 +9,7 @@ use Prim.Native.Nat.{ℕ}
 use mathlib.Core.List.{List, [], _∷_, _++_}
 use lib.ListN.{length, replicate}
 use Rattle.seq.specs.Refusals.{Said, refused, answered}
-use Rattle.volume.specs.Checksum.{checkA, checkB}
+use Rattle.block.specs.Checksum.{checkA, checkB}
 use Rattle.volume.specs.Answers as volumes
 use Rattle.volume.specs.Check as volume
 use Rattle.volume.specs.Write.{volumeOf}

@@ -13,7 +13,7 @@ use mathlib.Core.Option.{none, some}
 use lib.ListN.{length, drop}
 use Rattle.seq.specs.Lists.{total}
 use Rattle.seq.specs.Refusals.{refused, answered, stageIn, FirstRefusal}
-use Rattle.volume.specs.Bytes.{IsBytes}
+use Rattle.block.specs.Bytes.{IsBytes}
 use Rattle.volume.specs.Layout.{count, listsOf}
 use Rattle.volume.specs.Check as volume
 use Rattle.plan.specs.Rows.{rowsOf}

@@ -5,13 +5,15 @@ use mathlib.Core.Bool.{Bool, true, false, cond}
 use mathlib.Core.Logic.{_⊎_}
 use mathlib.Core.List.{List}
 use lib.Dec.{eqb}
-use lib.ListN.{length, getD}
+use lib.ListN.{length, getD, take}
 use Rattle.volume.specs.Posting.{docOf}
-use Rattle.volume.specs.Layout.{word, listsOf}
+use Rattle.volume.specs.Layout.{word}
 use Rattle.plan.specs.Check.{Accepted, sizes}
 use Rattle.plan.specs.Accepted.{patternAt}
 use Rattle.fulltext.specs.Positions.{limit}
-use Rattle.fulltext.specs.Documents.{found}
+use Rattle.fulltext.specs.Documents.{work}
+use Rattle.matcher.specs.declared.cursor.Cursor.{Cursor}
+use Rattle.search.specs.declared.walk.Seen.{Seen}
 use Rattle.matcher.specs.Cursors.{listEnd, Stands}
 use Rattle.plan.specs.Inner.Outline.{varsBefore, Tabled}
 use Rattle.matcher.specs.Tables.{varAt}
@@ -52,6 +54,12 @@ pub record Pending (v p ats ends : List ℕ) (k d r : ℕ) (fresh : Bool) : Type
   pub due : (fresh ≡ true) ⊎ (r < d) → Stood v p ats ends k d
   pub ahead : fresh ≡ false → d ≤ r → Candidate v p ats ends k d r
 
+-- each pattern is brought to the first document from document d on in which it can be found
+pub record Brought (v p ends ats₀ docs₀ : List ℕ) (d : ℕ) (ats docs : List ℕ) : Type 0 where
+  pub ats-length : length ats ≡ length ats₀
+  pub docs-length : length docs ≡ length docs₀
+  pub each : (k : ℕ) → k < sizes p .patterns → Candidate v p ats ends k d (getD docs k 0)
+
 -- the least of the first n documents, or 65,536
 pub record LeastDoc (docs : List ℕ) (n r : ℕ) : Type 0 where
   pub most : r ≤ limit
@@ -64,3 +72,23 @@ pub record Walks (v p table ends : List ℕ) : Type 0 where
   pub tabled : Tabled p table
   pub table-room : 4 * sizes p .patterns ≤ length table
   pub ends-room : sizes p .vars ≤ length ends
+
+-- a walk that goes on at document `from`: what each pattern waits for, `docs` having a document for each, and a cursor on list 0 that has not
+-- passed that document
+pub record Walking (v p ends ats docs : List ℕ) (from : ℕ) (fresh : Bool) (starts : Cursor) : Type 0 where
+  pub to : from ≤ limit
+  pub docs-length : length docs ≡ sizes p .patterns
+  pub ats-room : sizes p .vars ≤ length ats
+  pub pending : (k : ℕ) → k < sizes p .patterns → Pending v p ats ends k from (getD docs k 0) fresh
+  pub starts-at : Stands v 0 from (starts .at)
+  pub starts-end : starts .end ≡ listEnd v 0
+
+-- the next document in which a pattern can be found, or 65,536: no true one is in front of it, whether it is true, its row at the front of
+-- `row`, and where the walk goes on
+pub record Visited (v p ends : List ℕ) (from : ℕ) (seen : Seen) (ats docs row : List ℕ) : Type 0 where
+  pub later : from ≤ seen .doc
+  pub most : seen .doc ≤ limit
+  pub none : (d : ℕ) → from ≤ d → d < seen .doc → work v p .isTrue d ≡ false
+  pub truth : seen .doc < limit → work v p .isTrue (seen .doc) ≡ seen .matching
+  pub shown : seen .doc < limit → take (work v p .width) row ≡ work v p .rowOf (seen .doc)
+  pub walking : seen .doc < limit → Walking v p ends ats docs (seen .doc + 1) false (seen .starts)

@@ -6,10 +6,8 @@
 // an equation with a definition of `specs/`. `word_at`, `posting_at`, `below_in_window` and
 // `list_span` serve the crates above, on a volume that they have checked.
 mod answers;
-mod block;
-mod bytes;
+mod blocks;
 mod checking;
-mod checksum;
 mod codes;
 mod order;
 mod posting;

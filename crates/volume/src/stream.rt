@@ -5,8 +5,8 @@ ghost use Rattle.seq.specs.Numbers.{firstFrom, sumTo};
 ghost use Rattle.volume.specs.Layout.{word, count, streamLength};
 ghost use Rattle.volume.specs.Check.{paddingWrong};
 ghost use Rattle.volume.specs.Below.{belowOf, belowCount};
-use super::bytes::read32;
 use super::posting::Posting;
+use block::read32;
 
 // Stream word i.
 pub fn word_at(volume: &[u8], i: usize) -> u32

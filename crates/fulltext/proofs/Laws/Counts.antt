@@ -26,10 +26,10 @@ use Rattle.seq.proofs.Laws.Keep.{keep-append, keep-run-none, keep-run-all, leng
 use Rattle.seq.proofs.Laws.Numbers.{first-le, first-ge, first-at, first-before, length-run}
 use Rattle.seq.proofs.Laws.Runs.{run-getD}
 use Rattle.seq.proofs.Laws.Slices.{run-parts}
-use Rattle.volume.specs.Bytes.{IsBytes}
+use Rattle.block.specs.Bytes.{IsBytes}
 use Rattle.volume.specs.Layout.{offset, word, listCount, count, start, listsOf}
 use Rattle.volume.specs.Posting.{docOf}
-use Rattle.volume.proofs.Laws.Bytes.{le32-lt}
+use Rattle.block.proofs.Laws.Bytes.{le32-lt}
 use Rattle.volume.proofs.Laws.Volume.{list-of}
 use Rattle.plan.specs.declared.row.Row.{Row}
 use Rattle.plan.specs.Rows.{rowsOf}

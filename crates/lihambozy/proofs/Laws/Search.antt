@@ -14,7 +14,7 @@ use lib.ListN.{length, getD, take}
 use lib.Dec.{eqb, leb}
 use Rattle.seq.specs.Lists.{consIf, keep}
 use Rattle.seq.specs.Refusals.{Said, refused, answered}
-use Rattle.volume.specs.Bytes.{IsBytes}
+use Rattle.block.specs.Bytes.{IsBytes}
 use Rattle.volume.specs.Check as volume
 use Rattle.plan.specs.Check as plan
 use Rattle.plan.proofs.Laws.CheckFirst.{check-sound}

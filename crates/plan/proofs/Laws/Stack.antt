@@ -26,14 +26,14 @@ use Rattle.plan.specs.declared.row.Operator.the-variants.{Both, Either, 
 use Rattle.plan.specs.declared.row.Kind.{Kind}
 use Rattle.plan.specs.declared.row.Kind.the-variants as kind
 use Rattle.plan.specs.declared.row.Row.{Row}
-use Rattle.plan.specs.declared.standing.Standing.{Standing}
+use Rattle.plan.specs.declared.state.State.{State}
 use Rattle.plan.specs.Rows.{rowCount, kindAt, rowAt, rowsOf, formWrongAt}
-use Rattle.plan.specs.Standing.{takes, after, standing, orderWrong}
+use Rattle.plan.specs.State.{takes, after, stateAt, orderWrong}
 use Rattle.plan.specs.Patterns.{Pattern, noRow, openAfter, closed, patternsFrom, patternsOf, operate, answersAfter, answersFrom, answer}
 use Rattle.plan.specs.Check.{sizes}
 use Rattle.plan.specs.Accepted.{patternAt}
 use Rattle.plan.proofs.Laws.Rows.{numberOf, number-at}
-use Rattle.plan.proofs.Laws.Standing.{standing-first, standing-next, takes-two, operator-stands}
+use Rattle.plan.proofs.Laws.State.{stateAt-first, stateAt-next, takes-two, operator-stands}
 use Rattle.plan.proofs.Laws.Patterns.{operate-length}
 use Rattle.plan.specs.Inner.Stack.{flagOf, Flags, bitsOf, joinsTwo, operated}
 
@@ -112,7 +112,7 @@ pub record Reading (p flags : List ℕ) (stack k i : ℕ) : Type 0 where
   pub opened : Pattern
   pub answers : List Bool
   pub bits : stack ≡ bitsOf answers
-  pub count : length answers ≡ standing p i .answers
+  pub count : length answers ≡ stateAt p i .answers
   pub few : length answers ≤ k
   pub there : k ≤ sizes p .patterns
   pub left : patternsFrom opened (rowsFrom p i) ≡ drop k (patternsOf (rowsOf p))
@@ -127,7 +127,7 @@ reading-first p flags =
       opened = noRow;
       answers = [];
       bits = refl;
-      count = ap (λ (s : Standing). s .answers) (sym (standing-first p));
+      count = ap (λ (s : State). s .answers) (sym (stateAt-first p));
       few = omega arith;
       there = omega arith;
       left = ap (λ (m : ℕ). patternsFrom noRow (run (rowAt p) 0 m)) e;
@@ -154,14 +154,14 @@ module _ (p flags : List ℕ) (stack k i : ℕ) (r : Reading p flags stack k i) 
         sym (ap (patternsFrom (r .opened)) (run-step (rowAt p) i (rowCount p) h) ∙ ap (λ (y : Kind). closed (r .opened) y ++ patternsFrom (openAfter (r .opened) y) (rowsFrom p (i + 1))) e)
         ∙ r .left
 
-    next : (stack′ k′ : ℕ) (ts : List Bool) → stack′ ≡ bitsOf ts → length ts ≡ after (standing p i) x .answers → length ts ≤ k′ → k′ ≤ sizes p .patterns → patternsFrom (openAfter (r .opened) x) (rowsFrom p (i + 1)) ≡ drop k′ (patternsOf (rowsOf p)) → ((found : Pattern → Bool) → Flags found p flags → answersAfter found (r .opened) (r .answers) x ≡ ts) → Reading p flags stack′ k′ (i + 1)
+    next : (stack′ k′ : ℕ) (ts : List Bool) → stack′ ≡ bitsOf ts → length ts ≡ after (stateAt p i) x .answers → length ts ≤ k′ → k′ ≤ sizes p .patterns → patternsFrom (openAfter (r .opened) x) (rowsFrom p (i + 1)) ≡ drop k′ (patternsOf (rowsOf p)) → ((found : Pattern → Bool) → Flags found p flags → answersAfter found (r .opened) (r .answers) x ≡ ts) → Reading p flags stack′ k′ (i + 1)
     unfolding answersFrom
     next stack′ k′ ts bits count few there left after-row = record {
       within = omega arith;
       opened = openAfter (r .opened) x;
       answers = ts;
       bits = bits;
-      count = count ∙ ap (λ (y : Kind). after (standing p i) y .answers) (sym e) ∙ ap (λ (s : Standing). s .answers) (sym (standing-next p i));
+      count = count ∙ ap (λ (y : Kind). after (stateAt p i) y .answers) (sym e) ∙ ap (λ (s : State). s .answers) (sym (stateAt-next p i));
       few = few;
       there = there;
       left = left;
@@ -217,14 +217,14 @@ module _ (p flags : List ℕ) (stack k i : ℕ) (r : Reading p flags stack k i) 
         (ap found (head-eq-of-cons-eq closes) ∙ sym (ap (λ (n : ℕ). eqb n 1) (f k t) ∙ flag-back (found (patternAt p k)))))
 
   -- an operator
-  pub reading-operate : 6 < kindAt p i → formWrongAt p i ≡ false → orderWrong (standing p i) (rowAt p i .kind) ≡ false → Reading p flags (operated (kindAt p i) stack) k (i + 1)
+  pub reading-operate : 6 < kindAt p i → formWrongAt p i ≡ false → orderWrong (stateAt p i) (rowAt p i .kind) ≡ false → Reading p flags (operated (kindAt p i) stack) k (i + 1)
   reading-operate l formed ordered = go (rowAt p i .kind) refl (number-at p i formed)
     where
       joins : (o : Operator) → rowAt p i .kind ≡ kind.Operator o → numberOf (kind.Operator o) ≡ kindAt p i → Reading p flags (operated (kindAt p i) stack) k (i + 1)
       joins o e n =
           let t = takes-two o in
           let c = r .count in
-          let w = operator-stands (standing p i) o (rw e at ordered) .1 in
+          let w = operator-stands (stateAt p i) o (rw e at ordered) .1 in
           let m = operate-length o (r .answers) (omega arith) in
           next (kind.Operator o) e (operated (kindAt p i) stack) k (operate o (r .answers))
           (ap₂ operated (sym n) (r .bits) ∙ operated-bits o (r .answers) (omega arith))

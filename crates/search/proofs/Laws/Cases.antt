@@ -19,12 +19,12 @@ use Rattle.seq.specs.Numbers.{firstFrom, run}
 use Rattle.seq.specs.Refusals.{Said, refused, answered, laid}
 use Rattle.seq.proofs.Laws.Tests.{below-or}
 use Rattle.seq.proofs.Laws.Totals.{total-ext}
-use Rattle.volume.specs.Checksum.{sumA, sumB}
+use Rattle.block.specs.Checksum.{sumA, sumB}
 use Rattle.volume.specs.Demands.{sampleLists}
 use Rattle.volume.proofs.Demands as volume
 use Rattle.plan.specs.Answers.{Sizes}
 use Rattle.plan.specs.Rows.{rowAt, rowsOf, misused, formWrong}
-use Rattle.plan.specs.Standing.{stand, standing, step}
+use Rattle.plan.specs.State.{afterAll, stateAt, step}
 use Rattle.plan.specs.Patterns.{patternsFrom, answersFrom, answer, varsOf}
 use Rattle.plan.specs.Check.{lengthWrong, rowWrong, rowFault, rowsWrong, unfinished, sizes, rowsVerdict, planVerdict, verdictBy, verdict, Accepted}
 use Rattle.plan.proofs.Laws.CheckFirst.{check-sound}
@@ -129,6 +129,6 @@ told-quick (list p start n) = listed-quick p start n
 pub starred : Cases
 unfolding
     keep all total joined firstFrom run laid sumA sumB
-    rowAt misused formWrong stand standing step patternsFrom answersFrom answer lengthWrong rowWrong rowFault rowsWrong unfinished sizes rowsVerdict planVerdict
+    rowAt misused formWrong afterAll stateAt step patternsFrom answersFrom answer lengthWrong rowWrong rowFault rowsWrong unfinished sizes rowsVerdict planVerdict
     positionsIn countIn holds withEach tuples matches leastIn found matching rowIn varsOf postingsIn workOf docsIn rowsOfDocs table Cases
 starred = ap (λ (f : Question → Result). map (λ (c : Case). f (c .asked)) table) (fun-ext told-quick)

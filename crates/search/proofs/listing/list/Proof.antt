@@ -9,7 +9,7 @@ use denote.Ref.{now}
 use Rattle.plan.specs.Answers.{Sizes, saidChecked}
 use Rattle.plan.proofs.Laws.Check.{verdict-sizes}
 use Rattle.search.proofs.Laws.Listing.{refused-kept, start-kept, short-kept}
-use Rattle.search.proofs.Laws.Visits.{work-words}
+use Rattle.search.proofs.Laws.Seen.{work-words}
 
 check-requires : tie.Need-check-requires
 check-requires c κs = search needs
