@@ -12,7 +12,7 @@ use mathlib.Core.List.{List, [], _++_, map}
 use mathlib.Core.Option.{none, some}
 use lib.ListN.{length, drop}
 use Rattle.seq.specs.Lists.{total}
-use Rattle.seq.specs.Refusals.{refused, answered, stageIn, FirstRefusal}
+use Rattle.seq.specs.Refusals.{Said, refused, answered, stageIn, FirstRefusal}
 use Rattle.volume.specs.Bytes.{IsBytes}
 use Rattle.volume.specs.Layout.{count, listsOf}
 use Rattle.volume.specs.Check as volume
@@ -32,7 +32,7 @@ use Rattle.matcher.specs.Testing.{testAnswer}
 use Rattle.search.specs.Listing.{pageOf, rowsFrom, listAnswer, listOut}
 use Rattle.matcher.specs.Refusals.{TestApplies, testStages}
 use Rattle.search.specs.Refusals.{ListApplies, listStages}
-use Rattle.search.specs.Search.{Call, IsSearch, outcome, Searched}
+use Rattle.search.specs.Search.{plain, Call, IsSearch, outcome, Searched}
 use Rattle.search.specs.Cases.{Case, told, table}
 
 -- listing: the first of 1 to 14, 15, 16 that applies, or the page exactly if none applies
@@ -50,7 +50,7 @@ ListRefuses = (v p : List ℕ) (start : ℕ) (out : List ℕ) → ListCall v p s
 -- what demand 3 says of an accepted volume and plan
 pub record Holds3 (v p : List ℕ) : Type 0 where
   -- every search: rows, tallies, the document reached, each answer, the end
-  pub searched : (calls : List Call) → IsSearch v p 0 calls → Searched (work v p) calls (outcome v p calls)
+  pub searched : (calls : List (Call (Said Page))) → IsSearch plain v p 0 calls → Searched plain (work v p) calls (outcome plain v p calls)
   -- a pattern is found exactly if some tuple of positions matches
   pub found-some : (d : ℕ) (f : Pattern) → (found (listsOf v) d f ≡ true) ↔ ((ps : List ℕ) × (matchesAt (listsOf v) d f ps ≡ true))
   -- the positions shown match and are least in all variables together; where none are shown nothing matches
