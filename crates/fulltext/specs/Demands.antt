@@ -7,7 +7,7 @@ use mathlib.Core.List.{List, [], _++_, map}
 use mathlib.Core.Option.{none, some}
 use lib.ListN.{length, drop}
 use Rattle.seq.specs.Lists.{total}
-use Rattle.volume.specs.Bytes.{IsBytes}
+use Rattle.block.specs.Bytes.{IsBytes}
 use Rattle.volume.specs.Layout.{count, listsOf}
 use Rattle.volume.specs.Check as volume
 use Rattle.plan.specs.Rows.{rowsOf}
@@ -17,7 +17,7 @@ use Rattle.plan.specs.Accepted.{patternAt}
 use Rattle.fulltext.specs.Positions.{limit}
 use Rattle.fulltext.specs.Calculus.{True, openFormula, patternFormula, planFormula}
 use Rattle.fulltext.specs.Matches.{matchesAt, leastIn, Least}
-use Rattle.fulltext.specs.Documents.{found, matching, varsOf}
+use Rattle.fulltext.specs.Documents.{found, matching}
 
 -- the tests and the calculus, over an accepted volume and plan
 pub record Agrees (v p : List ℕ) : Type 0 where

@@ -9,7 +9,7 @@ use Rattle.seq.specs.Numbers.{run}
 use Rattle.volume.specs.Layout.{listsOf}
 use Rattle.plan.specs.Rows.{rowsOf}
 use Rattle.plan.specs.declared.row.Row.{Row}
-use Rattle.plan.specs.Patterns.{Pattern, patternsOf, answer}
+use Rattle.plan.specs.Patterns.{Pattern, patternsOf, varsOf, answer}
 use Rattle.fulltext.specs.Positions.{listOf, countIn}
 use Rattle.fulltext.specs.Matches.{leastIn}
 
@@ -40,11 +40,6 @@ shownIn lists d f = shown (length (f .vars)) (leastIn lists d f)
 unfoldable pub rowIn : List (List ℕ) → List Row → ℕ → List ℕ
 unfolding leastIn joined
 rowIn lists rows d = d ∷ joined (map (shownIn lists d) (patternsOf rows))
-
--- the lists of all variables of a plan
-unfoldable pub varsOf : List Row → List ℕ
-unfolding joined
-varsOf rows = joined (map (λ (f : Pattern). f .vars) (patternsOf rows))
 
 -- the postings of all variables from document a up to document b, b not counted
 unfoldable pub postingsIn : List (List ℕ) → List Row → ℕ → ℕ → ℕ

@@ -7,7 +7,7 @@ use mathlib.Core.Path.{_≡_}
 use mathlib.Core.List.{List, [], _∷_, map}
 use lib.ListN.{take}
 use Rattle.seq.specs.Lists.{joined}
-use Rattle.volume.specs.Bytes.{bytes32}
+use Rattle.block.specs.Bytes.{bytes32}
 use Rattle.volume.specs.Write.{volumeOf}
 use Rattle.volume.specs.Demands.{sampleLists}
 use Rattle.plan.specs.Demands.{samplePlan}

@@ -7,7 +7,7 @@ use lib.Dec.{ltb, leb, eqb}
 use Rattle.seq.specs.Lists.{joined}
 use Rattle.seq.specs.Numbers.{run}
 use Rattle.seq.specs.Refusals.{Said, refused, answered}
-use Rattle.volume.specs.Bytes.{le32}
+use Rattle.block.specs.Bytes.{le32}
 use Rattle.plan.specs.Answers.{Sizes}
 use Rattle.plan.specs.Check.{verdict}
 use Rattle.fulltext.specs.Positions.{limit}

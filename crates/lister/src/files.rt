@@ -3,7 +3,7 @@ ghost use mathlib.Core.Path.{_≡_};
 ghost use Prim.Native.Nat.{_+_, _*_, _≤_};
 ghost use lib.ListN.{length};
 ghost use Rattle.io.specs.Counts.{Counts};
-ghost use Rattle.volume.specs.Bytes.{le32};
+ghost use Rattle.block.specs.Bytes.{le32};
 ghost use Rattle.lister.specs.Printed.{planWords};
 ghost use Rattle.lister.specs.Stored.{Stored};
 ghost use Rattle.lister.specs.Files.{Within};

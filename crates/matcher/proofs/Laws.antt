@@ -3,7 +3,6 @@ pub mod Volume
 pub mod Cursors
 pub mod Paragraphs
 pub mod Shortfall
-pub mod Tables
 pub mod Placed
 pub mod Settling
 pub mod Matching

@@ -9,7 +9,7 @@ use lib.ListN.{length, drop}
 use Rattle.matcher.specs.Answers.{saidTested}
 use Rattle.seq.specs.Lists.{total}
 use Rattle.seq.specs.Refusals.{refused, answered, stageIn, FirstRefusal}
-use Rattle.volume.specs.Bytes.{IsBytes}
+use Rattle.block.specs.Bytes.{IsBytes}
 use Rattle.volume.specs.Layout.{count, listsOf}
 use Rattle.volume.specs.Check as volume
 use Rattle.plan.specs.Rows.{rowsOf}
@@ -18,7 +18,7 @@ use Rattle.plan.specs.Patterns.{Pattern}
 use Rattle.plan.specs.Accepted.{patternAt}
 use Rattle.matcher.specs.declared.answers.Tested.{Tested}
 use Rattle.fulltext.specs.Matches.{matchesAt, leastIn, Least}
-use Rattle.fulltext.specs.Documents.{found, matching, varsOf, work}
+use Rattle.fulltext.specs.Documents.{found, matching, work}
 use Rattle.matcher.specs.Testing.{testAnswer}
 use Rattle.matcher.specs.Refusals.{TestApplies, testStages}
 

@@ -16,7 +16,8 @@ use Rattle.fulltext.specs.Matches.{matchesAt}
 use Rattle.matcher.specs.declared.cursor.Cursor.{Cursor}
 use Rattle.matcher.specs.Cursors.{seekFrom, listEnd, Stands}
 use Rattle.matcher.specs.Shortfall.{InDocument}
-use Rattle.matcher.specs.Tables.{varsBefore, Entry, Tabled, varAt}
+use Rattle.plan.specs.Inner.Outline.{varsBefore, Entry, Tabled}
+use Rattle.matcher.specs.Tables.{varAt}
 use Rattle.fulltext.specs.Positions.{limit}
 use Rattle.fulltext.specs.Documents.{found}
 
@@ -65,7 +66,7 @@ givenIf false ps = none
 pub record Posed (v p ends : List ℕ) (k first n condition last d : ℕ) (starts : Cursor) : Type 0 where
   pub accepted : Accepted v p
   pub pattern : k < sizes p .patterns
-  pub entry : Entry p k first n condition last
+  pub entry : Entry p (record { pattern = k; first = first; vars = n; condition = condition; last = last })
   pub starts-at : Stands v 0 d (starts .at)
   pub starts-end : starts .end ≡ listEnd v 0
   pub doc : d ≤ 65535

@@ -3,7 +3,8 @@ ghost use mathlib.Core.Path.{_≡_};
 ghost use Prim.Native.Nat.{_+_, _*_, _<_, _≤_};
 ghost use Rattle.volume.specs.Layout.{streamLength, word};
 ghost use Rattle.volume.specs.Posting.{docOf};
-ghost use Rattle.matcher.specs.Cursors.{seekFrom, Stretch, sought, Forward};
+ghost use Rattle.volume.specs.Check as volumes;
+ghost use Rattle.matcher.specs.Cursors.{seekFrom, listCursor, Stretch, sought, Forward};
 
 // A place in a posting list: a stream index, and the index behind the list.
 pub struct Cursor {
@@ -91,5 +92,18 @@ impl Cursor {
             doc as u64 * 65536 + pos as u64 + 1,
         );
         Cursor { at, end: self.end }
+    }
+}
+
+// A cursor on list 0, at its first posting.
+pub fn starts_of(volume: &[u8]) -> Cursor
+    requires { ⌜ volumes.Accepted (now volume) ⌝ }
+    ensures { λ r. ⌜ r ≡ listCursor (now (volume .entry)) 0 ⌝ }
+{
+    let span = volume::list_span(volume, 0);
+    let end = span.start + span.count;
+    Cursor {
+        at: span.start,
+        end,
     }
 }

@@ -1,14 +1,10 @@
 // One pattern in one document: its least match.
 ghost use mathlib.Core.Path.{_≡_};
-ghost use mathlib.Core.Bool.{Bool, false};
 ghost use mathlib.Core.List.{List, _∷_, _++_};
 ghost use Prim.Native.Nat.{ℕ, _+_, _*_, _<_, _≤_};
 ghost use lib.ListN.{length, getD, take, drop, replicate};
 ghost use Rattle.volume.specs.Posting.{posOf};
 ghost use Rattle.volume.specs.Layout.{word, streamLength, listsOf};
-ghost use Rattle.plan.specs.declared.row.Predicate.{Predicate};
-ghost use Rattle.plan.specs.declared.row.Kind.the-variants as kind;
-ghost use Rattle.plan.specs.Rows.{rowCount, rowAt, formWrongAt};
 ghost use Rattle.plan.specs.Accepted.{patternAt};
 ghost use Rattle.fulltext.specs.Matches.{leastIn};
 ghost use Rattle.fulltext.specs.Documents.{found, shownIn};
@@ -17,25 +13,7 @@ ghost use Rattle.matcher.specs.Settling.{Jumped, Low, givenIf, Posed, Re
 use super::cursor::Cursor;
 use super::predicates::Shortfall;
 use super::predicates::falls_short;
-use plan::Kind;
-use plan::Predicate;
-
-// The predicate of a row that is a condition.
-fn predicate_at(plan: &[u32], row: usize) -> Predicate
-    requires { ⌜ row < rowCount (now plan) ⌝ }
-    requires { ⌜ formWrongAt (now plan) row ≡ false ⌝ }
-    requires { ⌜ ((c : Predicate) × (rowAt (now plan) row .kind ≡ kind.Condition c)) ⌝ }
-    ensures { λ r. ⌜ rowAt (now (plan .entry)) row .kind ≡ kind.Condition r ⌝ }
-{
-    let row = plan::row_at(plan, row);
-    let kind = row.kind;
-    match kind {
-        Kind::Condition(predicate) => predicate,
-        Kind::Voice(_) => Predicate::Window { limit: 1 },
-        Kind::End => Predicate::Window { limit: 1 },
-        Kind::Operator(_) => Predicate::Window { limit: 1 },
-    }
-}
+use plan::predicate_at;
 
 // Copies n cursors, from cursor `first` on, and the positions at which they stand.
 fn stand(

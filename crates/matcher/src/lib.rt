@@ -3,14 +3,12 @@
 mod answers;
 mod cursor;
 mod least;
-mod outline;
 mod predicates;
 mod testing;
 
 pub use answers::Tested;
 pub use cursor::Cursor;
+pub use cursor::starts_of;
 pub use least::settle;
 pub use least::show;
-pub use outline::lay_out;
-pub use outline::starts_of;
 pub use testing::test;

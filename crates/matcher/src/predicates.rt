@@ -6,7 +6,7 @@ ghost use Prim.Native.Nat.{ℕ, _<_, _≤_};
 ghost use lib.ListN.{length, getD, take};
 ghost use Rattle.volume.specs.Check.{Accepted};
 ghost use Rattle.volume.specs.Layout.{listsOf};
-ghost use Rattle.plan.specs.Standing.{namesBelow};
+ghost use Rattle.plan.specs.State.{namesBelow};
 ghost use Rattle.plan.specs.Rows.{InRange};
 ghost use Rattle.plan.specs.declared.row.Predicate.the-variants.{Distance, Ordered, Samepara, Window};
 ghost use Rattle.plan.specs.declared.row.Kind.the-variants as kind;

@@ -9,7 +9,7 @@ ghost use Rattle.volume.specs.Layout.{listCount, listsOf};
 ghost use Rattle.volume.specs.Check.{Accepted};
 ghost use Rattle.plan.specs.declared.row.Kind.the-variants as kind;
 ghost use Rattle.plan.specs.Rows.{InRange};
-ghost use Rattle.plan.specs.Standing.{namesBelow};
+ghost use Rattle.plan.specs.State.{namesBelow};
 ghost use Rattle.plan.specs.Check as plans;
 ghost use Rattle.plan.specs.Accepted.{patternAt};
 ghost use Rattle.fulltext.specs.Positions.{listOf, positionsIn};
@@ -22,13 +22,13 @@ ghost use Rattle.matcher.specs.Settling.{Asked};
 use super::answers::Tested;
 use super::cursor::Cursor;
 use super::cursor::gallop;
-use super::outline::lay_out;
-use super::outline::starts_of;
+use super::cursor::starts_of;
 use super::predicates::Shortfall;
 use super::predicates::falls_short;
 use plan::Checked;
 use plan::Kind;
 use plan::Predicate;
+use plan::lay_out;
 
 // Whether no position is over 65,535.
 fn in_document(positions: &[u32]) -> bool

@@ -1,7 +1,7 @@
 -- The laws of `specs/`. No contract cites these files.
 --     Kinds                the table of `src/kinds.rt` follows its rule
 --     Rows                 four words and the row that they are read as; the words of a plan and of its parts
---     Standing             the reading of a plan, row by row
+--     State                the reading of a plan, row by row
 --     Counts               the same, by counting rows
 --     Passed               a plan that passes every test
 --     Check                the rungs of the verdict, and what its tests decide
@@ -12,10 +12,12 @@
 --     CheckFirst           checking answers the first refusal that applies
 --     ShownFirst           a part is empty exactly if a refusal applies; the parts and the plan
 --     Accepted             what acceptance gives
+--     Outline              the rows and the variables of each pattern
+--     Stack                the answers as bits, row by row
 --     Answers, Sample      an answer is known from its number and values; document 01's sample plan
 pub mod Kinds
 pub mod Rows
-pub mod Standing
+pub mod State
 pub mod Counts
 pub mod Passed
 pub mod Check
@@ -29,5 +31,7 @@ pub mod Shown
 pub mod CheckFirst
 pub mod ShownFirst
 pub mod Accepted
+pub mod Outline
+pub mod Stack
 pub mod Answers
 pub mod Sample

@@ -10,11 +10,11 @@ use Rattle.seq.specs.Numbers.{firstFrom}
 use Rattle.seq.specs.Refusals.{Said, refused, answered}
 use Rattle.volume.specs.Answers as volumes
 use Rattle.volume.specs.Check as volume
-use Rattle.plan.specs.declared.standing.Step.{Step}
-use Rattle.plan.specs.declared.standing.Step.the-variants.{Stands, Faulty}
+use Rattle.plan.specs.declared.state.Step.{Step}
+use Rattle.plan.specs.declared.state.Step.the-variants.{Stands, Faulty}
 use Rattle.plan.specs.Answers.{Sizes, faultCode}
 use Rattle.plan.specs.Rows.{rowCount, rowsOf}
-use Rattle.plan.specs.Standing.{standing, step}
+use Rattle.plan.specs.State.{stateAt, step}
 use Rattle.plan.specs.Patterns.{Pattern, patternsOf}
 
 -- 9: length 0, not a multiple of four words, or over 256 words
@@ -32,10 +32,10 @@ faultOf (Faulty why) = faultCode why
 
 -- 10 to 13 at row i, over t lists
 unfoldable pub rowWrong : ℕ → List ℕ → ℕ → Bool
-rowWrong t p i = faulty (step t (standing p i) p i)
+rowWrong t p i = faulty (step t (stateAt p i) p i)
 
 unfoldable pub rowFault : ℕ → List ℕ → ℕ → ℕ
-rowFault t p i = faultOf (step t (standing p i) p i)
+rowFault t p i = faultOf (step t (stateAt p i) p i)
 
 -- the lowest such row; the number of rows where there is none
 abbrev pub badRow : ℕ → List ℕ → ℕ
@@ -46,7 +46,7 @@ rowsWrong t p = ltb (badRow t p) (rowCount p)
 
 -- 14: a pattern is open at the end, or the number of answers is not one
 unfoldable pub unfinished : List ℕ → Bool
-unfinished p = not (eqb (standing p (rowCount p) .vars) 0) || not (eqb (standing p (rowCount p) .answers) 1)
+unfinished p = not (eqb (stateAt p (rowCount p) .vars) 0) || not (eqb (stateAt p (rowCount p) .answers) 1)
 
 -- what an accepted plan gives: the number of its patterns, and of their variables
 unfoldable pub sizes : List ℕ → Sizes

@@ -1,4 +1,4 @@
--- Where the reading of a plan stands, told by counting the rows that have been read. Assumes nothing.
+-- The state in front of a row, told by counting the rows that have been read. Assumes nothing.
 use Prim.Native.Nat.{ℕ, _-_}
 use mathlib.Core.Bool.{Bool, not, cond}
 use mathlib.Core.List.{List, [], _∷_}
@@ -8,9 +8,9 @@ use Rattle.seq.specs.Lists.{keep, all, total}
 use Rattle.plan.specs.declared.row.Kind.{Kind}
 use Rattle.plan.specs.declared.row.Kind.the-variants as kind
 use Rattle.plan.specs.declared.row.Row.{Row}
-use Rattle.plan.specs.declared.standing.Standing.{Standing}
+use Rattle.plan.specs.declared.state.State.{State}
 use Rattle.plan.specs.Rows.{isVoice, isCondition, isEnd}
-use Rattle.plan.specs.Standing.{takes}
+use Rattle.plan.specs.State.{takes}
 
 -- how many of some rows are of a sort
 unfoldable pub countOf : (Kind → Bool) → List Row → ℕ
@@ -28,9 +28,9 @@ spent (kind.Condition c) = 0
 spent kind.End = 0
 spent (kind.Operator o) = takes o - 1
 
--- where the reading stands behind some rows: the variables of the open pattern are the VOICE rows behind the last END, its conditions have
+-- the state behind some rows: the variables of the open pattern are the VOICE rows behind the last END, its conditions have
 -- begun if one stands there, each END has closed a pattern and stacked an answer
-unfoldable pub counted : List Row → Standing
+unfoldable pub counted : List Row → State
 counted rows = record {
   vars = countOf isVoice (behindEnd rows);
   begun = ltb 0 (countOf isCondition (behindEnd rows));

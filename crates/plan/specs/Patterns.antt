@@ -1,8 +1,9 @@
 -- What a plan means: its patterns, and its answer by a stack that moves row by row. Assumes nothing.
 use Prim.Native.Nat.{ℕ}
 use mathlib.Core.Bool.{Bool, false, not, _&&_, _||_}
-use mathlib.Core.List.{List, [], _∷_, _++_}
+use mathlib.Core.List.{List, [], _∷_, _++_, map}
 use lib.ListN.{getD}
+use Rattle.seq.specs.Lists.{joined}
 use Rattle.plan.specs.declared.row.Predicate.{Predicate}
 use Rattle.plan.specs.declared.row.Operator.{Operator}
 use Rattle.plan.specs.declared.row.Operator.the-variants.{Both, Either, FirstNotSecond}
@@ -41,6 +42,11 @@ patternsFrom f (r ∷ rows) = closed f (r .kind) ++ patternsFrom (openAfter f (r
 -- the patterns of a plan
 abbrev pub patternsOf : List Row → List Pattern
 patternsOf rows = patternsFrom noRow rows
+
+-- the lists of all variables of a plan
+unfoldable pub varsOf : List Row → List ℕ
+unfolding joined
+varsOf rows = joined (map (λ (f : Pattern). f .vars) (patternsOf rows))
 
 -- the top two answers, the upper being the second, become one
 abbrev pub two : (Bool → Bool → Bool) → List Bool → List Bool

@@ -14,9 +14,9 @@ use Rattle.plan.specs.declared.row.Predicate.{Predicate}
 use Rattle.plan.specs.declared.row.Predicate.the-variants.{Distance, Ordered, Samepara, Window}
 use Rattle.plan.specs.declared.row.Kind.{Kind}
 use Rattle.plan.specs.declared.row.Kind.the-variants as kind
-use Rattle.plan.specs.declared.standing.Standing.{Standing}
+use Rattle.plan.specs.declared.state.State.{State}
 use Rattle.plan.specs.Rows.{rowCount, kindAt, aAt, bAt, cAt, kindOf, rowAt, rowsBefore, rowsOf, usesOf}
-use Rattle.plan.specs.Standing.{takes}
+use Rattle.plan.specs.State.{takes}
 use Rattle.plan.specs.Counts.{counted}
 use Rattle.plan.specs.Check.{sizes}
 
@@ -40,7 +40,7 @@ WrongList t kind.End = ⊥
 WrongList t (kind.Operator o) = ⊥
 
 -- a VOICE where the open pattern has eight variables, or where none is open and there are eight patterns
-abbrev pub Ninth : Standing → Kind → Type 0
+abbrev pub Ninth : State → Kind → Type 0
 Ninth s (kind.Voice list) = (8 ≤ s .vars) ⊎ ((s .vars ≡ 0) × (8 ≤ s .patterns))
 Ninth s (kind.Condition c) = ⊥
 Ninth s kind.End = ⊥
@@ -55,14 +55,14 @@ NamesMissing n (Window limit) = ⊥
 
 -- VOICE after a condition; a condition with no pattern open or naming a variable not there; END with no pattern open;
 -- an operator with a pattern open or fewer answers than it takes
-abbrev pub WrongOrder : Standing → Kind → Type 0
+abbrev pub WrongOrder : State → Kind → Type 0
 WrongOrder s (kind.Voice list) = s .begun ≡ true
 WrongOrder s (kind.Condition c) = (s .vars ≡ 0) ⊎ NamesMissing (s .vars) c
 WrongOrder s kind.End = s .vars ≡ 0
 WrongOrder s (kind.Operator o) = (s .vars ≢ 0) ⊎ (s .answers < takes o)
 
 -- a pattern is open, or there is not one answer
-abbrev pub Unfinished : Standing → Type 0
+abbrev pub Unfinished : State → Type 0
 Unfinished s = (s .vars ≢ 0) ⊎ (s .answers ≢ 1)
 
 -- the refusals of a plan over a volume: those of the volume, then 9 to 14

@@ -1,23 +1,25 @@
 // Checking a plan.
 ghost use mathlib.Core.Path.{_≡_};
 ghost use Prim.Native.Nat.{_≤_};
+ghost use Rattle.plan.specs.Limits.{mostRows};
 ghost use Rattle.plan.specs.Rows.{rowCount};
 ghost use Rattle.plan.specs.Answers.{saidChecked};
 ghost use Rattle.plan.specs.Check.{rowsVerdict, planVerdict, verdict};
 use super::answers::Checked;
 use super::answers::Refusal;
-use super::standing::Standing;
-use super::standing::Step;
-use super::standing::row_step;
+use super::limits::MOST_WORDS;
+use super::state::State;
+use super::state::Step;
+use super::state::row_step;
 use volume::Checked as VolumeChecked;
 
 // The rows of a plan, over a volume of so many lists.
 fn check_rows(plan: &[u32], lists: u32) -> Checked
-    requires { ⌜ rowCount (now plan) ≤ 64 ⌝ }
+    requires { ⌜ rowCount (now plan) ≤ mostRows ⌝ }
     ensures { λ r. ⌜ saidChecked r ≡ rowsVerdict lists (now (plan .entry)) ⌝ }
 {
     let n = plan.len() / 4;
-    let mut s = Standing::OUTSET;
+    let mut s = State::INITIAL;
     let mut i: usize = 0;
     while i < n {
         let stepped = row_step(plan, i, lists, s);
@@ -51,7 +53,7 @@ fn check_plan(plan: &[u32], lists: u32) -> Checked
     if plan.len() % 4 != 0 {
         return Checked::Refused(Refusal::Length);
     }
-    if 256 < plan.len() {
+    if MOST_WORDS < plan.len() {
         return Checked::Refused(Refusal::Length);
     }
     check_rows(plan, lists)

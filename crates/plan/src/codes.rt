@@ -19,7 +19,8 @@ fn fault_code(fault: Fault) -> u32
 
 // The code of a refusal of a volume and a plan.
 pub fn code_of(why: Refusal) -> Code
-    ensures { λ r. ⌜ (r .number ≡ codeOf why) × (r .at ≡ atOf why) ⌝ }
+    ensures { λ r. ⌜ r .number ≡ codeOf why ⌝ }
+    ensures { λ r. ⌜ r .at ≡ atOf why ⌝ }
 {
     match why {
         Refusal::Volume(of) => volume::code_of(of),

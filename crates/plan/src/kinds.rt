@@ -3,7 +3,9 @@ ghost use mathlib.Core.Path.{_≡_};
 ghost use mathlib.Core.Bool.{_&&_, not};
 ghost use Prim.Native.Nat.{ℕ, _≤_};
 ghost use lib.Dec.{eqb};
+ghost use Rattle.plan.specs.Limits.{lastKind};
 ghost use Rattle.plan.specs.Rows.{kindOf, usesOf, formWrong};
+use super::limits::LAST_KIND;
 
 // Whether a and b are used, and the range of c; 0 to 0 where c is not used.
 pub struct Uses {
@@ -13,8 +15,8 @@ pub struct Uses {
     pub most: u32,
 }
 
-// Of the kinds 1 to 9, in order.
-const KINDS: [Uses; 9] = [
+// Of each kind, in order.
+const KINDS: [Uses; LAST_KIND as usize] = [
     // 1 VOICE: a
     Uses {
         a: true,
@@ -82,7 +84,8 @@ const KINDS: [Uses; 9] = [
 
 // What rows of a kind use.
 fn used_by(kind: u32) -> Uses
-    requires { ⌜ (1 ≤ kind) × (kind ≤ 9) ⌝ }
+    requires { ⌜ 1 ≤ kind ⌝ }
+    requires { ⌜ kind ≤ lastKind ⌝ }
     ensures { λ r. ⌜ ((a b c : ℕ) → r ≡ usesOf (kindOf kind a b c)) ⌝ }
 {
     KINDS[kind as usize - 1]
@@ -106,7 +109,7 @@ pub fn form_wrong(kind: u32, a: u32, b: u32, c: u32) -> bool
     if kind < 1 {
         return true;
     }
-    if 9 < kind {
+    if LAST_KIND < kind {
         return true;
     }
     let used = used_by(kind);

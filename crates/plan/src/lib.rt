@@ -3,21 +3,35 @@
 // `code_of` gives the number and the place of a refusal.
 //
 // None of the three has a `requires`, nor has `pattern_span`. What each one answers is an equation
-// with a definition of `specs/`. `row_at` and `span_at` serve the crates above, on a plan that they
-// have checked.
+// with a definition of `specs/`. `row_at`, `span_at`, `lay_out`, `outline_at`, `predicate_at`,
+// `has_samepara` and `answer_of` serve the crates above, on a plan that they have checked.
 mod answers;
 mod checking;
 mod codes;
 mod kinds;
+mod limits;
+mod outline;
+mod reading;
 mod row;
 mod showing;
-mod standing;
+mod stack;
+mod state;
 
 pub use answers::Checked;
 pub use answers::Fault;
 pub use answers::Refusal;
 pub use checking::check;
 pub use codes::code_of;
+pub use limits::MOST_PATTERNS;
+pub use limits::MOST_ROW_WORDS;
+pub use limits::MOST_VARS;
+pub use limits::MOST_WORDS;
+pub use limits::row_words;
+pub use outline::Outline;
+pub use outline::lay_out;
+pub use outline::outline_at;
+pub use reading::has_samepara;
+pub use reading::predicate_at;
 pub use row::Kind;
 pub use row::Operator;
 pub use row::Predicate;
@@ -27,3 +41,4 @@ pub use showing::Span;
 pub use showing::pattern_rows;
 pub use showing::pattern_span;
 pub use showing::span_at;
+pub use stack::answer_of;

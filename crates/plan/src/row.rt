@@ -2,6 +2,7 @@
 ghost use mathlib.Core.Path.{_≡_};
 ghost use mathlib.Core.Bool.{false};
 ghost use Prim.Native.Nat.{_<_, _≤_};
+ghost use Rattle.plan.specs.Limits.{lastKind};
 ghost use Rattle.plan.specs.Rows.{rowCount, rowOf, rowAt, formWrongAt};
 
 // A position predicate (01: condition) on the variables of a pattern, which are numbered from 0.
@@ -38,7 +39,8 @@ pub struct Row {
 
 // The row of four words.
 fn row_of(kind: u32, a: u32, b: u32, c: u32) -> Row
-    requires { ⌜ (1 ≤ kind) × (kind ≤ 9) ⌝ }
+    requires { ⌜ 1 ≤ kind ⌝ }
+    requires { ⌜ kind ≤ lastKind ⌝ }
     ensures { λ r. ⌜ r ≡ rowOf kind a b c ⌝ }
 {
     match kind {
@@ -72,7 +74,8 @@ fn row_of(kind: u32, a: u32, b: u32, c: u32) -> Row
 
 // Row i of a plan, whose form is right.
 pub fn row_at(plan: &[u32], i: usize) -> Row
-    requires { ⌜ (i < rowCount (now plan)) × (formWrongAt (now plan) i ≡ false) ⌝ }
+    requires { ⌜ i < rowCount (now plan) ⌝ }
+    requires { ⌜ formWrongAt (now plan) i ≡ false ⌝ }
     ensures { λ r. ⌜ r ≡ rowAt (now (plan .entry)) i ⌝ }
 {
     let at = 4 * i;

@@ -19,7 +19,6 @@
 --     Cursors        sought indices
 --     Paragraphs     the start of a position's paragraph
 --     Shortfall      what `src/predicates.rt` tells of each predicate
---     Answering      what `src/answering.rt` keeps from row to row
 --     Tables, Placed what `src/setup.rt` lays out
 --     Align          how the cursors of a pattern leap to one document
 --     Settling       how the variables of a pattern come to its least match in a document
@@ -39,7 +38,6 @@ pub mod Search
 pub mod Whole
 pub mod Answers
 pub mod ListFirst
-pub mod Answering
 pub mod Align
 pub mod Walk
 pub mod Filling

@@ -22,4 +22,3 @@ pub mod Search
 pub mod Cases
 pub mod Demands
 pub mod Walk
-pub mod Flags

@@ -13,7 +13,8 @@ use Rattle.plan.specs.Accepted.{patternAt}
 use Rattle.fulltext.specs.Positions.{limit}
 use Rattle.fulltext.specs.Documents.{found}
 use Rattle.matcher.specs.Cursors.{listEnd, Stands}
-use Rattle.matcher.specs.Tables.{varsBefore, Tabled, varAt}
+use Rattle.plan.specs.Inner.Outline.{varsBefore, Tabled}
+use Rattle.matcher.specs.Tables.{varAt}
 use Rattle.matcher.specs.Settling.{Among, Candidate}
 
 -- the variable behind variable i of n, in turn

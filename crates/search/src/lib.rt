@@ -7,9 +7,8 @@
 //
 // `list` is one forward pass: `setup` lays out the plan, `walk` brings each pattern to the next
 // document in which it can be found (`align`) and fills the row there (`settle`, by `predicates`),
-// `answering` gives the plan's answer.
+// `plan::answer_of` gives the plan's answer.
 mod align;
-mod answering;
 mod answers;
 mod listing;
 mod setup;

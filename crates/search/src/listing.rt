@@ -11,17 +11,17 @@ ghost use Rattle.search.specs.Answers.{saidListed};
 ghost use Rattle.search.specs.Search.{Kept};
 ghost use Rattle.matcher.specs.Tables.{Cursors};
 ghost use Rattle.search.specs.Walk.{LeastDoc, Walks};
-use super::answering::answer_of;
 use super::answers::Listed;
-use super::setup::has_samepara;
 use super::setup::set_cursors;
 use super::walk::bring_starts;
 use super::walk::fill_row;
 use super::walk::next_docs;
 use matcher::Cursor;
-use matcher::lay_out;
 use matcher::starts_of;
 use plan::Checked;
+use plan::answer_of;
+use plan::has_samepara;
+use plan::lay_out;
 
 // The least of the first n documents, each at most 65,536; 65,536 where n is 0.
 fn least_of(docs: &[u32], n: usize) -> u32

@@ -7,8 +7,8 @@ ghost use Rattle.volume.specs.Layout.{listCount};
 ghost use Rattle.volume.specs.Check as volumes;
 ghost use Rattle.plan.specs.Check.{Accepted, sizes};
 ghost use Rattle.matcher.specs.Cursors.{listCursor};
-ghost use Rattle.matcher.specs.Tables.{behindVoices, Tabled, cursorOn, Cursors};
-ghost use Rattle.search.specs.Flags.{hasSamepara};
+ghost use Rattle.plan.specs.Inner.Outline.{Tabled};
+ghost use Rattle.matcher.specs.Tables.{cursorOn, Cursors};
 use matcher::Cursor;
 
 // The cursor on a list at its first posting in document `doc` or a later one.
@@ -60,19 +60,4 @@ pub fn set_cursors(
         }
         k += 1;
     }
-}
-
-// Whether a plan has a SAME TITLE row.
-pub fn has_samepara(plan: &[u32]) -> bool
-    ensures { λ r. ⌜ r ≡ hasSamepara (now (plan .entry)) ⌝ }
-{
-    let n = plan.len() / 4;
-    let mut i: usize = 0;
-    while i < n {
-        if plan[4 * i] == 4 {
-            return true;
-        }
-        i += 1;
-    }
-    false
 }

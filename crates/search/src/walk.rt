@@ -10,7 +10,7 @@ ghost use Rattle.plan.specs.Check.{sizes};
 ghost use Rattle.plan.specs.Accepted.{patternAt};
 ghost use Rattle.fulltext.specs.Documents.{found, shownIn, rowIn};
 ghost use Rattle.matcher.specs.Cursors.{Stretch, listEnd, Stands};
-ghost use Rattle.search.specs.Flags.{flagOf, Flags};
+ghost use Rattle.plan.specs.Inner.Stack.{flagOf, Flags};
 ghost use Rattle.matcher.specs.Settling.{Ready, Candidate};
 ghost use Rattle.search.specs.Walk.{Pending, Walks};
 use super::align::align;

@@ -1,4 +1,4 @@
--- Words for lists: the elements that pass a test, whether all do, sums and joins over a list, its first element, and lists that rise.
+-- Words for lists: the elements that pass a test, whether all do, sums and joins over a list, its elements, and lists that rise.
 -- Assumes nothing.
 use Prim.Native.Nat.{ℕ, _+_, _<_, _≤_}
 use mathlib.Core.Bool.{Bool, true, false, _&&_, _||_}
@@ -37,6 +37,10 @@ module _ {A : Type 0} where
   abbrev pub first : List A → Option A
   first [] = none
   first (x ∷ xs) = some x
+
+-- element i of a list; behind its end 0
+abbrev pub at : List ℕ → ℕ → ℕ
+at xs i = getD xs i 0
 
 -- n is an element
 unfoldable pub elem : ℕ → List ℕ → Bool

@@ -2,7 +2,7 @@
 use Prim.Native.Nat.{ℕ}
 use mathlib.Core.Path.{_≡_, sym, ap, _∙_, subst}
 use mathlib.Core.List.{List}
-use Rattle.volume.specs.Bytes.{IsBytes}
+use Rattle.block.specs.Bytes.{IsBytes}
 use Rattle.volume.specs.Layout.{listsOf}
 use Rattle.volume.specs.Check.{Accepted}
 use Rattle.volume.specs.Write.{volumeOf}

@@ -1,22 +1,19 @@
 -- The laws of `specs/`. No contract cites these files.
---     Bytes, Checksum, Stream     numbers and their bytes; the two sums, reduced late; where words stand
+--     Stream                      where words stand
 --     Check                       the rungs of the verdict, what its tests decide, and what acceptance gives
 --     Read                        the rungs of reading a list
 --     Write, WriteAnswer          the bytes of words and blocks; the writer's answer
---     Sums, Falls, Storing        what `src/checksum.rt`, `src/order.rt` and `src/writing.rt` keep from turn to turn
+--     Falls, Storing              what `src/order.rt` and `src/writing.rt` keep from turn to turn
 --     CheckFirst, ReadFirst, WriteFirst     each call answers the first refusal that applies
 --     Blocks, Rebuild             what is read from the blocks of a stream; bytes in order are the blocks of their own stream
 --     Lists, Volume, Within       lists cut from counts and postings; round trip and rebuilding; the limits
 --     Reader, Writer              the two calls in the terms of lists
 --     Damage, Answers, Sample     one changed byte; an answer is known from its number and values; document 01's sample
-pub mod Bytes
-pub mod Checksum
 pub mod Stream
 pub mod Check
 pub mod Read
 pub mod Write
 pub mod WriteAnswer
-pub mod Sums
 pub mod Falls
 pub mod Storing
 pub mod CheckFirst

@@ -9,7 +9,7 @@ use Rattle.seq.specs.Lists.{rises}
 use Rattle.seq.specs.Numbers.{firstFrom}
 use Rattle.seq.specs.Refusals.{Said, refused, answered}
 use Rattle.volume.specs.Answers.{Sizes}
-use Rattle.volume.specs.Checksum.{checkA, checkB}
+use Rattle.block.specs.Checksum.{checkA, checkB}
 use Rattle.volume.specs.Layout.{blocks, streamLength, blockNumber, covered, storedA, storedB, word, version, listCount, postingCount, extent, blocksFor, postingsOf}
 
 -- 1: length 0, not a multiple of 512, or over 8,192 blocks

@@ -18,8 +18,8 @@ use Rattle.volume.specs.declared.answers.Checked.{Checked}
 use Rattle.volume.specs.declared.answers.ListRead.{ListRead}
 use Rattle.volume.specs.declared.answers.Written.{Written}
 use Rattle.volume.specs.Posting.{postingOf}
-use Rattle.volume.specs.Bytes.{IsBytes, IsWords}
-use Rattle.volume.specs.Checksum.{checkA, checkB}
+use Rattle.block.specs.Bytes.{IsBytes, IsWords}
+use Rattle.block.specs.Checksum.{checkA, checkB}
 use Rattle.volume.specs.Layout.{listCount, count, blocksFor, postingsOf, listsOf}
 use Rattle.volume.specs.Answers.{Sizes, saidRefusal, saidChecked, saidRead, saidWritten}
 use Rattle.volume.specs.Check.{sizes, verdict, Accepted}

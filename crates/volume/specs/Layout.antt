@@ -6,7 +6,7 @@ use mathlib.Core.List.{List}
 use lib.ListN.{length, take, drop}
 use Rattle.seq.specs.Numbers.{run, sumTo}
 use Rattle.volume.specs.declared.reading.Span.{Span}
-use Rattle.volume.specs.Bytes.{le16, le32}
+use Rattle.block.specs.Bytes.{le16, le32}
 
 -- the number of blocks of v
 abbrev pub blocks : List ℕ → ℕ

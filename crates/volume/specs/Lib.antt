@@ -1,7 +1,5 @@
 -- What a volume is and what the calls on it answer, in reading order.
 --     Posting     a document and a position as one number
---     Bytes       little-endian numbers
---     Checksum    the two running sums of a block
 --     Layout      blocks, the stream of words, the counts and the lists of a volume
 --     Answers     document 01's number and values for each answer
 --     Check       the verdict on a volume: its tests, and the first that fails
@@ -9,12 +7,9 @@
 --     Write       the volume of given lists, and the writer
 --     Refusals    document 01's refusals as relations, one line for each number
 --     Demands     the statements that the crate is held to
---     Sums        the sums of a block by columns of eight bytes, for the contracts inside `src/checksum.rt`
 --     Falls       the falls of the stream, for the contracts inside `src/order.rt`
 --     Below       how many words of the stream are below a number, for the contract of `stream::below_in_window`
 pub mod Posting
-pub mod Bytes
-pub mod Checksum
 pub mod Layout
 pub mod Answers
 pub mod Check
@@ -22,6 +17,5 @@ pub mod Read
 pub mod Write
 pub mod Refusals
 pub mod Demands
-pub mod Sums
 pub mod Falls
 pub mod Below

@@ -6,7 +6,7 @@ use mathlib.Core.Logic.{_⊎_, _≢_}
 use mathlib.Core.List.{List, [], _∷_, _++_}
 use lib.ListN.{length}
 use Rattle.seq.specs.Lists.{total, NotRising}
-use Rattle.volume.specs.Checksum.{checkA, checkB}
+use Rattle.block.specs.Checksum.{checkA, checkB}
 use Rattle.volume.specs.Layout.{blocks, streamLength, blockNumber, covered, storedA, storedB, word, version, listCount, count, extent, postingsOf}
 use Rattle.volume.specs.Write.{givenList}
 

@@ -2,18 +2,14 @@
 use Prim.Native.Nat.{ℕ, zero, suc, _+_, _*_}
 use mathlib.Core.Bool.{Bool, not, cond, _&&_}
 use mathlib.Core.List.{List, [], _∷_, _++_, map}
-use lib.ListN.{length, getD}
+use lib.ListN.{length}
 use lib.Dec.{ltb, leb, eqb}
-use Rattle.seq.specs.Lists.{rises, joined}
+use Rattle.seq.specs.Lists.{at, rises, joined}
 use Rattle.seq.specs.Numbers.{firstFrom, run, sumTo}
 use Rattle.seq.specs.Refusals.{Said, refused, answered, laid}
-use Rattle.volume.specs.Bytes.{bytes16, bytes32}
-use Rattle.volume.specs.Checksum.{checkA, checkB}
+use Rattle.block.specs.Bytes.{bytes16, bytes32}
+use Rattle.block.specs.Checksum.{checkA, checkB}
 use Rattle.volume.specs.Layout.{blocksFor}
-
--- element i of a list; behind its end 0
-abbrev pub at : List ℕ → ℕ → ℕ
-at xs i = getD xs i 0
 
 -- the bytes of f k, f (k + 1), .., m words
 unfoldable pub wordBytes : (ℕ → ℕ) → ℕ → ℕ → List ℕ

@@ -3,13 +3,11 @@
 // the number and the place of a refusal.
 //
 // None of the four has a `requires`. What each one answers, and what it leaves in a lent buffer, is
-// an equation with a definition of `specs/`. `word_at`, `below_in_window` and `list_span` serve the
-// crates above, on a volume that they have checked.
+// an equation with a definition of `specs/`. `word_at`, `posting_at`, `below_in_window` and
+// `list_span` serve the crates above, on a volume that they have checked.
 mod answers;
-mod block;
-mod bytes;
+mod blocks;
 mod checking;
-mod checksum;
 mod codes;
 mod order;
 mod posting;
@@ -29,5 +27,6 @@ pub use reading::Span;
 pub use reading::list_span;
 pub use reading::read_list;
 pub use stream::below_in_window;
+pub use stream::posting_at;
 pub use stream::word_at;
 pub use writing::write;

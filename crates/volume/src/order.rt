@@ -12,8 +12,8 @@ ghost use Rattle.volume.specs.Layout.{blocks, word, listCount, extent, W
 ghost use Rattle.volume.specs.Check.{badList};
 ghost use Rattle.volume.specs.Falls.{fallOf, fall, fallsBefore};
 ghost use Rattle.volume.specs.Falls.{ListFalls};
-use super::bytes::read32;
 use super::stream::word_at;
+use block::read32;
 
 // 1 where y, which stands behind x, is not above it.
 pub fn fall_of(x: u32, y: u32) -> u32

@@ -5,7 +5,8 @@ ghost use Rattle.seq.specs.Numbers.{firstFrom, sumTo};
 ghost use Rattle.volume.specs.Layout.{word, count, streamLength};
 ghost use Rattle.volume.specs.Check.{paddingWrong};
 ghost use Rattle.volume.specs.Below.{belowOf, belowCount};
-use super::bytes::read32;
+use super::posting::Posting;
+use block::read32;
 
 // Stream word i.
 pub fn word_at(volume: &[u8], i: usize) -> u32
@@ -13,6 +14,16 @@ pub fn word_at(volume: &[u8], i: usize) -> u32
     ensures { λ r. ⌜ r ≡ word (now (volume .entry)) i ⌝ }
 {
     read32(volume, 4 * i + 8 * (i / 126) + 4)
+}
+
+// Stream word i as a posting.
+pub fn posting_at(volume: &[u8], i: usize) -> Posting
+    requires { ⌜ i < streamLength (now volume) ⌝ }
+    ensures { λ r. ⌜ r ≡ record { bits = word (now (volume .entry)) i } ⌝ }
+{
+    Posting {
+        bits: word_at(volume, i),
+    }
 }
 
 // 1 where x is below y.

@@ -6,15 +6,15 @@ ghost use mathlib.Core.Path.{_≡_};
 ghost use mathlib.Core.List.{_++_};
 ghost use Prim.Native.Nat.{_+_, _*_, _-_, _≤_, _<_, min};
 ghost use lib.ListN.{length, take, drop};
-ghost use Rattle.seq.specs.Lists.{rises};
+ghost use Rattle.seq.specs.Lists.{at, rises};
 ghost use Rattle.seq.specs.Numbers.{run, sumTo};
 ghost use Rattle.volume.specs.Answers.{saidWritten};
-ghost use Rattle.volume.specs.Write.{at, wordBytes, blockBody, sealed, blocksFrom, streamOf, badGiven, writeAnswer, writeOut};
+ghost use Rattle.volume.specs.Write.{wordBytes, blockBody, sealed, blocksFrom, streamOf, badGiven, writeAnswer, writeOut};
 use super::answers::Written;
-use super::bytes::put16;
-use super::bytes::put32;
-use super::checksum::block_sums;
 use super::order::fall_of;
+use block::block_sums;
+use block::put16;
+use block::put32;
 
 // The sum of the counts.
 fn sum_of(counts: &[u32]) -> u64

@@ -26,21 +26,21 @@ use Rattle.seq.proofs.Laws.Keep.{keep-append, keep-run-none, keep-run-all, leng
 use Rattle.seq.proofs.Laws.Numbers.{first-le, first-ge, first-at, first-before, length-run}
 use Rattle.seq.proofs.Laws.Runs.{run-getD}
 use Rattle.seq.proofs.Laws.Slices.{run-parts}
-use Rattle.volume.specs.Bytes.{IsBytes}
+use Rattle.block.specs.Bytes.{IsBytes}
 use Rattle.volume.specs.Layout.{offset, word, listCount, count, start, listsOf}
 use Rattle.volume.specs.Posting.{docOf}
-use Rattle.volume.proofs.Laws.Bytes.{le32-lt}
+use Rattle.block.proofs.Laws.Bytes.{le32-lt}
 use Rattle.volume.proofs.Laws.Volume.{list-of}
 use Rattle.plan.specs.declared.row.Row.{Row}
 use Rattle.plan.specs.Rows.{rowsOf}
-use Rattle.plan.specs.Patterns.{Pattern, noRow, patternsOf}
+use Rattle.plan.specs.Patterns.{Pattern, noRow, patternsOf, varsOf}
 use Rattle.plan.specs.Check.{sizes}
 use Rattle.plan.specs.Check as plan
 use Rattle.plan.specs.Accepted.{patternAt}
 use Rattle.plan.proofs.Laws.Accepted.{given}
 use Rattle.fulltext.specs.Positions.{limit, listOf, positionsIn, countIn}
 use Rattle.fulltext.specs.Matches.{withEach, tuples, matches, allHold, startsIn, varsIn, leastIn}
-use Rattle.fulltext.specs.Documents.{shown, shownIn, rowIn, varsOf, postingsIn, workOf, work}
+use Rattle.fulltext.specs.Documents.{shown, shownIn, rowIn, postingsIn, workOf, work}
 
 -- a tuple has n positions
 abbrev ofLength : ℕ → List ℕ → Bool

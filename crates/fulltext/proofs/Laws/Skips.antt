@@ -24,14 +24,14 @@ use Rattle.plan.specs.declared.row.Kind.{Kind}
 use Rattle.plan.specs.declared.row.Kind.the-variants as kind
 use Rattle.plan.specs.declared.row.Row.{Row}
 use Rattle.plan.specs.Rows.{rowsOf}
-use Rattle.plan.specs.Patterns.{Pattern, noRow, openAfter, closed, patternsFrom, patternsOf, operate, answersAfter, answersFrom, answer}
+use Rattle.plan.specs.Patterns.{Pattern, noRow, openAfter, closed, patternsFrom, patternsOf, operate, answersAfter, answersFrom, answer, varsOf}
 use Rattle.plan.specs.Check.{sizes}
 use Rattle.plan.specs.Check as plan
 use Rattle.plan.specs.Accepted.{patternAt}
 use Rattle.plan.proofs.Laws.Accepted.{given}
 use Rattle.fulltext.specs.Positions.{listOf, positionsIn, countIn}
 use Rattle.fulltext.specs.Matches.{withEach, tuples, allHold, startsIn, varsIn, matches, leastIn}
-use Rattle.fulltext.specs.Documents.{present, found, matching, varsOf, postingsIn, work}
+use Rattle.fulltext.specs.Documents.{present, found, matching, postingsIn, work}
 
 -- an operator leaves no yes among answers that are all no
 operate-none : (o : Operator) (bs : List Bool) → all not bs ≡ true → all not (operate o bs) ≡ true

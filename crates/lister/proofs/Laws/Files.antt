@@ -15,7 +15,7 @@ use borrow.Author.Tests.{lt-ltb, le-ltb, le-leb, lt-leb, eq-eqb, ne-eqb, eqb-tru
 use Rattle.seq.specs.Numbers.{run}
 use Rattle.seq.proofs.Laws.Tests.{below-or, true-or}
 use Rattle.seq.proofs.Laws.Numbers.{length-run}
-use Rattle.volume.specs.Bytes.{le32}
+use Rattle.block.specs.Bytes.{le32}
 use Rattle.lister.specs.Printed.{planWords}
 
 module _ (b : List ℕ) where

@@ -13,7 +13,7 @@ use lib.Seq.{getD-take, getD-drop}
 use Rattle.seq.specs.Lists.{joined}
 use Rattle.seq.specs.Numbers.{sumTo}
 use Rattle.seq.proofs.Laws.Tests.{below-or}
-use Rattle.volume.specs.Bytes.{IsWords}
+use Rattle.block.specs.Bytes.{IsWords}
 use Rattle.lister.specs.Text.{spaced, line, sceneWord}
 use Rattle.lister.specs.Pages.{rowLines}
 use Rattle.lister.proofs.Laws.Stored.{length-pieces}

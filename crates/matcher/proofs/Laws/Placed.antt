@@ -17,15 +17,15 @@ use Rattle.seq.proofs.Laws.Tests.{below-or}
 use Rattle.volume.specs.Layout.{listCount}
 use Rattle.plan.specs.declared.row.Kind.the-variants as kind
 use Rattle.plan.specs.Rows.{rowCount, kindAt, aAt, bAt, cAt, rowAt, rowsOf, formWrongAt, wordsOf}
-use Rattle.plan.specs.Patterns.{Pattern, noRow, patternsOf}
+use Rattle.plan.specs.Patterns.{Pattern, noRow, patternsOf, varsOf}
 use Rattle.plan.specs.Check.{Accepted, sizes}
 use Rattle.plan.specs.Accepted.{patternAt}
 use Rattle.plan.proofs.Laws.Rows.{words-of}
 use Rattle.plan.proofs.Laws.Accepted.{given}
 use Rattle.matcher.specs.declared.cursor.Cursor.{Cursor}
-use Rattle.fulltext.specs.Documents.{varsOf}
-use Rattle.matcher.specs.Tables.{varsBefore, Entry, varAt, cursorOn, Placed, Cursors}
-use Rattle.matcher.proofs.Laws.Tables.{varsBefore-first, varsBefore-end, vars-within}
+use Rattle.plan.specs.Inner.Outline.{varsBefore, Entry}
+use Rattle.matcher.specs.Tables.{varAt, cursorOn, Placed, Cursors}
+use Rattle.plan.proofs.Laws.Outline.{varsBefore-first, varsBefore-end, vars-within}
 
 -- variable i of pattern k, among those of all patterns
 joined-at : (fs : List Pattern) (k i : ℕ) → k < length fs → i < length (getD fs k noRow .vars) → getD (joined (map (λ (f : Pattern). f .vars) fs)) (total (λ (f : Pattern). length (f .vars)) (take k fs) + i) 0 ≡ getD (getD fs k noRow .vars) i 0
@@ -59,7 +59,7 @@ pub record Voiced (v p : List ℕ) (first row i : ℕ) : Type 0 where
 abbrev pub VoicedAt : List ℕ → List ℕ → List ℕ → ℕ → ℕ → Type 0
 VoicedAt v p table k i = Voiced v p (getD table (4 * k) 0) (getD table (4 * k + 2) 0 - getD table (4 * k + 1) 0) i
 
-pub voiced : (v p : List ℕ) → Accepted v p → (k : ℕ) → k < sizes p .patterns → (first vars condition last : ℕ) → Entry p k first vars condition last → (i : ℕ) → i < vars → Voiced v p first (condition - vars) i
+pub voiced : (v p : List ℕ) → Accepted v p → (k : ℕ) → k < sizes p .patterns → (first vars condition last : ℕ) → Entry p (record { pattern = k; first = first; vars = vars; condition = condition; last = last }) → (i : ℕ) → i < vars → Voiced v p first (condition - vars) i
 voiced v p accepted k h first vars condition last e i l =
     let g = given v p accepted in
     let n = e .vars-are in

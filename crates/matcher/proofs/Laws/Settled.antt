@@ -22,10 +22,11 @@ use Rattle.matcher.specs.declared.cursor.Cursor.{Cursor}
 use Rattle.fulltext.specs.Matches.{leastIn}
 use Rattle.fulltext.specs.Documents.{present, found, shown, shownIn}
 use Rattle.matcher.specs.Cursors.{listEnd, Stands}
-use Rattle.matcher.specs.Tables.{Entry, varsBefore, varAt}
+use Rattle.plan.specs.Inner.Outline.{Entry, varsBefore, outlineAt}
+use Rattle.matcher.specs.Tables.{varAt}
 use Rattle.matcher.specs.Settling.{Among, Low, givenIf, Posed, Ready}
 use Rattle.matcher.proofs.Laws.Volume.{list-stretch}
-use Rattle.matcher.proofs.Laws.Tables.{vars-within}
+use Rattle.plan.proofs.Laws.Outline.{vars-within}
 use Rattle.matcher.proofs.Laws.Placed.{varAt-is}
 use Rattle.matcher.proofs.Laws.Settling.{low-first}
 
@@ -36,7 +37,7 @@ module _ (v p table ats ends : List ℕ) (k d : ℕ) (starts : Cursor) (r : Read
   made : WellMade (listCount v) (patternAt p k)
   made = g .well-made k (r .pattern)
 
-  pub ready-entry : Entry p k (getD table (4 * k) 0) (getD table (4 * k + 1) 0) (getD table (4 * k + 2) 0) (getD table (4 * k + 3) 0)
+  pub ready-entry : Entry p (outlineAt table k)
   ready-entry = r .tabled k (r .pattern)
 
   pub ready-patterns : k < 8
@@ -128,7 +129,7 @@ unfound-none v p k d e = go (leastIn (listsOf v) d (patternAt p k)) e
 
 -- a pattern that can be found next in a later document
 module _ (v p table ats ends : List ℕ) (k d r : ℕ) (starts : Cursor) (w : Ready v p table ats ends k d r starts) where
-  pub away-entry : Entry p k (getD table (4 * k) 0) (getD table (4 * k + 1) 0) (getD table (4 * k + 2) 0) (getD table (4 * k + 3) 0)
+  pub away-entry : Entry p (outlineAt table k)
   away-entry = w .tabled k (w .pattern)
 
   pub away-few : getD table (4 * k + 1) 0 ≤ 8

@@ -23,7 +23,7 @@ use Rattle.plan.specs.declared.row.Predicate.{Predicate}
 use Rattle.plan.specs.declared.row.Predicate.the-variants.{Distance, Ordered, Samepara, Window}
 use Rattle.plan.specs.declared.row.Kind.the-variants as kind
 use Rattle.plan.specs.Rows.{InRange}
-use Rattle.plan.specs.Standing.{namesBelow}
+use Rattle.plan.specs.State.{namesBelow}
 use Rattle.fulltext.specs.Calculus.{at}
 use Rattle.fulltext.specs.Matches.{holds, paraStart}
 use Rattle.matcher.specs.Shortfall.{InDocument, LeftShort}

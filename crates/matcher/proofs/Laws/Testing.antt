@@ -34,7 +34,7 @@ use Rattle.plan.specs.declared.row.Predicate.{Predicate}
 use Rattle.plan.specs.declared.row.Predicate.the-variants.{Window}
 use Rattle.plan.specs.declared.row.Kind.the-variants as kind
 use Rattle.plan.specs.Rows.{rowCount, aAt, rowAt, formWrongAt, InRange}
-use Rattle.plan.specs.Standing.{namesBelow}
+use Rattle.plan.specs.State.{namesBelow}
 use Rattle.plan.specs.Patterns.{Pattern}
 use Rattle.plan.specs.Answers.{Sizes}
 use Rattle.plan.specs.Check.{verdict, Accepted}
@@ -53,7 +53,7 @@ use Rattle.fulltext.proofs.Laws.Positions.{positions-hold}
 use Rattle.fulltext.proofs.Laws.Least.{fits-iff, allHold-iff}
 use Rattle.matcher.proofs.Laws.Cursors.{seek-ge, seek-le, seek-at, seek-below}
 use Rattle.matcher.proofs.Laws.Volume.{list-stretch, held, holds-at}
-use Rattle.matcher.proofs.Laws.Tables.{EntryAt}
+use Rattle.plan.proofs.Laws.Outline.{EntryAt}
 use Rattle.matcher.proofs.Laws.Placed.{varAt-is, voiced}
 
 pub small-decides : (ps : List ℕ) → Decides (all (λ q. leb q 65535) ps) (InDocument ps)

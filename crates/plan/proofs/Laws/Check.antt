@@ -23,27 +23,27 @@ use Rattle.volume.specs.Layout.{listCount}
 use Rattle.volume.specs.Check as volume
 use Rattle.volume.proofs.Laws.CheckFirst.{check-sound}
 use Rattle.plan.specs.declared.answers.Fault.{Fault}
-use Rattle.plan.specs.declared.standing.Standing.{Standing}
-use Rattle.plan.specs.declared.standing.Step.{Step}
-use Rattle.plan.specs.declared.standing.Step.the-variants.{Stands, Faulty}
+use Rattle.plan.specs.declared.state.State.{State}
+use Rattle.plan.specs.declared.state.Step.{Step}
+use Rattle.plan.specs.declared.state.Step.the-variants.{Stands, Faulty}
 use Rattle.plan.specs.Answers.{Sizes, faultCode}
 use Rattle.plan.specs.Rows.{rowCount, rowAt, formWrongAt}
-use Rattle.plan.specs.Standing.{standing, listWrong, tooMany, orderWrong, step}
+use Rattle.plan.specs.State.{stateAt, listWrong, tooMany, orderWrong, step}
 use Rattle.plan.specs.Check.{lengthWrong, faulty, faultOf, rowWrong, rowFault, badRow, rowsWrong, unfinished, sizes, rowsVerdict, planVerdict, verdictBy, verdict}
 use Rattle.plan.specs.Refusals.{WrongLength, Unfinished}
 use Rattle.plan.proofs.Laws.Passed.{Passed}
-use Rattle.plan.proofs.Laws.Standing.{step-right}
+use Rattle.plan.proofs.Laws.State.{step-right}
 
 module _ (t : ℕ) (p : List ℕ) where
-  pub row-stands : (i : ℕ) (s : Standing) → step t (standing p i) p i ≡ Stands s → rowWrong t p i ≡ false
+  pub row-stands : (i : ℕ) (s : State) → step t (stateAt p i) p i ≡ Stands s → rowWrong t p i ≡ false
   unfolding rowWrong
   row-stands i s e = ap faulty e
 
-  pub row-faulty : (i : ℕ) (why : Fault) → step t (standing p i) p i ≡ Faulty why → (rowWrong t p i ≡ true) × (rowFault t p i ≡ faultCode why)
+  pub row-faulty : (i : ℕ) (why : Fault) → step t (stateAt p i) p i ≡ Faulty why → (rowWrong t p i ≡ true) × (rowFault t p i ≡ faultCode why)
   unfolding rowWrong rowFault
   row-faulty i why e = (ap faulty e, ap faultOf e)
 
-  pub rows-fault : (i : ℕ) (why : Fault) → i < rowCount p → badRow t p ≡ i → step t (standing p i) p i ≡ Faulty why → rowsVerdict t p ≡ refused (faultCode why) i
+  pub rows-fault : (i : ℕ) (why : Fault) → i < rowCount p → badRow t p ≡ i → step t (stateAt p i) p i ≡ Faulty why → rowsVerdict t p ≡ refused (faultCode why) i
   unfolding rowsVerdict rowsWrong
   rows-fault i why h b e = rw (b, lt-ltb i (rowCount p) h, row-faulty i why e .1)
 
@@ -56,18 +56,18 @@ module _ (t : ℕ) (p : List ℕ) where
     unfolding rowsVerdict rowsWrong end
     past-rows = rw (le-ltb (badRow t p) (rowCount p) (omega arith))
 
-    pub rows-open : standing p (rowCount p) .vars ≢ 0 → rowsVerdict t p ≡ refused 14 0
+    pub rows-open : stateAt p (rowCount p) .vars ≢ 0 → rowsVerdict t p ≡ refused 14 0
     unfolding unfinished end
-    rows-open h = past-rows ∙ rw (ne-eqb (standing p (rowCount p) .vars) 0 h)
+    rows-open h = past-rows ∙ rw (ne-eqb (stateAt p (rowCount p) .vars) 0 h)
 
-    module _ (closed : standing p (rowCount p) .vars ≡ 0) where
-      pub rows-count : standing p (rowCount p) .answers ≢ 1 → rowsVerdict t p ≡ refused 14 0
+    module _ (closed : stateAt p (rowCount p) .vars ≡ 0) where
+      pub rows-count : stateAt p (rowCount p) .answers ≢ 1 → rowsVerdict t p ≡ refused 14 0
       unfolding unfinished end
-      rows-count h = past-rows ∙ rw (eq-eqb (standing p (rowCount p) .vars) 0 closed, ne-eqb (standing p (rowCount p) .answers) 1 h)
+      rows-count h = past-rows ∙ rw (eq-eqb (stateAt p (rowCount p) .vars) 0 closed, ne-eqb (stateAt p (rowCount p) .answers) 1 h)
 
-      pub rows-answer : standing p (rowCount p) .answers ≡ 1 → rowsVerdict t p ≡ answered (sizes p)
+      pub rows-answer : stateAt p (rowCount p) .answers ≡ 1 → rowsVerdict t p ≡ answered (sizes p)
       unfolding unfinished end
-      rows-answer h = past-rows ∙ rw (eq-eqb (standing p (rowCount p) .vars) 0 closed, eq-eqb (standing p (rowCount p) .answers) 1 h)
+      rows-answer h = past-rows ∙ rw (eq-eqb (stateAt p (rowCount p) .vars) 0 closed, eq-eqb (stateAt p (rowCount p) .answers) 1 h)
 
   pub plan-zero : length p ≡ 0 → planVerdict t p ≡ refused 9 0
   unfolding planVerdict lengthWrong
@@ -91,17 +91,17 @@ pub lengthWrong-decides : (p : List ℕ) → Decides (lengthWrong p) (WrongLengt
 unfolding lengthWrong
 lengthWrong-decides p = or-decides (eqb-decides (length p) 0) (or-decides (not-decides (eqb-decides (length p % 4) 0)) (ltb-decides 256 (length p)))
 
-pub unfinished-decides : (p : List ℕ) → Decides (unfinished p) (Unfinished (standing p (rowCount p)))
+pub unfinished-decides : (p : List ℕ) → Decides (unfinished p) (Unfinished (stateAt p (rowCount p)))
 unfolding unfinished
-unfinished-decides p = or-decides (not-decides (eqb-decides (standing p (rowCount p) .vars) 0)) (not-decides (eqb-decides (standing p (rowCount p) .answers) 1))
+unfinished-decides p = or-decides (not-decides (eqb-decides (stateAt p (rowCount p) .vars) 0)) (not-decides (eqb-decides (stateAt p (rowCount p) .answers) 1))
 
 -- the tests of one row, from the test of its step
-pub row-right : (t : ℕ) (p : List ℕ) (i : ℕ) → rowWrong t p i ≡ false → (formWrongAt p i ≡ false) × (listWrong t (rowAt p i .kind) ≡ false) × (tooMany (standing p i) (rowAt p i .kind) ≡ false) × (orderWrong (standing p i) (rowAt p i .kind) ≡ false)
+pub row-right : (t : ℕ) (p : List ℕ) (i : ℕ) → rowWrong t p i ≡ false → (formWrongAt p i ≡ false) × (listWrong t (rowAt p i .kind) ≡ false) × (tooMany (stateAt p i) (rowAt p i .kind) ≡ false) × (orderWrong (stateAt p i) (rowAt p i .kind) ≡ false)
 unfolding rowWrong
-row-right t p i e = go (step t (standing p i) p i) refl e
+row-right t p i e = go (step t (stateAt p i) p i) refl e
   where
-    go : (x : Step) → step t (standing p i) p i ≡ x → faulty x ≡ false → (formWrongAt p i ≡ false) × (listWrong t (rowAt p i .kind) ≡ false) × (tooMany (standing p i) (rowAt p i .kind) ≡ false) × (orderWrong (standing p i) (rowAt p i .kind) ≡ false)
-    go (Stands s) q f = let w = step-right t (standing p i) p i s q in (w .0, w .1, w .2, w .3)
+    go : (x : Step) → step t (stateAt p i) p i ≡ x → faulty x ≡ false → (formWrongAt p i ≡ false) × (listWrong t (rowAt p i .kind) ≡ false) × (tooMany (stateAt p i) (rowAt p i .kind) ≡ false) × (orderWrong (stateAt p i) (rowAt p i .kind) ≡ false)
+    go (Stands s) q f = let w = step-right t (stateAt p i) p i s q in (w .0, w .1, w .2, w .3)
     go (Faulty why) q f = absurd (true≢false f)
 
 -- a verdict that answers: every test is passed, and the sizes are those of the plan
@@ -136,14 +136,14 @@ module _ (t : ℕ) (p : List ℕ) (s : Sizes) (e : planVerdict t p ≡ answered 
     listed = λ i h. row-right t p i (right i h) .1;
     few = λ i h. row-right t p i (right i h) .2;
     ordered = λ i h. row-right t p i (right i h) .3;
-    closed = stable (eqb-decides (standing p (rowCount p) .vars) 0) (λ n. open-end (inl n));
-    single = stable (eqb-decides (standing p (rowCount p) .answers) 1) (λ n. open-end (inr n));
+    closed = stable (eqb-decides (stateAt p (rowCount p) .vars) 0) (λ n. open-end (inl n));
+    single = stable (eqb-decides (stateAt p (rowCount p) .answers) 1) (λ n. open-end (inr n));
   }
     where
       long : WrongLength p → ⊥
       long = lengthWrong-decides p .no (rows-said .0)
 
-      open-end : Unfinished (standing p (rowCount p)) → ⊥
+      open-end : Unfinished (stateAt p (rowCount p)) → ⊥
       open-end = unfinished-decides p .no (finished .0)
 
 -- a verdict on a volume and a plan that answers: both are accepted

@@ -22,13 +22,13 @@ use Rattle.volume.specs.Refusals.{VolumeApplies, volumeStages}
 use Rattle.volume.proofs.Laws.CheckFirst as below
 use Rattle.plan.specs.Answers.{Sizes}
 use Rattle.plan.specs.Rows.{rowCount, kindAt, aAt, bAt, cAt, rowAt, rowsBefore, rowsOf, formWrongAt}
-use Rattle.plan.specs.Standing.{listWrong, tooMany, orderWrong, standing}
+use Rattle.plan.specs.State.{listWrong, tooMany, orderWrong, stateAt}
 use Rattle.plan.specs.Check.{lengthWrong, rowWrong, rowFault, badRow, rowsWrong, unfinished, sizes, rowsVerdict, planVerdict, verdictBy, verdict}
 use Rattle.plan.specs.Counts.{counted}
 use Rattle.plan.specs.Refusals.{WrongLength, WrongForm, WrongList, Ninth, WrongOrder, Unfinished, PlanApplies, ofVolume, wrongLength, wrongForm, wrongList, ninth, wrongOrder, planStages}
 use Rattle.plan.specs.Refusals as refusals
 use Rattle.plan.proofs.Laws.Rows.{formWrong-decides}
-use Rattle.plan.proofs.Laws.Standing.{step-form, step-list, step-many, step-order, step-stands, listWrong-decides, tooMany-decides, orderWrong-decides}
+use Rattle.plan.proofs.Laws.State.{step-form, step-list, step-many, step-order, step-stands, listWrong-decides, tooMany-decides, orderWrong-decides}
 use Rattle.plan.proofs.Laws.Counts.{counted-is}
 use Rattle.plan.proofs.Laws.Check.{row-stands, row-faulty, row-right, lengthWrong-decides, unfinished-decides}
 
@@ -94,16 +94,16 @@ module _ (v p : List ℕ) where
     stage-le : (m q : ℕ) → PlanApplies v p m q → stageIn planStages m ≤ 9
     stage-le m q a = ⊎-elim (λ x. absurd (none m q x)) (λ w. w .1) (of-call m q a)
 
-    -- in front of a row, where those before it are not refused, counting gives the standing
-    counts : (q : ℕ) → ((j : ℕ) → j < q → rowWrong (listCount v) p j ≡ false) → counted (rowsBefore p q) ≡ standing p q
+    -- in front of a row, where those before it are not refused, counting gives the state
+    counts : (q : ℕ) → ((j : ℕ) → j < q → rowWrong (listCount v) p j ≡ false) → counted (rowsBefore p q) ≡ stateAt p q
     counts q right = counted-is p q (λ j l. row-right (listCount v) p j (right j l) .3)
 
     -- the tests of 12 and 13 there
-    many-decides : (q : ℕ) → ((j : ℕ) → j < q → rowWrong (listCount v) p j ≡ false) → Decides (tooMany (standing p q) (rowAt p q .kind)) (NinthAt q)
-    many-decides q right = rw (counts q right) (tooMany-decides (standing p q) (rowAt p q .kind))
+    many-decides : (q : ℕ) → ((j : ℕ) → j < q → rowWrong (listCount v) p j ≡ false) → Decides (tooMany (stateAt p q) (rowAt p q .kind)) (NinthAt q)
+    many-decides q right = rw (counts q right) (tooMany-decides (stateAt p q) (rowAt p q .kind))
 
-    order-decides : (q : ℕ) → ((j : ℕ) → j < q → rowWrong (listCount v) p j ≡ false) → Decides (orderWrong (standing p q) (rowAt p q .kind)) (OrderAt q)
-    order-decides q right = rw (counts q right) (orderWrong-decides (standing p q) (rowAt p q .kind))
+    order-decides : (q : ℕ) → ((j : ℕ) → j < q → rowWrong (listCount v) p j ≡ false) → Decides (orderWrong (stateAt p q) (rowAt p q .kind)) (OrderAt q)
+    order-decides q right = rw (counts q right) (orderWrong-decides (stateAt p q) (rowAt p q .kind))
 
     -- a row that is not refused, nor any before it, has none of 10 to 13
     in-order : (m q : ℕ) → ((j : ℕ) → j ≤ q → rowWrong (listCount v) p j ≡ false) → InRow m q → ⊥
@@ -148,7 +148,7 @@ module _ (v p : List ℕ) where
 
       first-row : IsFirst (rowFault (listCount v) p bad) bad
       unfolding stageIn elem
-      first-row = go (formWrongAt p bad) (listWrong (listCount v) (rowAt p bad .kind)) (tooMany (standing p bad) (rowAt p bad .kind)) (orderWrong (standing p bad) (rowAt p bad .kind)) refl refl refl refl
+      first-row = go (formWrongAt p bad) (listWrong (listCount v) (rowAt p bad .kind)) (tooMany (stateAt p bad) (rowAt p bad .kind)) (orderWrong (stateAt p bad) (rowAt p bad .kind)) refl refl refl refl
         where
           named : (n : ℕ) → rowFault (listCount v) p bad ≡ n → IsFirst n bad → IsFirst (rowFault (listCount v) p bad) bad
           named n q f = subst (λ (k : ℕ). IsFirst k bad) (sym q) f
@@ -159,21 +159,21 @@ module _ (v p : List ℕ) where
           list-decides : Decides (listWrong (listCount v) (rowAt p bad .kind)) (ListAt bad)
           list-decides = listWrong-decides (listCount v) (rowAt p bad .kind)
 
-          go : (f l t o : Bool) → formWrongAt p bad ≡ f → listWrong (listCount v) (rowAt p bad .kind) ≡ l → tooMany (standing p bad) (rowAt p bad .kind) ≡ t → orderWrong (standing p bad) (rowAt p bad .kind) ≡ o → IsFirst (rowFault (listCount v) p bad) bad
+          go : (f l t o : Bool) → formWrongAt p bad ≡ f → listWrong (listCount v) (rowAt p bad .kind) ≡ l → tooMany (stateAt p bad) (rowAt p bad .kind) ≡ t → orderWrong (stateAt p bad) (rowAt p bad .kind) ≡ o → IsFirst (rowFault (listCount v) p bad) bad
           go true l t o ef el et eo =
-              named 10 (row-faulty (listCount v) p bad _ (step-form (listCount v) (standing p bad) p bad ef) .1)
+              named 10 (row-faulty (listCount v) p bad _ (step-form (listCount v) (stateAt p bad) p bad ef) .1)
               (first-here 10 refl (wrongForm bad (found .0) (form-decides .yes ef)) (not-below 10 (omega arith) (λ h. absurd (omega arith)) (λ h. absurd (omega arith)) (λ h. absurd (omega arith))))
           go false true t o ef el et eo =
-              named 11 (row-faulty (listCount v) p bad _ (step-list (listCount v) (standing p bad) p bad ef el) .1)
+              named 11 (row-faulty (listCount v) p bad _ (step-list (listCount v) (stateAt p bad) p bad ef el) .1)
               (first-here 11 refl (wrongList bad (found .0) (list-decides .yes el)) (not-below 11 (omega arith) (λ h. form-decides .no ef) (λ h. absurd (omega arith)) (λ h. absurd (omega arith))))
           go false false true o ef el et eo =
-              named 12 (row-faulty (listCount v) p bad _ (step-many (listCount v) (standing p bad) p bad ef el et) .1)
+              named 12 (row-faulty (listCount v) p bad _ (step-many (listCount v) (stateAt p bad) p bad ef el et) .1)
               (first-here 12 refl (ninth bad (found .0) (many-decides bad before-bad .yes et)) (not-below 12 (omega arith) (λ h. form-decides .no ef) (λ h. list-decides .no el) (λ h. absurd (omega arith))))
           go false false false true ef el et eo =
-              named 13 (row-faulty (listCount v) p bad _ (step-order (listCount v) (standing p bad) p bad ef el et eo) .1)
+              named 13 (row-faulty (listCount v) p bad _ (step-order (listCount v) (stateAt p bad) p bad ef el et eo) .1)
               (first-here 13 refl (wrongOrder bad (found .0) (order-decides bad before-bad .yes eo)) (not-below 13 (omega arith) (λ h. form-decides .no ef) (λ h. list-decides .no el) (λ h. many-decides bad before-bad .no et)))
           go false false false false ef el et eo =
-              absurd (contrary (found .1) (row-stands (listCount v) p bad _ (step-stands (listCount v) (standing p bad) p bad ef el et eo)))
+              absurd (contrary (found .1) (row-stands (listCount v) p bad _ (step-stands (listCount v) (stateAt p bad) p bad ef el et eo)))
 
     -- the rungs, from the last one up
     from-end : ((j : ℕ) → j < rowCount p → rowWrong (listCount v) p j ≡ false) → IsClear 9 → IsSound (cond (unfinished p) (refused 14 0) (answered (sizes p)))

@@ -18,11 +18,11 @@ use Rattle.plan.specs.declared.row.Operator.{Operator}
 use Rattle.plan.specs.declared.row.Kind.{Kind}
 use Rattle.plan.specs.declared.row.Kind.the-variants as kind
 use Rattle.plan.specs.declared.row.Row.{Row}
-use Rattle.plan.specs.declared.standing.Standing.{Standing}
+use Rattle.plan.specs.declared.state.State.{State}
 use Rattle.plan.specs.Rows.{rowAt, isVoice, isCondition, isEnd}
-use Rattle.plan.specs.Standing.{outset, takes, after, standing, orderWrong}
+use Rattle.plan.specs.State.{initial, takes, after, stateAt, orderWrong}
 use Rattle.plan.specs.Counts.{countOf, behindEnd, spent, counted}
-use Rattle.plan.proofs.Laws.Standing.{standing-first, standing-next, operator-stands, takes-two}
+use Rattle.plan.proofs.Laws.State.{stateAt-first, stateAt-next, operator-stands, takes-two}
 
 -- one more row, counted where it is of the sort
 count-snoc : (sort : Kind → Bool) (xs : List Row) (r : Row) → countOf sort (xs ++ (r ∷ [])) ≡ countOf sort xs + cond (sort (r .kind)) 1 0
@@ -51,9 +51,9 @@ behind-end (x ∷ xs) r e = rw (all-snoc noEnd (x ∷ xs) r, e) (go (all noEnd (
     go true h = h
     go false h = h
 
--- a standing by its five parts
+-- a state by its five parts
 same : (v w : ℕ) (b d : Bool) (p q a e t u : ℕ) → v ≡ w → b ≡ d → p ≡ q → a ≡ e → t ≡ u
-    → _≡_ {A = Standing} (record { vars = v; begun = b; patterns = p; answers = a; total = t }) (record { vars = w; begun = d; patterns = q; answers = e; total = u })
+    → _≡_ {A = State} (record { vars = v; begun = b; patterns = p; answers = a; total = t }) (record { vars = w; begun = d; patterns = q; answers = e; total = u })
 same v w b d p q a e t u x y z i j = rw (x, y, z, i, j)
 
 -- the answers that operators have spent
@@ -127,29 +127,29 @@ module _ (xs : List Row) (l : spentOf xs ≤ countOf isEnd xs) where
           let n = takes-two o in
           omega arith
 
--- no more answers have been spent than stacked, and counting gives a standing
-abbrev Right : List Row → Standing → Type 0
+-- no more answers have been spent than stacked, and counting gives a state
+abbrev Right : List Row → State → Type 0
 Right rows s = (spentOf rows ≤ countOf isEnd rows) × (counted rows ≡ s)
 
-right-first : Right [] outset
+right-first : Right [] initial
 unfolding total counted countOf keep behindEnd
 right-first = (omega arith, refl)
 
-right-next : (rows : List Row) (s : Standing) (k : Kind) → orderWrong s k ≡ false → Right rows s → Right (rows ++ (record { kind = k } ∷ [])) (after s k)
+right-next : (rows : List Row) (s : State) (k : Kind) → orderWrong s k ≡ false → Right rows s → Right (rows ++ (record { kind = k } ∷ [])) (after s k)
 right-next rows s k e w =
     let o : orderWrong (counted rows) k ≡ false = rw (w .1) e in
-    (spent-after rows (w .0) k o, counted-after rows (w .0) k o ∙ ap (λ (x : Standing). after x k) (w .1))
+    (spent-after rows (w .0) k o, counted-after rows (w .0) k o ∙ ap (λ (x : State). after x k) (w .1))
 
 -- in front of row i, where each row before it may stand
 module _ (p : List ℕ) where
-  right-at : (i : ℕ) → ((j : ℕ) → j < i → orderWrong (standing p j) (rowAt p j .kind) ≡ false) → Right (run (rowAt p) 0 i) (standing p i)
-  right-at zero h = subst (λ (s : Standing). Right (run (rowAt p) 0 0) s) (sym (standing-first p)) (subst (λ (rows : List Row). Right rows outset) (sym (run-end (rowAt p) 0 0 (omega arith))) right-first)
+  right-at : (i : ℕ) → ((j : ℕ) → j < i → orderWrong (stateAt p j) (rowAt p j .kind) ≡ false) → Right (run (rowAt p) 0 i) (stateAt p i)
+  right-at zero h = subst (λ (s : State). Right (run (rowAt p) 0 0) s) (sym (stateAt-first p)) (subst (λ (rows : List Row). Right rows initial) (sym (run-end (rowAt p) 0 0 (omega arith))) right-first)
   right-at (suc i) h =
       let rows : run (rowAt p) 0 i ++ (rowAt p i ∷ []) ≡ run (rowAt p) 0 (suc i) = ap (λ (j : ℕ). run (rowAt p) 0 i ++ (rowAt p j ∷ [])) (sym (zero-add i)) ∙ sym (run-snoc (rowAt p) 0 i) ∙ ap (run (rowAt p) 0) (add-one i) in
-      let next : after (standing p i) (rowAt p i .kind) ≡ standing p (suc i) = sym (standing-next p i) ∙ ap (standing p) (add-one i) in
-      subst (λ (s : Standing). Right (run (rowAt p) 0 (suc i)) s) next
-      (subst (λ (xs : List Row). Right xs (after (standing p i) (rowAt p i .kind))) rows
-      (right-next (run (rowAt p) 0 i) (standing p i) (rowAt p i .kind) (h i (omega arith)) (right-at i (λ j l. h j (omega arith)))))
+      let next : after (stateAt p i) (rowAt p i .kind) ≡ stateAt p (suc i) = sym (stateAt-next p i) ∙ ap (stateAt p) (add-one i) in
+      subst (λ (s : State). Right (run (rowAt p) 0 (suc i)) s) next
+      (subst (λ (xs : List Row). Right xs (after (stateAt p i) (rowAt p i .kind))) rows
+      (right-next (run (rowAt p) 0 i) (stateAt p i) (rowAt p i .kind) (h i (omega arith)) (right-at i (λ j l. h j (omega arith)))))
 
-  pub counted-is : (i : ℕ) → ((j : ℕ) → j < i → orderWrong (standing p j) (rowAt p j .kind) ≡ false) → counted (run (rowAt p) 0 i) ≡ standing p i
+  pub counted-is : (i : ℕ) → ((j : ℕ) → j < i → orderWrong (stateAt p j) (rowAt p j .kind) ≡ false) → counted (run (rowAt p) 0 i) ≡ stateAt p i
   counted-is i h = right-at i h .1

@@ -18,26 +18,27 @@ use lib.ListN.{length}
 use Rattle.seq.specs.Lists.{total}
 use Rattle.seq.specs.Numbers.{run}
 use Rattle.seq.proofs.Laws.Numbers.{length-run}
+use Rattle.plan.specs.Limits.{mostPatterns, mostVars, rowWords, mostRowWords}
 use Rattle.plan.specs.Rows.{rowCount, kindAt, aAt, bAt, cAt, rowAt, rowsOf, formWrongAt, InRange}
-use Rattle.plan.specs.Standing.{outset, after, standing}
+use Rattle.plan.specs.State.{initial, after, stateAt}
 use Rattle.plan.specs.Patterns.{Pattern, noRow, patternsOf, answersFrom}
 use Rattle.plan.specs.Check.{sizes}
 use Rattle.plan.specs.Accepted.{patternAt, WellMade}
 use Rattle.plan.proofs.Laws.Rows.{range-of}
-use Rattle.plan.proofs.Laws.Standing.{standing-first, standing-next}
+use Rattle.plan.proofs.Laws.State.{stateAt-first, stateAt-next}
 use Rattle.plan.proofs.Laws.Passed.{Passed}
-use Rattle.plan.proofs.Laws.Patterns.{patterns-length, patterns-vars, Passes, PassAll, fits-none, patterns-made, answers-length, Bound, bound-outset, bound-stand}
+use Rattle.plan.proofs.Laws.Patterns.{patterns-length, patterns-vars, Passes, PassAll, fits-none, patterns-made, answers-length, Bound, bound-initial, bound-afterAll}
 
 module _ (p : List ℕ) where
-  patterns-are : length (patternsOf (rowsOf p)) ≡ standing p (rowCount p) .patterns
-  unfolding standing
-  patterns-are = sym (patterns-length outset noRow (rowsOf p) ∙ zero-add (length (patternsOf (rowsOf p))))
+  patterns-are : length (patternsOf (rowsOf p)) ≡ stateAt p (rowCount p) .patterns
+  unfolding stateAt
+  patterns-are = sym (patterns-length initial noRow (rowsOf p) ∙ zero-add (length (patternsOf (rowsOf p))))
 
-  vars-are : standing p (rowCount p) .vars ≡ 0 → total (λ (f : Pattern). length (f .vars)) (patternsOf (rowsOf p)) ≡ standing p (rowCount p) .total
-  unfolding standing
-  vars-are e = let w = patterns-vars outset noRow (rowsOf p) refl in omega arith
+  vars-are : stateAt p (rowCount p) .vars ≡ 0 → total (λ (f : Pattern). length (f .vars)) (patternsOf (rowsOf p)) ≡ stateAt p (rowCount p) .total
+  unfolding stateAt
+  vars-are e = let w = patterns-vars initial noRow (rowsOf p) refl in omega arith
 
-  pub sizes-are : standing p (rowCount p) .vars ≡ 0 → sizes p ≡ record { patterns = standing p (rowCount p) .patterns; vars = standing p (rowCount p) .total }
+  pub sizes-are : stateAt p (rowCount p) .vars ≡ 0 → sizes p ≡ record { patterns = stateAt p (rowCount p) .patterns; vars = stateAt p (rowCount p) .total }
   unfolding sizes
   sizes-are e = rw (patterns-are, vars-are e)
 
@@ -47,46 +48,46 @@ module _ (p : List ℕ) where
 
 module _ (t : ℕ) (p : List ℕ) (ok : Passed t p) where
   -- m rows from row i on
-  rows-pass : (i m : ℕ) → i + m ≤ rowCount p → PassAll t (standing p i) (run (rowAt p) i m)
+  rows-pass : (i m : ℕ) → i + m ≤ rowCount p → PassAll t (stateAt p i) (run (rowAt p) i m)
   unfolding PassAll run
   rows-pass i zero h = tt
   rows-pass i (suc m) h = (here, rw next at (rows-pass (suc i) m (omega arith)))
     where
-      here : Passes t (standing p i) (rowAt p i .kind)
+      here : Passes t (stateAt p i) (rowAt p i .kind)
       here =
           let l : i < rowCount p = omega arith in
           record { in-range = row-range p i (ok .formed i l); listed = ok .listed i l; few = ok .few i l; ordered = ok .ordered i l }
 
-      next : standing p (suc i) ≡ after (standing p i) (rowAt p i .kind)
-      next = ap (standing p) (sym (add-one i)) ∙ standing-next p i
+      next : stateAt p (suc i) ≡ after (stateAt p i) (rowAt p i .kind)
+      next = ap (stateAt p) (sym (add-one i)) ∙ stateAt-next p i
 
-  all-pass : PassAll t outset (rowsOf p)
-  all-pass = rw (standing-first p) at (rows-pass 0 (rowCount p) (omega arith))
+  all-pass : PassAll t initial (rowsOf p)
+  all-pass = rw (stateAt-first p) at (rows-pass 0 (rowCount p) (omega arith))
 
   pub well-made : (k : ℕ) → k < sizes p .patterns → WellMade t (patternAt p k)
   unfolding sizes
-  well-made = patterns-made t outset noRow (rowsOf p) all-pass (fits-none t outset refl)
+  well-made = patterns-made t initial noRow (rowsOf p) all-pass (fits-none t initial refl)
 
-  end-bound : Bound (rowCount p) (standing p (rowCount p))
-  unfolding standing
-  end-bound = rw (length-run (rowAt p) 0 (rowCount p), zero-add (rowCount p)) at (bound-stand t 0 outset (rowsOf p) all-pass bound-outset)
+  end-bound : Bound (rowCount p) (stateAt p (rowCount p))
+  unfolding stateAt
+  end-bound = rw (length-run (rowAt p) 0 (rowCount p), zero-add (rowCount p)) at (bound-afterAll t 0 initial (rowsOf p) all-pass bound-initial)
 
   pub one-answer : (found : Pattern → Bool) → length (answersFrom found noRow [] (rowsOf p)) ≡ 1
-  unfolding standing
-  one-answer found = answers-length found t outset noRow [] (rowsOf p) all-pass refl ∙ ok .single
+  unfolding stateAt
+  one-answer found = answers-length found t initial noRow [] (rowsOf p) all-pass refl ∙ ok .single
 
-  -- how many patterns and variables there are, by the numbers of the standing at the end
+  -- how many patterns and variables there are, by the numbers of the state at the end
   pub some-patterns : 1 ≤ sizes p .patterns
   some-patterns = rw (sizes-are p (ok .closed)) (let b = end-bound in omega arith)
 
-  pub most-patterns : sizes p .patterns ≤ 8
+  pub most-patterns : sizes p .patterns ≤ mostPatterns
   most-patterns = rw (sizes-are p (ok .closed)) (end-bound .few-patterns)
 
   pub some-vars : 1 ≤ sizes p .vars
   some-vars = rw (sizes-are p (ok .closed)) (let b = end-bound in omega arith)
 
-  pub most-vars : sizes p .vars ≤ 51
+  pub most-vars : sizes p .vars ≤ mostVars
   most-vars = rw (sizes-are p (ok .closed)) (let b = end-bound in omega arith)
 
-  pub width : 1 + sizes p .patterns + sizes p .vars ≤ 59
+  pub width : rowWords (sizes p .patterns) (sizes p .vars) ≤ mostRowWords
   width = rw (sizes-are p (ok .closed)) (let b = end-bound in omega arith)

@@ -19,13 +19,13 @@ use Rattle.seq.specs.Numbers.{run}
 use Rattle.seq.proofs.Laws.Tests.{below-or}
 use Rattle.plan.specs.declared.row.Row.{Row}
 use Rattle.plan.specs.Rows.{rowCount, rowAt, rowsOf, planOf, isOperator}
-use Rattle.plan.specs.Standing.{standing}
+use Rattle.plan.specs.State.{stateAt}
 use Rattle.plan.specs.Patterns.{noRow, patternsFrom, patternsOf}
 use Rattle.plan.specs.Parts.{opening, behind, firstRow, lastRow, spanAt, partAt, gap, patternRows}
 use Rattle.plan.specs.Accepted.{patternAt}
 use Rattle.seq.proofs.Laws.Slices.{length-slice, take-slice, joined-takes}
 use Rattle.plan.proofs.Laws.Rows.{rows-slice, words-slice}
-use Rattle.plan.proofs.Laws.Standing.{standing-first}
+use Rattle.plan.proofs.Laws.State.{stateAt-first}
 use Rattle.plan.proofs.Laws.Spans.{found-ge, found-le, found-at, behind-next}
 use Rattle.plan.proofs.Laws.Walk.{operators, end-behind, Piece, piece, no-piece}
 use Rattle.plan.proofs.Laws.Passed.{Passed}
@@ -38,14 +38,14 @@ module _ (t : ℕ) (p : List ℕ) (ok : Passed t p) where
   -- behind the first k patterns none is open, and the rows that are left are read as the other patterns
   record Left (k : ℕ) : Type 0 where
     within : behind p k ≤ rowCount p
-    idle : standing p (behind p k) .vars ≡ 0
+    idle : stateAt p (behind p k) .vars ≡ 0
     reads : patternsFrom noRow (run (rowAt p) (behind p k) (rowCount p - behind p k)) ≡ drop k (patternsOf (rowsOf p))
 
   left-first : Left 0
   unfolding behind
   left-first =
       let e : rowCount p - 0 ≡ rowCount p = omega arith in
-      record { within = omega arith; idle = rw (standing-first p); reads = ap (λ (m : ℕ). patternsFrom noRow (run (rowAt p) 0 m)) e }
+      record { within = omega arith; idle = rw (stateAt-first p); reads = ap (λ (m : ℕ). patternsFrom noRow (run (rowAt p) 0 m)) e }
 
   module _ (k : ℕ) (h : k < patternCount p) (l : Left k) where
     -- what is left is pattern k and the others
@@ -88,7 +88,7 @@ module _ (t : ℕ) (p : List ℕ) (ok : Passed t p) where
       let b = found-ge p 6 (firstRow p k) in
       end-behind t p ok (firstRow p k) (omega arith) (found-at p 1 (behind p k) (omega arith))
 
-  idle-behind : (k : ℕ) → k ≤ patternCount p → standing p (behind p k) .vars ≡ 0
+  idle-behind : (k : ℕ) → k ≤ patternCount p → stateAt p (behind p k) .vars ≡ 0
   idle-behind k h = left k h .idle
 
   -- behind the last pattern there is no VOICE

@@ -5,7 +5,7 @@ use mathlib.Core.Bool.{false}
 use mathlib.Core.List.{List}
 use lib.ListN.{length}
 use Rattle.plan.specs.Rows.{rowCount, rowAt, formWrongAt}
-use Rattle.plan.specs.Standing.{listWrong, tooMany, orderWrong, standing}
+use Rattle.plan.specs.State.{listWrong, tooMany, orderWrong, stateAt}
 
 pub record Passed (t : ℕ) (p : List ℕ) : Type 0 where
   pub whole : length p ≡ 4 * rowCount p
@@ -13,7 +13,7 @@ pub record Passed (t : ℕ) (p : List ℕ) : Type 0 where
   pub most-rows : rowCount p ≤ 64
   pub formed : (i : ℕ) → i < rowCount p → formWrongAt p i ≡ false
   pub listed : (i : ℕ) → i < rowCount p → listWrong t (rowAt p i .kind) ≡ false
-  pub few : (i : ℕ) → i < rowCount p → tooMany (standing p i) (rowAt p i .kind) ≡ false
-  pub ordered : (i : ℕ) → i < rowCount p → orderWrong (standing p i) (rowAt p i .kind) ≡ false
-  pub closed : standing p (rowCount p) .vars ≡ 0
-  pub single : standing p (rowCount p) .answers ≡ 1
+  pub few : (i : ℕ) → i < rowCount p → tooMany (stateAt p i) (rowAt p i .kind) ≡ false
+  pub ordered : (i : ℕ) → i < rowCount p → orderWrong (stateAt p i) (rowAt p i .kind) ≡ false
+  pub closed : stateAt p (rowCount p) .vars ≡ 0
+  pub single : stateAt p (rowCount p) .answers ≡ 1

@@ -1,10 +1,10 @@
--- The laws of `specs/Patterns.antt`: how the patterns and the answers of rows go with the standing. No contract cites this file.
---     patterns-length, patterns-vars    the patterns that rows close and their variables, by the standings at both ends
+-- The laws of `specs/Patterns.antt`: how the patterns and the answers of rows go with the state. No contract cites this file.
+--     patterns-length, patterns-vars    the patterns that rows close and their variables, by the states at both ends
 --     Passes, PassAll                   a row that passes every test where it stands; rows that all do
 --     Fits, fits-none, fits-after       what holds of the open pattern; it does where none is open, and a row that passes keeps it
 --     patterns-made                     the patterns that such rows close are well made
---     answers-length                    the answers behind such rows are as many as the standing says
---     Bound, bound-outset, bound-stand  how the numbers of a standing bound each other behind such rows
+--     answers-length                    the answers behind such rows are as many as the state says
+--     Bound, bound-initial, bound-afterAll     how the numbers of a state bound each other behind such rows
 -- Assumes nothing.
 use Prim.Native.Nat.{ℕ, suc, _+_, _-_, _*_, _<_, _≤_}
 use native.Mathlib.Nat.{add-zero}
@@ -26,23 +26,23 @@ use Rattle.plan.specs.declared.row.Operator.the-variants.{Both, Either, 
 use Rattle.plan.specs.declared.row.Kind.{Kind}
 use Rattle.plan.specs.declared.row.Kind.the-variants as kind
 use Rattle.plan.specs.declared.row.Row.{Row}
-use Rattle.plan.specs.declared.standing.Standing.{Standing}
+use Rattle.plan.specs.declared.state.State.{State}
 use Rattle.plan.specs.Rows.{InRange}
-use Rattle.plan.specs.Standing.{outset, takes, after, stand, namesBelow, listWrong, tooMany, orderWrong}
+use Rattle.plan.specs.State.{initial, takes, after, afterAll, namesBelow, listWrong, tooMany, orderWrong}
 use Rattle.plan.specs.Patterns.{Pattern, noRow, openAfter, closed, patternsFrom, two, operate, answersAfter, answersFrom}
 use Rattle.plan.specs.Accepted.{WellMade}
-use Rattle.plan.proofs.Laws.Standing.{condition-stands, end-stands, operator-stands, takes-two}
+use Rattle.plan.proofs.Laws.State.{condition-stands, end-stands, operator-stands, takes-two}
 use Rattle.seq.proofs.Laws.Lists.{length-snoc, Each, each-cons, each-snoc}
 
--- a row closes as many patterns as it adds to those of the standing
-closed-length : (s : Standing) (f : Pattern) (k : Kind) (fs : List Pattern) → s .patterns + length (closed f k ++ fs) ≡ after s k .patterns + length fs
+-- a row closes as many patterns as it adds to those of the state
+closed-length : (s : State) (f : Pattern) (k : Kind) (fs : List Pattern) → s .patterns + length (closed f k ++ fs) ≡ after s k .patterns + length fs
 closed-length s f (kind.Voice list) fs = refl
 closed-length s f (kind.Condition c) fs = refl
 closed-length s f kind.End fs = omega arith
 closed-length s f (kind.Operator o) fs = refl
 
-pub patterns-length : (s : Standing) (f : Pattern) (rows : List Row) → stand s rows .patterns ≡ s .patterns + length (patternsFrom f rows)
-unfolding stand patternsFrom
+pub patterns-length : (s : State) (f : Pattern) (rows : List Row) → afterAll s rows .patterns ≡ s .patterns + length (patternsFrom f rows)
+unfolding afterAll patternsFrom
 patterns-length s f [] = omega arith
 patterns-length s f (r ∷ rows) = patterns-length (after s (r .kind)) (openAfter f (r .kind)) rows ∙ sym (closed-length s f (r .kind) (patternsFrom (openAfter f (r .kind)) rows))
 
@@ -50,43 +50,43 @@ patterns-length s f (r ∷ rows) = patterns-length (after s (r .kind)) (openAfte
 abbrev pub varsOf : Pattern → ℕ
 varsOf f = length (f .vars)
 
--- the open pattern has as many variables as the standing says
-varsOf-after : (s : Standing) (f : Pattern) (k : Kind) → varsOf f ≡ s .vars → varsOf (openAfter f k) ≡ after s k .vars
+-- the open pattern has as many variables as the state says
+varsOf-after : (s : State) (f : Pattern) (k : Kind) → varsOf f ≡ s .vars → varsOf (openAfter f k) ≡ after s k .vars
 varsOf-after s f (kind.Voice list) e = length-snoc (f .vars) list ∙ ap (λ (n : ℕ). n + 1) e
 varsOf-after s f (kind.Condition c) e = e
 varsOf-after s f kind.End e = refl
 varsOf-after s f (kind.Operator o) e = e
 
 -- one row in front of rows that close fs, behind which there are v variables in all and w of an open pattern
-closed-vars : (s : Standing) (f : Pattern) (k : Kind) (fs : List Pattern) (v w : ℕ) → v + varsOf (openAfter f k) ≡ after s k .total + total varsOf fs + w → v + varsOf f ≡ s .total + total varsOf (closed f k ++ fs) + w
+closed-vars : (s : State) (f : Pattern) (k : Kind) (fs : List Pattern) (v w : ℕ) → v + varsOf (openAfter f k) ≡ after s k .total + total varsOf fs + w → v + varsOf f ≡ s .total + total varsOf (closed f k ++ fs) + w
 unfolding total
 closed-vars s f (kind.Voice list) fs v w e = let l = length-snoc (f .vars) list in omega arith
 closed-vars s f (kind.Condition c) fs v w e = e
 closed-vars s f kind.End fs v w e = omega arith
 closed-vars s f (kind.Operator o) fs v w e = e
 
-pub patterns-vars : (s : Standing) (f : Pattern) (rows : List Row) → varsOf f ≡ s .vars → stand s rows .total + varsOf f ≡ s .total + total varsOf (patternsFrom f rows) + stand s rows .vars
-unfolding stand patternsFrom total
+pub patterns-vars : (s : State) (f : Pattern) (rows : List Row) → varsOf f ≡ s .vars → afterAll s rows .total + varsOf f ≡ s .total + total varsOf (patternsFrom f rows) + afterAll s rows .vars
+unfolding afterAll patternsFrom total
 patterns-vars s f [] e = omega arith
 patterns-vars s f (r ∷ rows) e =
     let s′ = after s (r .kind) in
     let f′ = openAfter f (r .kind) in
-    closed-vars s f (r .kind) (patternsFrom f′ rows) (stand s′ rows .total) (stand s′ rows .vars) (patterns-vars s′ f′ rows (varsOf-after s f (r .kind) e))
+    closed-vars s f (r .kind) (patternsFrom f′ rows) (afterAll s′ rows .total) (afterAll s′ rows .vars) (patterns-vars s′ f′ rows (varsOf-after s f (r .kind) e))
 
 -- a row passes every test over t lists where the reading stands at s
-pub record Passes (t : ℕ) (s : Standing) (k : Kind) : Type 0 where
+pub record Passes (t : ℕ) (s : State) (k : Kind) : Type 0 where
   pub in-range : InRange k
   pub listed : listWrong t k ≡ false
   pub few : tooMany s k ≡ false
   pub ordered : orderWrong s k ≡ false
 
 -- each of several rows does, where the reading stands at s in front of the first
-unfoldable pub PassAll : ℕ → Standing → List Row → Type 0
+unfoldable pub PassAll : ℕ → State → List Row → Type 0
 PassAll t s [] = Unit
 PassAll t s (r ∷ rows) = Passes t s (r .kind) × PassAll t (after s (r .kind)) rows
 
--- what a row that passes tells of its standing
-module _ (t : ℕ) (s : Standing) where
+-- what a row that passes tells of its state
+module _ (t : ℕ) (s : State) where
   voice-list : (list : ℕ) → Passes t s (kind.Voice list) → (1 ≤ list) × (list < t)
   voice-list list h =
       let w = neither (eqb list 0) (leb t list) (h .listed) in
@@ -123,21 +123,21 @@ namesBelow-le n m (Samepara a b) l e = two-below n m a b l e
 namesBelow-le n m (Window limit) l e = refl
 
 -- the open pattern f where the reading stands at s, over t lists: all that a pattern is held to, but that it has a variable
-pub record Fits (t : ℕ) (s : Standing) (f : Pattern) : Type 0 where
+pub record Fits (t : ℕ) (s : State) (f : Pattern) : Type 0 where
   pub count : varsOf f ≡ s .vars
   pub most : s .vars ≤ 8
   pub lists : (i : ℕ) → i < varsOf f → (1 ≤ getD (f .vars) i 0) × (getD (f .vars) i 0 < t)
   pub names : (j : ℕ) → j < length (f .predicates) → namesBelow (varsOf f) (getD (f .predicates) j (Window 1)) ≡ true
   pub ranges : (j : ℕ) → j < length (f .predicates) → InRange (kind.Condition (getD (f .predicates) j (Window 1)))
 
-pub fits-none : (t : ℕ) (s : Standing) → s .vars ≡ 0 → Fits t s noRow
+pub fits-none : (t : ℕ) (s : State) → s .vars ≡ 0 → Fits t s noRow
 fits-none t s e = record { count = sym e; most = omega arith; lists = λ i l. absurd (omega arith); names = λ j l. absurd (omega arith); ranges = λ j l. absurd (omega arith) }
 
-fits-made : (t : ℕ) (s : Standing) (f : Pattern) → Fits t s f → 1 ≤ s .vars → WellMade t f
+fits-made : (t : ℕ) (s : State) (f : Pattern) → Fits t s f → 1 ≤ s .vars → WellMade t f
 fits-made t s f h l = record { some-vars = omega arith; most-vars = omega arith; lists = h .lists; names = h .names; ranges = h .ranges }
 
 -- a row that passes keeps it
-fits-after : (t : ℕ) (s : Standing) (f : Pattern) (k : Kind) → Passes t s k → Fits t s f → Fits t (after s k) (openAfter f k)
+fits-after : (t : ℕ) (s : State) (f : Pattern) (k : Kind) → Passes t s k → Fits t s f → Fits t (after s k) (openAfter f k)
 fits-after t s f (kind.Voice list) p h = record {
   count = varsOf-after s f (kind.Voice list) (h .count);
   most = let w : s .vars < 8 = voice-few t s list p .0 in omega arith;
@@ -156,13 +156,13 @@ fits-after t s f kind.End p h = fits-none t (after s kind.End) refl
 fits-after t s f (kind.Operator o) p h = record { count = h .count; most = h .most; lists = h .lists; names = h .names; ranges = h .ranges }
 
 -- a row that passes closes a pattern that is well made, in front of fs
-closed-made : (t : ℕ) (s : Standing) (f : Pattern) (k : Kind) (fs : List Pattern) → Passes t s k → Fits t s f → Each (WellMade t) noRow fs → Each (WellMade t) noRow (closed f k ++ fs)
+closed-made : (t : ℕ) (s : State) (f : Pattern) (k : Kind) (fs : List Pattern) → Passes t s k → Fits t s f → Each (WellMade t) noRow fs → Each (WellMade t) noRow (closed f k ++ fs)
 closed-made t s f (kind.Voice list) fs p h each = each
 closed-made t s f (kind.Condition c) fs p h each = each
 closed-made t s f kind.End fs p h each = each-cons (WellMade t) noRow f fs (fits-made t s f h (end-some t s p)) each
 closed-made t s f (kind.Operator o) fs p h each = each
 
-pub patterns-made : (t : ℕ) (s : Standing) (f : Pattern) (rows : List Row) → PassAll t s rows → Fits t s f → Each (WellMade t) noRow (patternsFrom f rows)
+pub patterns-made : (t : ℕ) (s : State) (f : Pattern) (rows : List Row) → PassAll t s rows → Fits t s f → Each (WellMade t) noRow (patternsFrom f rows)
 unfolding PassAll patternsFrom
 patterns-made t s f [] p h = λ i l. absurd (omega arith)
 patterns-made t s f (r ∷ rows) p h =
@@ -180,7 +180,7 @@ operate-length Both answers l = two-length (λ first second. first && second) an
 operate-length Either answers l = two-length (λ first second. first || second) answers l
 operate-length FirstNotSecond answers l = two-length (λ first second. first && not second) answers l
 
-answersAfter-length : (found : Pattern → Bool) (t : ℕ) (s : Standing) (f : Pattern) (answers : List Bool) (k : Kind) → Passes t s k → length answers ≡ s .answers → length (answersAfter found f answers k) ≡ after s k .answers
+answersAfter-length : (found : Pattern → Bool) (t : ℕ) (s : State) (f : Pattern) (answers : List Bool) (k : Kind) → Passes t s k → length answers ≡ s .answers → length (answersAfter found f answers k) ≡ after s k .answers
 answersAfter-length found t s f answers (kind.Voice list) p e = e
 answersAfter-length found t s f answers (kind.Condition c) p e = e
 answersAfter-length found t s f answers kind.End p e = omega arith
@@ -188,14 +188,14 @@ answersAfter-length found t s f answers (kind.Operator o) p e =
     let w : takes o ≤ s .answers = operator-some t s o p in
     operate-length o answers (omega arith) ∙ ap (λ (n : ℕ). n + 1 - takes o) e
 
-pub answers-length : (found : Pattern → Bool) (t : ℕ) (s : Standing) (f : Pattern) (answers : List Bool) (rows : List Row) → PassAll t s rows → length answers ≡ s .answers → length (answersFrom found f answers rows) ≡ stand s rows .answers
-unfolding PassAll answersFrom stand
+pub answers-length : (found : Pattern → Bool) (t : ℕ) (s : State) (f : Pattern) (answers : List Bool) (rows : List Row) → PassAll t s rows → length answers ≡ s .answers → length (answersFrom found f answers rows) ≡ afterAll s rows .answers
+unfolding PassAll answersFrom afterAll
 answers-length found t s f answers [] p e = e
 answers-length found t s f answers (r ∷ rows) p e =
     answers-length found t (after s (r .kind)) (openAfter f (r .kind)) (answersAfter found f answers (r .kind)) rows (p .1) (answersAfter-length found t s f answers (r .kind) (p .0) e)
 
--- how the numbers of a standing bound each other behind i rows that pass
-pub record Bound (i : ℕ) (s : Standing) : Type 0 where
+-- how the numbers of a state bound each other behind i rows that pass
+pub record Bound (i : ℕ) (s : State) : Type 0 where
   -- a variable, an END and an operator take a row each, and the operators are as many as the patterns less the answers
   pub rows : s .total + 2 * s .patterns ≤ i + s .answers
   -- a pattern has 1 to 8 variables
@@ -208,10 +208,10 @@ pub record Bound (i : ℕ) (s : Standing) : Type 0 where
   -- an answer comes of a pattern
   pub few-answers : s .answers ≤ s .patterns
 
-pub bound-outset : Bound 0 outset
-bound-outset = record { rows = omega arith; few-vars = omega arith; some-vars = omega arith; open-vars = omega arith; few-patterns = omega arith; open-patterns = inl refl; few-answers = omega arith }
+pub bound-initial : Bound 0 initial
+bound-initial = record { rows = omega arith; few-vars = omega arith; some-vars = omega arith; open-vars = omega arith; few-patterns = omega arith; open-patterns = inl refl; few-answers = omega arith }
 
-bound-after : (t i : ℕ) (s : Standing) (k : Kind) → Passes t s k → Bound i s → Bound (i + 1) (after s k)
+bound-after : (t i : ℕ) (s : State) (k : Kind) → Passes t s k → Bound i s → Bound (i + 1) (after s k)
 bound-after t i s (kind.Voice list) p h =
     let w = voice-few t s list p in
     let y : s .patterns ≤ 7 = ⊎-elim (λ (z : s .vars ≡ 0). let q : s .patterns < 8 = w .1 z in omega arith) (λ z. z) (h .open-patterns) in
@@ -226,9 +226,9 @@ bound-after t i s (kind.Operator o) p h =
     let y = takes-two o in
     record { rows = omega arith; few-vars = h .few-vars; some-vars = h .some-vars; open-vars = h .open-vars; few-patterns = h .few-patterns; open-patterns = h .open-patterns; few-answers = omega arith }
 
-pub bound-stand : (t i : ℕ) (s : Standing) (rows : List Row) → PassAll t s rows → Bound i s → Bound (i + length rows) (stand s rows)
-unfolding PassAll stand
-bound-stand t i s [] p h = rw add-zero h
-bound-stand t i s (r ∷ rows) p h =
+pub bound-afterAll : (t i : ℕ) (s : State) (rows : List Row) → PassAll t s rows → Bound i s → Bound (i + length rows) (afterAll s rows)
+unfolding PassAll afterAll
+bound-afterAll t i s [] p h = rw add-zero h
+bound-afterAll t i s (r ∷ rows) p h =
     let e : i + 1 + length rows ≡ i + suc (length rows) = omega arith in
-    rw e at (bound-stand t (i + 1) (after s (r .kind)) rows (p .1) (bound-after t i s (r .kind) (p .0) h))
+    rw e at (bound-afterAll t (i + 1) (after s (r .kind)) rows (p .1) (bound-after t i s (r .kind) (p .0) h))

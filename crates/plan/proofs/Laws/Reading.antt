@@ -18,13 +18,13 @@ use Rattle.plan.specs.declared.row.Predicate.{Predicate}
 use Rattle.plan.specs.declared.row.Kind.{Kind}
 use Rattle.plan.specs.declared.row.Kind.the-variants as kind
 use Rattle.plan.specs.declared.row.Row.{Row}
-use Rattle.plan.specs.declared.standing.Standing.{Standing}
-use Rattle.plan.specs.Standing.{after, orderWrong}
+use Rattle.plan.specs.declared.state.State.{State}
+use Rattle.plan.specs.State.{after, orderWrong}
 use Rattle.plan.specs.Patterns.{Pattern, noRow, openAfter, closed, patternsFrom}
 use Rattle.plan.specs.Rows.{isOperator}
 use Rattle.plan.specs.Parts.{patternRows}
 use Rattle.plan.proofs.Laws.Rows.{numberOf}
-use Rattle.plan.proofs.Laws.Standing.{condition-stands, end-stands, operator-stands}
+use Rattle.plan.proofs.Laws.State.{condition-stands, end-stands, operator-stands}
 
 -- operators close no pattern and leave the open one as it is
 pub patterns-pass : (f : Pattern) (xs rest : List Row) → all (λ (r : Row). isOperator (r .kind)) xs ≡ true → patternsFrom f (xs ++ rest) ≡ patternsFrom f rest
@@ -49,17 +49,17 @@ abbrev openRows : Pattern → List Row
 openRows f = map voice (f .vars) ++ map condition (f .predicates)
 
 -- behind these rows the reading stands at s, with the open pattern f, which the rows say
-pub record Opened (s : Standing) (f : Pattern) (rows : List Row) : Type 0 where
+pub record Opened (s : State) (f : Pattern) (rows : List Row) : Type 0 where
   pub says : openRows f ≡ rows
   pub reads : (rest : List Row) → patternsFrom noRow (rows ++ rest) ≡ patternsFrom f rest
   pub unbegun : s .begun ≡ false → f .predicates ≡ []
   pub some-vars : 1 ≤ s .vars
 
-pub opened-first : (s : Standing) (list : ℕ) → Opened (after s (kind.Voice list)) (openAfter noRow (kind.Voice list)) (voice list ∷ [])
+pub opened-first : (s : State) (list : ℕ) → Opened (after s (kind.Voice list)) (openAfter noRow (kind.Voice list)) (voice list ∷ [])
 unfolding patternsFrom
 opened-first s list = record { says = refl; reads = λ rest. refl; unbegun = λ b. refl; some-vars = omega arith }
 
-module _ (s : Standing) (f : Pattern) (rows : List Row) (o : Opened s f rows) where
+module _ (s : State) (f : Pattern) (rows : List Row) (o : Opened s f rows) where
   -- a row that closes nothing is read behind the others
   reads-next : (r : Row) → closed f (r .kind) ≡ [] → (rest : List Row) → patternsFrom noRow (rows ++ (r ∷ []) ++ rest) ≡ patternsFrom (openAfter f (r .kind)) rest
   unfolding patternsFrom
@@ -116,7 +116,7 @@ module _ (s : Standing) (f : Pattern) (rows : List Row) (o : Opened s f rows) wh
   opened-rows = ap (λ (l : List Row). l ++ (record { kind = kind.End } ∷ [])) (sym (o .says))
 
 -- where no pattern is open a row that may stand there and is no VOICE is an operator, and no pattern is open behind it
-pub idle-row : (s : Standing) (k : Kind) → s .vars ≡ 0 → orderWrong s k ≡ false → numberOf k ≢ 1 → (isOperator k ≡ true) × (after s k .vars ≡ 0)
+pub idle-row : (s : State) (k : Kind) → s .vars ≡ 0 → orderWrong s k ≡ false → numberOf k ≢ 1 → (isOperator k ≡ true) × (after s k .vars ≡ 0)
 idle-row s (kind.Voice list) z e n = absurd (n refl)
 idle-row s (kind.Condition c) z e n = absurd (condition-stands s c e .0 z)
 idle-row s kind.End z e n = absurd (end-stands s e z)

@@ -8,7 +8,7 @@ use Rattle.volume.specs.Write.{volumeOf}
 use Rattle.volume.specs.Demands.{sampleLists}
 use Rattle.volume.proofs.Demands as volume
 use Rattle.plan.specs.Rows.{rowAt, misused, formWrong}
-use Rattle.plan.specs.Standing.{stand, standing, step}
+use Rattle.plan.specs.State.{afterAll, stateAt, step}
 use Rattle.plan.specs.Patterns.{patternsFrom}
 use Rattle.plan.specs.Check.{lengthWrong, rowWrong, rowFault, rowsWrong, unfinished, sizes, rowsVerdict, planVerdict, verdictBy, verdict}
 use Rattle.plan.specs.Parts.{firstOfKind, behind, spanBy, spanAt, spanOf, partAt, partOf}
@@ -16,7 +16,7 @@ use Rattle.plan.specs.Demands.{samplePlan, Sample}
 
 -- the verdict on the plan, the volume's being known
 plan-checks : verdict (volumeOf sampleLists) samplePlan ≡ answered (record { patterns = 1; vars = 2 })
-unfolding joined total firstFrom run rowAt misused formWrong stand standing step patternsFrom lengthWrong rowWrong rowFault rowsWrong unfinished sizes rowsVerdict planVerdict verdict
+unfolding joined total firstFrom run rowAt misused formWrong afterAll stateAt step patternsFrom lengthWrong rowWrong rowFault rowsWrong unfinished sizes rowsVerdict planVerdict verdict
 plan-checks = ap (λ s. verdictBy s samplePlan) (volume.sample .checks)
 
 pub sample : Sample

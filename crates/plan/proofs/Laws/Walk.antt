@@ -19,12 +19,12 @@ use Rattle.seq.proofs.Laws.Numbers.{run-end, run-step, run-snoc}
 use Rattle.plan.specs.declared.row.Kind.the-variants as kind
 use Rattle.plan.specs.declared.row.Row.{Row}
 use Rattle.plan.specs.Rows.{rowCount, kindAt, aAt, rowAt, isOperator}
-use Rattle.plan.specs.Standing.{after, standing}
+use Rattle.plan.specs.State.{after, stateAt}
 use Rattle.plan.specs.Patterns.{Pattern, noRow, openAfter, patternsFrom}
 use Rattle.plan.specs.Parts.{firstOfKind, opening, ending, patternRows}
 use Rattle.seq.proofs.Laws.Slices.{all-run, run-parts}
 use Rattle.plan.proofs.Laws.Rows.{numberOf, number-at}
-use Rattle.plan.proofs.Laws.Standing.{standing-next}
+use Rattle.plan.proofs.Laws.State.{stateAt-next}
 use Rattle.plan.proofs.Laws.Spans.{found-ge, found-le, found-at, found-before}
 use Rattle.plan.proofs.Laws.Reading.{patterns-pass, Opened, opened-first, opened-next, opened-reads, opened-rows, idle-row}
 use Rattle.plan.proofs.Laws.Passed.{Passed}
@@ -44,7 +44,7 @@ pub record Piece (p : List ℕ) (b : ℕ) (f : Pattern) : Type 0 where
   pub within : ending p b < rowCount p
   pub rows : run (rowAt p) (opening p b) (ending p b + 1 - opening p b) ≡ patternRows f
   pub reads : patternsFrom noRow (run (rowAt p) b (rowCount p - b)) ≡ f ∷ patternsFrom noRow (run (rowAt p) (ending p b + 1) (rowCount p - (ending p b + 1)))
-  pub closes : standing p (ending p b + 1) .vars ≡ 0
+  pub closes : stateAt p (ending p b + 1) .vars ≡ 0
 
 module _ (t : ℕ) (p : List ℕ) (ok : Passed t p) where
   -- the number of a row's kind is the plan's word
@@ -52,23 +52,23 @@ module _ (t : ℕ) (p : List ℕ) (ok : Passed t p) where
   number-is i h = number-at p i (ok .formed i h)
 
   -- a row with no pattern open that is no VOICE is an operator
-  idle-at : (i : ℕ) → i < rowCount p → standing p i .vars ≡ 0 → kindAt p i ≢ 1 → (isOperator (rowAt p i .kind) ≡ true) × (standing p (i + 1) .vars ≡ 0)
+  idle-at : (i : ℕ) → i < rowCount p → stateAt p i .vars ≡ 0 → kindAt p i ≢ 1 → (isOperator (rowAt p i .kind) ≡ true) × (stateAt p (i + 1) .vars ≡ 0)
   idle-at i h z n =
-      rw (standing-next p i)
-      (idle-row (standing p i) (rowAt p i .kind) z (ok .ordered i h) (λ (e : numberOf (rowAt p i .kind) ≡ 1). n (sym (number-is i h) ∙ e)))
+      rw (stateAt-next p i)
+      (idle-row (stateAt p i) (rowAt p i .kind) z (ok .ordered i h) (λ (e : numberOf (rowAt p i .kind) ≡ 1). n (sym (number-is i h) ∙ e)))
 
-  module _ (b : ℕ) (h : b ≤ rowCount p) (z : standing p b .vars ≡ 0) where
+  module _ (b : ℕ) (h : b ≤ rowCount p) (z : stateAt p b .vars ≡ 0) where
     -- up to the next VOICE no pattern is open
-    idle-up : (d : ℕ) → b + d ≤ opening p b → standing p (b + d) .vars ≡ 0
+    idle-up : (d : ℕ) → b + d ≤ opening p b → stateAt p (b + d) .vars ≡ 0
     idle-up zero l = rw add-zero z
     idle-up (suc d) l =
         let e : b + suc d ≡ b + d + 1 = omega arith in
         let m = found-le p 1 b h in
-        ap (λ (j : ℕ). standing p j .vars) e
+        ap (λ (j : ℕ). stateAt p j .vars) e
         ∙ idle-at (b + d) (omega arith) (idle-up d (omega arith)) (found-before p 1 b (b + d) (omega arith) (omega arith)) .1
 
-    idle-to : (j : ℕ) → b ≤ j → j ≤ opening p b → standing p j .vars ≡ 0
-    idle-to j a l = let e : b + (j - b) ≡ j = omega arith in sym (ap (λ (x : ℕ). standing p x .vars) e) ∙ idle-up (j - b) (omega arith)
+    idle-to : (j : ℕ) → b ≤ j → j ≤ opening p b → stateAt p j .vars ≡ 0
+    idle-to j a l = let e : b + (j - b) ≡ j = omega arith in sym (ap (λ (x : ℕ). stateAt p x .vars) e) ∙ idle-up (j - b) (omega arith)
 
     -- the rows up to it are operators
     operators-at : (j : ℕ) → b ≤ j → j < opening p b → isOperator (rowAt p j .kind) ≡ true
@@ -91,24 +91,24 @@ module _ (t : ℕ) (p : List ℕ) (ok : Passed t p) where
   -- from a VOICE that opens a pattern, up to the next END
   module _ (o : ℕ) (h : o < rowCount p) (v : kindAt p o ≡ 1) where
     -- the rows read so far say the open pattern
-    opened-up : (d : ℕ) → o + d < firstOfKind p 6 o → (f : Pattern) × Opened (standing p (o + suc d)) f (run (rowAt p) o (suc d))
+    opened-up : (d : ℕ) → o + d < firstOfKind p 6 o → (f : Pattern) × Opened (stateAt p (o + suc d)) f (run (rowAt p) o (suc d))
     unfolding run
     opened-up zero l = (
       openAfter noRow (kind.Voice (aAt p o)),
-      rw (standing-next p o, voice-at p o v) (opened-first (standing p o) (aAt p o)),
+      rw (stateAt-next p o, voice-at p o v) (opened-first (stateAt p o) (aAt p o)),
     )
     opened-up (suc d) l =
         let m = found-le p 6 o (omega arith) in
         let i : o + suc d < rowCount p = omega arith in
         let (f, w) = opened-up d (omega arith) in
         let e : o + suc d + 1 ≡ o + suc (suc d) = omega arith in
-        let n = opened-next (standing p (o + suc d)) f (run (rowAt p) o (suc d)) w (rowAt p (o + suc d)) (ok .ordered (o + suc d) i)
+        let n = opened-next (stateAt p (o + suc d)) f (run (rowAt p) o (suc d)) w (rowAt p (o + suc d)) (ok .ordered (o + suc d) i)
         (λ (q : numberOf (rowAt p (o + suc d) .kind) ≡ 6). found-before p 6 o (o + suc d) (omega arith) l (sym (number-is (o + suc d) i) ∙ q)) in
-        let s : after (standing p (o + suc d)) (rowAt p (o + suc d) .kind) ≡ standing p (o + suc (suc d)) = sym (standing-next p (o + suc d)) ∙ ap (standing p) e in
+        let s : after (stateAt p (o + suc d)) (rowAt p (o + suc d) .kind) ≡ stateAt p (o + suc (suc d)) = sym (stateAt-next p (o + suc d)) ∙ ap (stateAt p) e in
         let r : run (rowAt p) o (suc d) ++ (rowAt p (o + suc d) ∷ []) ≡ run (rowAt p) o (suc (suc d)) = sym (run-snoc (rowAt p) o (suc d)) ∙ ap (run (rowAt p) o) (add-one (suc d)) in
         (openAfter f (rowAt p (o + suc d) .kind), rw (s, r) at n)
 
-    opened-to : (j : ℕ) → o < j → j ≤ firstOfKind p 6 o → (f : Pattern) × Opened (standing p j) f (run (rowAt p) o (j - o))
+    opened-to : (j : ℕ) → o < j → j ≤ firstOfKind p 6 o → (f : Pattern) × Opened (stateAt p j) f (run (rowAt p) o (j - o))
     opened-to j a l =
         let (f, w) = opened-up (j - o - 1) (omega arith) in
         let e : o + suc (j - o - 1) ≡ j = omega arith in
@@ -160,13 +160,13 @@ module _ (t : ℕ) (p : List ℕ) (ok : Passed t p) where
         let e = firstOfKind p 6 o in
         let (f, w) = opened-to e end-behind (omega arith) in
         let front = run (rowAt p) o (e - o) in
-        (f, rows-end ∙ opened-rows (standing p e) f front w, ap (patternsFrom noRow) rows-past ∙ opened-reads (standing p e) f front w (run (rowAt p) (e + 1) (rowCount p - (e + 1))))
+        (f, rows-end ∙ opened-rows (stateAt p e) f front w, ap (patternsFrom noRow) rows-past ∙ opened-reads (stateAt p e) f front w (run (rowAt p) (e + 1) (rowCount p - (e + 1))))
 
-    closes-at : standing p (firstOfKind p 6 o + 1) .vars ≡ 0
-    closes-at = rw (standing-next p (firstOfKind p 6 o), end-at p (firstOfKind p 6 o) (found-at p 6 o ends))
+    closes-at : stateAt p (firstOfKind p 6 o + 1) .vars ≡ 0
+    closes-at = rw (stateAt-next p (firstOfKind p 6 o), end-at p (firstOfKind p 6 o) (found-at p 6 o ends))
 
   -- the next pattern from row b on, where none is open
-  pub piece : (b : ℕ) → b ≤ rowCount p → standing p b .vars ≡ 0 → opening p b < rowCount p → (f : Pattern) × Piece p b f
+  pub piece : (b : ℕ) → b ≤ rowCount p → stateAt p b .vars ≡ 0 → opening p b < rowCount p → (f : Pattern) × Piece p b f
   piece b h z l =
       let v = found-at p 1 b l in
       let (f, r, w) = closed-by (opening p b) l v in

@@ -20,9 +20,9 @@ use Rattle.plan.specs.Patterns.{Pattern, noRow, patternsOf}
 use Rattle.plan.specs.Check.{sizes}
 use Rattle.plan.specs.Accepted.{patternAt}
 use Rattle.fulltext.specs.Documents.{found, shownIn, rowIn}
-use Rattle.matcher.specs.Tables.{varsBefore}
-use Rattle.search.specs.Flags.{flagOf, Flags}
-use Rattle.matcher.proofs.Laws.Tables.{varsBefore-first, varsBefore-next, varsBefore-end, vars-within}
+use Rattle.plan.specs.Inner.Outline.{varsBefore}
+use Rattle.plan.specs.Inner.Stack.{flagOf, Flags}
+use Rattle.plan.proofs.Laws.Outline.{varsBefore-first, varsBefore-next, varsBefore-end, vars-within}
 use Rattle.fulltext.proofs.Laws.Counts.{length-shown}
 
 -- what the row shows of the first k patterns

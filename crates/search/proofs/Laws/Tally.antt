@@ -22,11 +22,11 @@ use Rattle.volume.specs.Layout.{word, listCount, count, start, listsOf}
 use Rattle.volume.specs.Check as volume
 use Rattle.volume.proofs.Laws.Check.{good}
 use Rattle.plan.specs.Rows.{rowsOf}
-use Rattle.plan.specs.Patterns.{Pattern, noRow, patternsOf}
+use Rattle.plan.specs.Patterns.{Pattern, noRow, patternsOf, varsOf}
 use Rattle.plan.specs.Check.{Accepted, sizes}
 use Rattle.plan.proofs.Laws.Accepted.{given}
 use Rattle.fulltext.specs.Positions.{limit, listOf, countIn}
-use Rattle.fulltext.specs.Documents.{varsOf, postingsIn}
+use Rattle.fulltext.specs.Documents.{postingsIn}
 use Rattle.matcher.specs.Cursors.{seekFrom, Stretch, listEnd}
 use Rattle.matcher.specs.Tables.{varAt, Cursors}
 use Rattle.search.specs.Walk.{LeastDoc}

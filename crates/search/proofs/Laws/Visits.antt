@@ -39,13 +39,13 @@ use Rattle.search.specs.Answers.{done, more}
 use Rattle.search.specs.Search.{Kept}
 use Rattle.matcher.specs.Cursors.{seekFrom, Stretch, listEnd, Stands, listCursor}
 use Rattle.matcher.specs.Tables.{varAt, Placed, Cursors}
-use Rattle.search.specs.Flags.{flagOf, Flags}
+use Rattle.plan.specs.Inner.Stack.{flagOf, Flags}
 use Rattle.matcher.specs.Settling.{Candidate, Ready}
 use Rattle.search.specs.Walk.{Stood, Pending, LeastDoc, Walks}
 use Rattle.fulltext.proofs.Laws.Counts.{work-even, work-wide}
 use Rattle.matcher.proofs.Laws.Cursors.{seek-ge, seek-le, seek-below}
 use Rattle.matcher.proofs.Laws.Volume.{list-stretch}
-use Rattle.matcher.proofs.Laws.Tables.{vars-within}
+use Rattle.plan.proofs.Laws.Outline.{vars-within}
 use Rattle.search.proofs.Laws.Tally.{var-there}
 use Rattle.fulltext.proofs.Laws.Skips.{matching-none}
 use Rattle.search.proofs.Laws.Loop.{Progress, begins, same-size, room-rows, over, wrote}

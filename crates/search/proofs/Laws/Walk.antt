@@ -22,13 +22,14 @@ use Rattle.fulltext.specs.Calculus.{at}
 use Rattle.fulltext.specs.Matches.{allHold, fits, startsIn, varsIn, matchesAt}
 use Rattle.fulltext.specs.Documents.{found}
 use Rattle.matcher.specs.Cursors.{Stretch, Stands}
-use Rattle.matcher.specs.Tables.{varsBefore, Entry, varAt}
+use Rattle.plan.specs.Inner.Outline.{varsBefore, Entry, outlineAt}
+use Rattle.matcher.specs.Tables.{varAt}
 use Rattle.matcher.specs.Settling.{Among, Candidate}
 use Rattle.search.specs.Walk.{Has, Aligned, Stood, Pending, Walks}
 use Rattle.fulltext.proofs.Laws.Positions.{lists-rise}
 use Rattle.fulltext.proofs.Laws.Least.{fits-iff, found-iff}
 use Rattle.matcher.proofs.Laws.Volume.{list-stretch, held}
-use Rattle.matcher.proofs.Laws.Tables.{varsBefore-next, vars-within}
+use Rattle.plan.proofs.Laws.Outline.{varsBefore-next, vars-within}
 use Rattle.matcher.proofs.Laws.Placed.{varAt-is}
 
 -- the variables of a later pattern stand behind those of an earlier one
@@ -78,7 +79,7 @@ module _ (v p table ends : List ℕ) (w : Walks v p table ends) where
     made : WellMade (listCount v) (patternAt p k)
     made = g .well-made k inside
 
-    pub walk-entry : Entry p k (getD table (4 * k) 0) (getD table (4 * k + 1) 0) (getD table (4 * k + 2) 0) (getD table (4 * k + 3) 0)
+    pub walk-entry : Entry p (outlineAt table k)
     walk-entry = w .tabled k inside
 
     pub walk-within : getD table (4 * k) 0 + getD table (4 * k + 1) 0 ≤ sizes p .vars

@@ -11,14 +11,14 @@ use mathlib.Core.Bool.{false}
 use mathlib.Core.List.{List, _++_, append-assoc}
 use lib.ListN.{take, drop}
 use lib.Seq.{take-at, drop-at, drop-drop}
-use Rattle.volume.specs.Bytes.{bytes16, bytes32}
-use Rattle.volume.specs.Checksum.{checkA, checkB}
+use Rattle.block.specs.Bytes.{bytes16, bytes32}
+use Rattle.block.specs.Checksum.{checkA, checkB}
 use Rattle.volume.specs.Layout.{blockNumber, covered, storedA, storedB, offset, word}
 use Rattle.volume.specs.Check.{blockWrong}
 use Rattle.volume.specs.Write.{wordBytes, blockBody, sealed, blocksFrom}
 use Rattle.volume.proofs.Laws.Check.{right-passes}
-use Rattle.volume.proofs.Laws.Bytes.{le16-at, le32-at}
-use Rattle.volume.proofs.Laws.Checksum.{checkA-lt, checkB-lt}
+use Rattle.block.proofs.Laws.Bytes.{le16-at, le32-at}
+use Rattle.block.proofs.Laws.Checksum.{checkA-lt, checkB-lt}
 use Rattle.volume.proofs.Laws.Write.{length-wordBytes, wordBytes-append, length-blockBody, length-blocksFrom, blocksFrom-append}
 
 module _ (f : ℕ → ℕ) where

@@ -21,7 +21,7 @@ use Rattle.seq.proofs.Laws.Numbers.{first-none, first-ge, search-found, search-
 use Rattle.seq.proofs.Laws.Refusals.{not-both, past}
 use Rattle.seq.specs.Refusals.{Said, refused, answered}
 use Rattle.volume.specs.Answers.{Sizes}
-use Rattle.volume.specs.Checksum.{checkA, checkB}
+use Rattle.block.specs.Checksum.{checkA, checkB}
 use Rattle.volume.specs.Layout.{blocks, blockNumber, covered, storedA, storedB, word, version, listCount, count, extent, blocksFor, start, postingsOf}
 use Rattle.volume.specs.Check.{lengthWrong, numberWrong, checksumWrong, blockWrong, badBlock, blocksWrong, versionWrong, listCountWrong, extentWrong, orderWrong, badList, listsWrong, paddingWrong, badWord, tailWrong, sizes, streamVerdict, verdict, Accepted}
 use Rattle.volume.specs.Refusals.{LeastBlocks}

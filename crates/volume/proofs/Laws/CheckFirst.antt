@@ -16,7 +16,7 @@ use Rattle.seq.proofs.Laws.Tests.{either, neither, contrary}
 use Rattle.seq.proofs.Laws.Numbers.{first-before}
 use Rattle.seq.proofs.Laws.Refusals.{Sound, end, first-refusal}
 use Rattle.volume.specs.Answers.{Sizes}
-use Rattle.volume.specs.Checksum.{checkA, checkB}
+use Rattle.block.specs.Checksum.{checkA, checkB}
 use Rattle.volume.specs.Layout.{blocks, blockNumber, covered, storedA, storedB, word, version, listCount, extent, postingsOf}
 use Rattle.volume.specs.Check.{lengthWrong, numberWrong, checksumWrong, blockWrong, badBlock, blocksWrong, versionWrong, listCountWrong, extentWrong, orderWrong, badList, listsWrong, paddingWrong, badWord, tailWrong, sizes, streamVerdict, verdict}
 use Rattle.volume.specs.Refusals.{LeastBlocks, VolumeApplies, wrongLength, wrongNumber, wrongChecksum, wrongVersion, wrongListCount, wrongExtent, wrongOrder, wrongPadding, volumeStages}

@@ -12,11 +12,11 @@ use lib.Seq.{ext-getD, getD-take, getD-drop}
 use Rattle.seq.specs.Lists.{total}
 use Rattle.seq.specs.Refusals.{refused}
 use Rattle.seq.proofs.Laws.Tests.{below-or, true-or}
-use Rattle.volume.specs.Bytes.{IsBytes, le16, le32}
-use Rattle.volume.specs.Checksum.{checkA, checkB}
+use Rattle.block.specs.Bytes.{IsBytes, le16, le32}
+use Rattle.block.specs.Checksum.{checkA, checkB}
 use Rattle.volume.specs.Layout.{blocks, covered}
 use Rattle.volume.specs.Check.{lengthWrong, numberWrong, blockWrong, badBlock, blocksWrong, verdict, Accepted}
-use Rattle.volume.proofs.Laws.Checksum.{checkA-late}
+use Rattle.block.proofs.Laws.Checksum.{checkA-late}
 use Rattle.volume.proofs.Laws.Check.{Right, right, right-passes, verdict-number, verdict-checksum, blocksWrong-true, passed, good, Good}
 use Rattle.seq.proofs.Laws.Runs.{first-is, total-differs}
 

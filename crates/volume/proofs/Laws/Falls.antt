@@ -22,7 +22,7 @@ use Rattle.seq.specs.Numbers.{firstFrom, run, sumTo}
 use Rattle.seq.proofs.Laws.Tests.{below-or}
 use Rattle.seq.proofs.Laws.Numbers.{run-step, run-end, sum-le, sum-step, first-miss, first-end}
 use Rattle.seq.proofs.Laws.Rising.{rises-none, rises-suc}
-use Rattle.volume.specs.Bytes.{le32}
+use Rattle.block.specs.Bytes.{le32}
 use Rattle.volume.specs.Layout.{word, count, listCount, start, extent}
 use Rattle.volume.specs.Check.{orderWrong, badList}
 use Rattle.volume.specs.Falls.{fallOf, fall, fallsBefore, ListFalls}

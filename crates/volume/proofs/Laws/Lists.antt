@@ -9,10 +9,10 @@ use native.Mathlib.Omega.{arith}
 use mathlib.Core.Path.{_≡_, refl, sym, ap, ap₂, _∙_}
 use mathlib.Core.List.{List, [], _∷_, _++_, map}
 use lib.ListN.{length, getD, length-map}
-use Rattle.seq.specs.Lists.{total, joined}
+use Rattle.seq.specs.Lists.{at, total, joined}
 use Rattle.seq.specs.Numbers.{run, sumTo}
 use Rattle.seq.proofs.Laws.Numbers.{run-ext, length-run}
-use Rattle.volume.specs.Write.{at, written, volumeOf, givenList, givenLists}
+use Rattle.volume.specs.Write.{written, volumeOf, givenList, givenLists}
 use Rattle.seq.proofs.Laws.Runs.{map-run, run-getD, joined-runs, run-front, run-behind, sum-cons, sum-total}
 
 -- counts and postings, cut into lists

@@ -11,15 +11,15 @@ use mathlib.Core.Bool.{false}
 use mathlib.Core.List.{List, _++_}
 use lib.ListN.{length, take, drop, take-append-drop, drop-of-length-le}
 use lib.Seq.{drop-drop, take-add}
-use Rattle.volume.specs.Bytes.{IsBytes, le32, bytes16, bytes32}
-use Rattle.volume.specs.Checksum.{checkA, checkB}
+use Rattle.block.specs.Bytes.{IsBytes, le32, bytes16, bytes32}
+use Rattle.block.specs.Checksum.{checkA, checkB}
 use Rattle.volume.specs.Layout.{blockNumber, covered, word}
 use Rattle.volume.specs.Check.{blockWrong}
 use Rattle.volume.specs.Write.{wordBytes, blockBody, sealed, blocksFrom}
 use Rattle.volume.proofs.Laws.Check.{Right, right}
 use Rattle.volume.proofs.Laws.Write.{wordBytes-ext}
 use Rattle.volume.proofs.Laws.Stream.{offset-in-block}
-use Rattle.volume.proofs.Laws.Bytes.{bytes16-of, bytes32-of}
+use Rattle.block.proofs.Laws.Bytes.{bytes16-of, bytes32-of}
 
 module _ (v : List ℕ) (bytes : IsBytes v) where
   -- m words of block k from word r on

@@ -3,7 +3,7 @@
 use mathlib.Core.Path.{refl}
 use Rattle.seq.specs.Lists.{above, rises, joined}
 use Rattle.seq.specs.Numbers.{firstFrom, run, sumTo}
-use Rattle.volume.specs.Checksum.{sumA, sumB}
+use Rattle.block.specs.Checksum.{sumA, sumB}
 use Rattle.volume.specs.Layout.{offset, word, listsOf}
 use Rattle.volume.specs.Check.{lengthWrong, numberWrong, checksumWrong, blockWrong, blocksWrong, versionWrong, listCountWrong, extentWrong, orderWrong, listsWrong, paddingWrong, tailWrong, streamVerdict, verdict}
 use Rattle.volume.specs.Write.{wordBytes, blockBody, sealed, blocksFrom, written, volumeOf}

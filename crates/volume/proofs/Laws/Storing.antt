@@ -13,8 +13,8 @@ use lib.ListN.{length, take, drop, length-append, take-append-drop, drop-of-leng
 use lib.Seq.{take-at, length-take-le}
 use borrow.Rule.Slice.PartMut.{putMid}
 use Rattle.seq.proofs.Laws.Stores.{put-over, put-part}
-use Rattle.volume.specs.Bytes.{bytes16, bytes32}
-use Rattle.volume.specs.Checksum.{checkA, checkB}
+use Rattle.block.specs.Bytes.{bytes16, bytes32}
+use Rattle.block.specs.Checksum.{checkA, checkB}
 use Rattle.volume.specs.Write.{wordBytes, blockBody, sealed, blocksFrom}
 use Rattle.volume.proofs.Laws.Write.{length-wordBytes, wordBytes-snoc, length-blockBody, length-blocksFrom, blocksFrom-append, blocksFrom-snoc}
 

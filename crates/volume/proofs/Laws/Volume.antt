@@ -13,13 +13,13 @@ use lib.ListN.{length, getD, length-append, List·getD-append, List·getD-eq-def
 use mathlib.Core.Logic.{⊎-elim}
 use lib.Seq.{getD-append-add}
 use Rattle.seq.proofs.Laws.Tests.{below-or}
-use Rattle.seq.specs.Lists.{joined, rises}
+use Rattle.seq.specs.Lists.{at, joined, rises}
 use Rattle.seq.specs.Numbers.{run, sumTo}
 use Rattle.seq.proofs.Laws.Numbers.{run-ext, length-run, getD-run, sum-ext, sum-le, sum-step}
-use Rattle.volume.specs.Bytes.{IsBytes, IsWords}
+use Rattle.block.specs.Bytes.{IsBytes, IsWords}
 use Rattle.volume.specs.Layout.{blocks, word, listCount, count, postingCount, extent, blocksFor, start, postingsOf, listsOf}
 use Rattle.volume.specs.Check.{blockWrong}
-use Rattle.volume.specs.Write.{at, streamOf, blocksFrom, written, volumeOf, givenList, givenLists}
+use Rattle.volume.specs.Write.{streamOf, blocksFrom, written, volumeOf, givenList, givenLists}
 use Rattle.volume.proofs.Laws.Check.{Good, list-within}
 use Rattle.volume.proofs.Laws.Write.{length-blocksFrom}
 use Rattle.volume.proofs.Laws.Blocks.{word-is, block-right}

@@ -13,21 +13,21 @@ use mathlib.Core.Logic.{⊎-elim}
 use mathlib.Core.List.{List, [], _∷_, _++_, map}
 use lib.ListN.{length, getD, length-map, List·getD-append, List·getD-eq-default}
 use lib.Seq.{getD-append-add}
-use Rattle.seq.specs.Lists.{total, joined, rises}
+use Rattle.seq.specs.Lists.{at, total, joined, rises}
 use Rattle.seq.specs.Numbers.{run, sumTo}
 use Rattle.seq.proofs.Laws.Tests.{below-or}
 use Rattle.seq.proofs.Laws.Lists.{length-joined}
 use Rattle.seq.proofs.Laws.Numbers.{length-run, getD-run}
-use Rattle.volume.specs.Bytes.{IsBytes, IsWords}
+use Rattle.block.specs.Bytes.{IsBytes, IsWords}
 use Rattle.volume.specs.Layout.{offset, word, listCount, count, postingCount, start, postingsOf, listsOf}
-use Rattle.volume.specs.Write.{at, volumeOf, givenList, givenLists}
+use Rattle.volume.specs.Write.{volumeOf, givenList, givenLists}
 use Rattle.seq.specs.Lists.{Rising}
 use Rattle.volume.specs.Demands.{Within}
 use Rattle.seq.proofs.Laws.Decides.{holds}
 use Rattle.seq.proofs.Laws.Rising.{rises-decides}
 use Rattle.volume.proofs.Laws.Check.{Good}
 use Rattle.seq.proofs.Laws.Runs.{sum-total}
-use Rattle.volume.proofs.Laws.Bytes.{le32-lt}
+use Rattle.block.proofs.Laws.Bytes.{le32-lt}
 use Rattle.volume.proofs.Laws.Lists.{length-given, given-counts, given-postings, given-list, given-lists, total-lengths}
 use Rattle.volume.proofs.Laws.Volume.{Given, written-good, written-lists, length-listsOf, list-of, join-of}
 

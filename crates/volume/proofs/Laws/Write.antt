@@ -12,8 +12,9 @@ use mathlib.Core.Path.{_≡_, refl, sym, ap, ap₂, _∙_}
 use mathlib.Core.List.{List, _++_, append-assoc, append-nil}
 use lib.ListN.{length, length-append, List·getD-append, List·getD-eq-default}
 use lib.Seq.{getD-append-add}
-use Rattle.volume.specs.Bytes.{bytes32}
-use Rattle.volume.specs.Write.{at, wordBytes, blockBody, sealed, blocksFrom, streamOf}
+use Rattle.block.specs.Bytes.{bytes32}
+use Rattle.seq.specs.Lists.{at}
+use Rattle.volume.specs.Write.{wordBytes, blockBody, sealed, blocksFrom, streamOf}
 
 module _ (f : ℕ → ℕ) where
   pub length-wordBytes : (k m : ℕ) → length (wordBytes f k m) ≡ 4 * m

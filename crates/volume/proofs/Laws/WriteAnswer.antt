@@ -15,12 +15,12 @@ use mathlib.Core.Logic.{_⊎_, _≢_, ⊎-elim}
 use mathlib.Core.List.{List, _++_}
 use lib.ListN.{length, drop}
 use borrow.Author.Tests.{lt-ltb, le-ltb}
-use Rattle.seq.specs.Lists.{total, rises, NotRising}
+use Rattle.seq.specs.Lists.{at, total, rises, NotRising}
 use Rattle.seq.specs.Numbers.{run, sumTo}
 use Rattle.seq.specs.Refusals.{refused, answered}
 use Rattle.seq.proofs.Laws.Numbers.{search-found, search-clear}
 use Rattle.volume.specs.Layout.{blocksFor}
-use Rattle.volume.specs.Write.{at, blocksFrom, streamOf, written, givenList, countsWrong, sumWrong, givenWrong, badGiven, givenListsWrong, tooLarge, shortOutput, writeAnswer, writeOut}
+use Rattle.volume.specs.Write.{blocksFrom, streamOf, written, givenList, countsWrong, sumWrong, givenWrong, badGiven, givenListsWrong, tooLarge, shortOutput, writeAnswer, writeOut}
 use Rattle.seq.proofs.Laws.Decides.{Decides, holds, fails, not-decides, eqb-decides, ltb-decides}
 use Rattle.seq.proofs.Laws.Refusals.{laid-refused, laid-answered}
 use Rattle.seq.proofs.Laws.Rising.{falls-decides}

@@ -11,14 +11,14 @@ use mathlib.Core.Logic.{_⊎_, inl, inr, ⊎-elim, _≢_}
 use mathlib.Core.List.{List, _++_, map}
 use lib.ListN.{length, drop, length-map}
 use borrow.Author.Tests.{not-false}
-use Rattle.seq.specs.Lists.{total, joined, rises}
+use Rattle.seq.specs.Lists.{at, total, joined, rises}
 use Rattle.seq.specs.Refusals.{Said, refused, answered}
 use Rattle.seq.proofs.Laws.Tests.{true-or}
 use Rattle.seq.proofs.Laws.Lists.{length-joined}
 use Rattle.seq.proofs.Laws.Refusals.{laid-answered, not-both, past}
-use Rattle.volume.specs.Bytes.{IsWords}
+use Rattle.block.specs.Bytes.{IsWords}
 use Rattle.volume.specs.Layout.{blocksFor}
-use Rattle.volume.specs.Write.{at, written, volumeOf, givenList, givenLists, countsWrong, sumWrong, givenWrong, badGiven, givenListsWrong, tooLarge, shortOutput, writeAnswer, writeOut}
+use Rattle.volume.specs.Write.{written, volumeOf, givenList, givenLists, countsWrong, sumWrong, givenWrong, badGiven, givenListsWrong, tooLarge, shortOutput, writeAnswer, writeOut}
 use Rattle.volume.specs.Demands.{Within, Lays, Writes}
 use Rattle.seq.proofs.Laws.Decides.{stable, fails, eqb-decides}
 use Rattle.seq.proofs.Laws.Runs.{first-past, sum-total}

@@ -9,7 +9,7 @@ use denote.Ref.{now}
 use lib.ListN.{length, length-set}
 use Rattle.seq.specs.Numbers.{run}
 use Rattle.seq.proofs.Laws.Numbers.{run-snoc, length-run}
-use Rattle.volume.specs.Bytes.{le32}
+use Rattle.block.specs.Bytes.{le32}
 use Rattle.lister.specs.Stored.{Stored}
 use Rattle.lister.proofs.Laws.Stored.{stored-none, stored-one, stored-more}
 use Rattle.lister.proofs.Laws.Files.{words-empty, words-long, words-uneven, words-whole}

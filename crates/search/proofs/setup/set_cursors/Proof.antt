@@ -6,8 +6,9 @@ use mathlib.Core.Path.{_≡_, sym, ap, _∙_}
 use lib.ListN.{length, getD}
 use denote.Ref.{now}
 use Rattle.plan.proofs.Laws.Accepted.{given}
-use Rattle.matcher.specs.Tables.{varsBefore, cursorOn}
-use Rattle.matcher.proofs.Laws.Tables.{EntryAt, varsBefore-next}
+use Rattle.plan.specs.Inner.Outline.{varsBefore}
+use Rattle.matcher.specs.Tables.{cursorOn}
+use Rattle.plan.proofs.Laws.Outline.{EntryAt, varsBefore-next}
 use Rattle.matcher.proofs.Laws.Placed.{VoicedAt, voiced, Placing, placing-first, placing-as, placing-next, placing-done}
 use Rattle.search.proofs.setup.set_cursors.Statement.{statement}
 use Rattle.search.proofs.setup.set_cursors.Tie as tie

@@ -10,7 +10,7 @@ use denote.Ref.{now}
 use Rattle.volume.specs.Layout.{listsOf}
 use Rattle.plan.specs.Accepted.{patternAt}
 use Rattle.fulltext.specs.Documents.{shownIn}
-use Rattle.search.specs.Flags.{flagOf}
+use Rattle.plan.specs.Inner.Stack.{flagOf}
 use Rattle.matcher.specs.Settling.{Ready}
 use Rattle.matcher.proofs.Laws.Settled.{away-entry, away-few, away-found, away-shown}
 

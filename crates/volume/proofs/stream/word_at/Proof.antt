@@ -2,7 +2,7 @@
 use native.Mathlib.Omega.{arith}
 use mathlib.Core.Path.{sym, ap, _∙_}
 use denote.Ref.{now}
-use Rattle.volume.specs.Bytes.{le32}
+use Rattle.block.specs.Bytes.{le32}
 use Rattle.volume.specs.Layout.{word}
 use Rattle.volume.proofs.Laws.Stream.{offset-is}
 use Rattle.volume.proofs.stream.word_at.Statement.{statement}

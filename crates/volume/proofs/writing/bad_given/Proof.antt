@@ -9,7 +9,8 @@ use lib.ListN.{length}
 use denote.Ref.{now}
 use Rattle.seq.specs.Numbers.{sumTo, firstFrom}
 use Rattle.seq.proofs.Laws.Numbers.{first-hit, first-miss, first-end, sum-more}
-use Rattle.volume.specs.Write.{at, givenWrong, badGiven}
+use Rattle.seq.specs.Lists.{at}
+use Rattle.volume.specs.Write.{givenWrong, badGiven}
 use Rattle.seq.proofs.Laws.Numbers.{sum-within}
 use Rattle.volume.proofs.Laws.WriteAnswer.{givenWrong-is}
 use Rattle.volume.proofs.writing.bad_given.Statement.{statement}

@@ -3,7 +3,8 @@
 use Prim.Native.Nat.{_-_}
 use native.Mathlib.Omega.{arith}
 use lib.ListN.{length-take, length-drop}
-use Rattle.volume.specs.Write.{at, streamOf}
+use Rattle.seq.specs.Lists.{at}
+use Rattle.volume.specs.Write.{streamOf}
 use Rattle.volume.proofs.Laws.Storing.{Laying, laying-first, laying-again, laying-done}
 use Rattle.volume.proofs.writing.put_blocks.Statement.{statement}
 use Rattle.volume.proofs.writing.put_blocks.Tie as tie

@@ -3,7 +3,7 @@
 use Prim.Native.Nat.{_-_}
 use native.Mathlib.Omega.{arith}
 use mathlib.Core.Path.{refl}
-use Rattle.volume.specs.Write.{at}
+use Rattle.seq.specs.Lists.{at}
 use Rattle.volume.proofs.Laws.Storing.{Filling, filling-first, filling-again, filling-done}
 use Rattle.volume.proofs.writing.put_postings.Statement.{statement}
 use Rattle.volume.proofs.writing.put_postings.Tie as tie

@@ -2,7 +2,8 @@
 -- and the rest is as it was. The measure is what is left of 126 words. Assumes nothing.
 use Prim.Native.Nat.{_-_}
 use native.Mathlib.Omega.{arith}
-use Rattle.volume.specs.Write.{at, streamOf}
+use Rattle.seq.specs.Lists.{at}
+use Rattle.volume.specs.Write.{streamOf}
 use Rattle.volume.proofs.Laws.Storing.{Filling, filling-first, filling-again, filling-done}
 use Rattle.volume.proofs.writing.put_words.Statement.{statement}
 use Rattle.volume.proofs.writing.put_words.Tie as tie

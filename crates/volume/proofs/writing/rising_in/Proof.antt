@@ -5,9 +5,8 @@ use native.Mathlib.Omega.{arith}
 use mathlib.Core.Path.{_≡_, refl, sym, _∙_}
 use mathlib.Core.Bool.{_&&_}
 use lib.Dec.{eqb}
-use Rattle.seq.specs.Lists.{rises}
+use Rattle.seq.specs.Lists.{at, rises}
 use Rattle.seq.specs.Numbers.{run}
-use Rattle.volume.specs.Write.{at}
 use Rattle.volume.proofs.Laws.Falls.{falls-again, falls-done}
 use Rattle.volume.proofs.writing.rising_in.Statement.{statement}
 use Rattle.volume.proofs.writing.rising_in.Tie as tie

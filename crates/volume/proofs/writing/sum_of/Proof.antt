@@ -7,7 +7,7 @@ use lib.ListN.{length}
 use denote.Ref.{now}
 use Rattle.seq.specs.Numbers.{sumTo}
 use Rattle.seq.proofs.Laws.Numbers.{sum-more}
-use Rattle.volume.specs.Write.{at}
+use Rattle.seq.specs.Lists.{at}
 use Rattle.volume.proofs.writing.sum_of.Statement.{statement}
 use Rattle.volume.proofs.writing.sum_of.Tie as tie
 

@@ -7,7 +7,7 @@ use mathlib.Core.Logic.{inl, inr, ⊎-elim}
 use lib.ListN.{length}
 use denote.Ref.{now}
 use Rattle.seq.specs.Numbers.{sumTo}
-use Rattle.volume.specs.Write.{at}
+use Rattle.seq.specs.Lists.{at}
 use Rattle.volume.proofs.Laws.WriteAnswer.{Ordered, refuses-counts, refuses-sum, refuses-order, refuses-large, refuses-short, answers}
 use Rattle.volume.proofs.writing.write.Statement.{statement}
 use Rattle.volume.proofs.writing.write.Tie as tie

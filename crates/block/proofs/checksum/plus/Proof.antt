@@ -1,0 +1,37 @@
+-- `checksum::plus` meets its contract: no column wraps, by `Room`. Assumes nothing.
+use native.Mathlib.Omega.{arith}
+use mathlib.Core.Path.{refl}
+use Rattle.block.specs.Inner.Sums.{plus}
+use Rattle.block.proofs.checksum.plus.Statement.{statement}
+use Rattle.block.proofs.checksum.plus.Tie as tie
+
+add-a : tie.Need-add-a
+add-a c = omega (arith, c .before .before .pre .a)
+
+add-b : tie.Need-add-b
+add-b c = omega (arith, c .before .before .before .before .pre .b)
+
+add-c : tie.Need-add-c
+add-c c = omega (arith, c .before .before .before .before .before .before .pre .c)
+
+add-d : tie.Need-add-d
+add-d c = omega (arith, c .before .before .before .before .before .before .before .before .pre .d)
+
+add-e : tie.Need-add-e
+add-e c = omega (arith, c .before .before .before .before .before .before .before .before .before .before .pre .e)
+
+add-f : tie.Need-add-f
+add-f c = omega (arith, c .before .before .before .before .before .before .before .before .before .before .before .before .pre .f)
+
+add-g : tie.Need-add-g
+add-g c = omega (arith, c .before .before .before .before .before .before .before .before .before .before .before .before .before .before .pre .g)
+
+add-h : tie.Need-add-h
+add-h c = omega (arith, c .before .before .before .before .before .before .before .before .before .before .before .before .before .before .before .before .pre .h)
+
+returns : tie.Need-returns
+unfolding plus
+returns c = refl
+
+pub plus-spec : {M : Type 1} → statement M
+plus-spec = tie.close (tie.spec add-a add-b add-c add-d add-e add-f add-g add-h returns)

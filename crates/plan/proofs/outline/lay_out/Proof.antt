@@ -1,0 +1,148 @@
+-- `outline::lay_out` meets its contract. The loop's invariant: the entries of the first k patterns are laid out, and they have `vars` variables.
+-- The measure is what is left of the patterns. Assumes nothing.
+use native.Mathlib.Omega.{arith}
+use Prim.Native.Nat.{_-_}
+use lib.ListN.{length, length-set}
+use denote.Ref.{now}
+use Rattle.plan.proofs.Laws.Accepted.{given}
+use Rattle.plan.proofs.Laws.Outline.{vars-within, Spanned, spanned, Laid, laid-first, laid-next, laid-done}
+use Rattle.plan.proofs.outline.lay_out.Statement.{statement}
+use Rattle.plan.proofs.outline.lay_out.Tie as tie
+
+abbrev Inv-loop : tie.InvT-loop
+Inv-loop plan patterns table₀ vars₀ k₀ table vars k = Laid plan (length table₀) table vars k
+
+abbrev μ-loop : tie.MeasureT-loop
+μ-loop plan patterns table₀ vars₀ k₀ table vars k = patterns - k
+
+-- the rows of a pattern, as a turn finds them
+turn : (c : tie.After-behind-voices Inv-loop μ-loop) → Spanned (now (c .before .before .before .before .before .before .before .args .plan)) (c .before .before .before .before .loop .k) (c .before .before .span-at .result .start) (c .before .before .span-at .result .len) (c .behind-voices .result)
+turn c =
+    let l = c .before .before .before .before .loop in
+    let start = c .before .before .before .before .before .before .before in
+    spanned (start .pre .0 .0) (now (start .args .plan)) (start .pre .0 .1) (l .k) (omega arith) (c .before .before .span-at .result) (c .behind-voices .result) (c .before .before .span-at .ensures) (c .behind-voices .ensures)
+
+loop-holds : tie.Need-loop-holds Inv-loop μ-loop
+loop-holds c = laid-first (now (c .before .before .args .plan)) (now (c .before .before .args .table))
+
+span-at-requires : tie.Need-span-at-requires Inv-loop μ-loop
+span-at-requires c κs =
+    let start = c .before .before .before .before in
+    let g = given _ _ (start .pre .0 .1) in
+    (omega arith, omega arith)
+
+behind-voices-requires : tie.Need-behind-voices-requires Inv-loop μ-loop
+behind-voices-requires c κs = omega arith
+
+sub-count : tie.Need-sub-count Inv-loop μ-loop
+sub-count c =
+    let s = turn c in
+    omega arith
+
+mul-at : tie.Need-mul-at Inv-loop μ-loop
+mul-at c = omega arith
+
+mul-table : tie.Need-mul-table Inv-loop μ-loop
+mul-table c = omega arith
+
+slice-write-table : tie.Need-slice-write-table Inv-loop μ-loop
+slice-write-table c = omega arith
+
+add-table : tie.Need-add-table Inv-loop μ-loop
+add-table c = omega arith
+
+mul-table-2 : tie.Need-mul-table-2 Inv-loop μ-loop
+mul-table-2 c = omega arith
+
+slice-write-table-2 : tie.Need-slice-write-table-2 Inv-loop μ-loop
+slice-write-table-2 c = simp length-set (omega arith)
+
+add-table-2 : tie.Need-add-table-2 Inv-loop μ-loop
+add-table-2 c = omega arith
+
+mul-table-3 : tie.Need-mul-table-3 Inv-loop μ-loop
+mul-table-3 c = omega arith
+
+slice-write-table-3 : tie.Need-slice-write-table-3 Inv-loop μ-loop
+slice-write-table-3 c = simp length-set (omega arith)
+
+add-table-3 : tie.Need-add-table-3 Inv-loop μ-loop
+add-table-3 c =
+    let s = turn (c .before) in
+    omega arith
+
+sub-table : tie.Need-sub-table Inv-loop μ-loop
+sub-table c =
+    let s = turn (c .before) in
+    omega arith
+
+add-table-4 : tie.Need-add-table-4 Inv-loop μ-loop
+add-table-4 c = omega arith
+
+mul-table-4 : tie.Need-mul-table-4 Inv-loop μ-loop
+mul-table-4 c = omega arith
+
+slice-write-table-4 : tie.Need-slice-write-table-4 Inv-loop μ-loop
+slice-write-table-4 c = simp length-set (omega arith)
+
+add-vars : tie.Need-add-vars Inv-loop μ-loop
+add-vars c =
+    let s = turn (c .before) in
+    let l = c .before .before .before .before .before .loop in
+    let start = c .before .before .before .before .before .before .before .before in
+    let w = vars-within (now (start .args .plan)) (l .k) (omega arith) in
+    let m = given _ _ (start .pre .0 .1) .most-vars in
+    omega arith
+
+add-k : tie.Need-add-k Inv-loop μ-loop
+add-k c = omega arith
+
+loop-less : tie.Need-loop-less Inv-loop μ-loop
+loop-less c = omega arith
+
+loop-again : tie.Need-loop-again Inv-loop μ-loop
+loop-again c =
+    let l = c .before .before .before .before .before .loop in
+    let start = c .before .before .before .before .before .before .before .before in
+    let s = c .before .before .before .span-at .result in
+    laid-next (start .pre .0 .0) (now (start .args .plan)) (start .pre .0 .1) (length (now (start .args .table))) (l .table) (l .vars) (l .k) (l .inv) (omega arith) (omega arith) (s .start) (s .len) (c .before .behind-voices .result) (turn (c .before))
+
+same-length : tie.Need-same-length Inv-loop μ-loop
+same-length c = c .before .loop .inv .same
+
+returns : tie.Need-returns Inv-loop μ-loop
+returns c =
+    let l = c .before .loop in
+    let a = c .before .before .before .before .args in
+    laid-done (now (a .plan)) (length (now (a .table))) (l .table) (l .vars) (l .k) (l .inv) (omega arith)
+
+pub lay-out-spec : {M : Type 1} → statement M
+lay-out-spec =
+    tie.close
+    (tie.spec
+    Inv-loop
+    μ-loop
+    loop-holds
+    span-at-requires
+    behind-voices-requires
+    sub-count
+    mul-at
+    mul-table
+    slice-write-table
+    add-table
+    mul-table-2
+    slice-write-table-2
+    add-table-2
+    mul-table-3
+    slice-write-table-3
+    add-table-3
+    sub-table
+    add-table-4
+    mul-table-4
+    slice-write-table-4
+    add-vars
+    add-k
+    loop-less
+    loop-again
+    same-length
+    returns)

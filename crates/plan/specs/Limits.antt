@@ -1,0 +1,34 @@
+-- Document 01's limits of a plan, and the words of a row of a listing, each in one place. `src/limits.rt` has the same numbers for the code.
+-- Assumes nothing.
+use Prim.Native.Nat.{ℕ, _+_, _*_}
+
+-- the last kind of a row; the first is 1
+abbrev pub lastKind : ℕ
+lastKind = 9
+
+-- the most rows of a plan, and its words
+abbrev pub mostRows : ℕ
+mostRows = 64
+
+abbrev pub mostWords : ℕ
+mostWords = 4 * mostRows
+
+-- the most patterns (01: figures) of a plan
+abbrev pub mostPatterns : ℕ
+mostPatterns = 8
+
+-- the most variables (01: voices) of a pattern
+abbrev pub mostPatternVars : ℕ
+mostPatternVars = 8
+
+-- the most variables of an accepted plan: 7 patterns have 7 ENDs and 6 operators make one answer of them, which leaves 51 of 64 rows
+abbrev pub mostVars : ℕ
+mostVars = 51
+
+-- the words of a row of a listing: the document, a flag for each pattern, a position for each variable
+abbrev pub rowWords : ℕ → ℕ → ℕ
+rowWords patterns vars = 1 + patterns + vars
+
+-- the most of them
+abbrev pub mostRowWords : ℕ
+mostRowWords = 59

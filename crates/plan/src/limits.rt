@@ -1,0 +1,28 @@
+// The limits of a plan, and the words of a row of a listing, each in one place; `specs/Limits.antt`
+// has the same numbers.
+ghost use mathlib.Core.Path.{_≡_};
+ghost use Rattle.plan.specs.Limits.{rowWords};
+
+// The last kind of a row; the first is 1.
+pub const LAST_KIND: u32 = 9;
+// The most rows of a plan.
+pub const MOST_ROWS: usize = 64;
+// The most words of a plan.
+pub const MOST_WORDS: usize = 4 * MOST_ROWS;
+// The most patterns (01: figures) of a plan.
+pub const MOST_PATTERNS: usize = 8;
+// The most variables (01: voices) of a pattern.
+pub const MOST_PATTERN_VARS: usize = 8;
+// The most variables of an accepted plan: 7 patterns have 7 ENDs, and 6 operators make one answer of
+// them, which leaves 51 of 64 rows.
+pub const MOST_VARS: usize = 51;
+// The most words of a row of a listing: 7 patterns and 51 variables.
+pub const MOST_ROW_WORDS: usize = 59;
+
+// The words of a row of a listing: the document, a flag for each pattern, a position for each
+// variable.
+pub fn row_words(patterns: u32, vars: u32) -> usize
+    ensures { λ r. ⌜ r ≡ rowWords patterns vars ⌝ }
+{
+    1 + patterns as usize + vars as usize
+}

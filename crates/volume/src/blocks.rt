@@ -1,0 +1,60 @@
+// The blocks of a volume: their numbers and checksums, and the falls of the stream on the way.
+ghost use mathlib.Core.Path.{_≡_};
+ghost use Prim.Native.Nat.{_*_, _<_, _≤_};
+ghost use Rattle.volume.specs.Layout.{blocks, Whole};
+ghost use Rattle.volume.specs.Check.{numberWrong, checksumWrong, badBlock};
+ghost use Rattle.volume.specs.Falls.{fallsBefore};
+use super::order::fall_at;
+use super::order::falls_in;
+use block::block_sums;
+use block::read16;
+use block::read32;
+
+// The lowest block that is wrong, or the number of blocks; and the falls in front of it.
+pub struct Pass {
+    pub bad: usize,
+    pub falls: usize,
+}
+
+// Whether the number of block k is wrong.
+pub fn number_wrong(volume: &[u8], k: usize) -> bool
+    requires { ⌜ k < blocks (now volume) ⌝ }
+    ensures { λ r. ⌜ r ≡ numberWrong (now (volume .entry)) k ⌝ }
+{
+    read32(volume, 512 * k) as usize != k
+}
+
+// Whether the checksum of block k is wrong.
+fn checksum_wrong(volume: &[u8], k: usize) -> bool
+    requires { ⌜ k < blocks (now volume) ⌝ }
+    ensures { λ r. ⌜ r ≡ checksumWrong (now (volume .entry)) k ⌝ }
+{
+    let from = 512 * k;
+    let sums = block_sums(volume, from);
+    if read16(volume, from + 508) != sums.a {
+        return true;
+    }
+    read16(volume, from + 510) != sums.b
+}
+
+// One pass over the blocks.
+pub fn check_blocks(volume: &[u8]) -> Pass
+    requires { ⌜ Whole (now volume) × (blocks (now volume) ≤ 8192) ⌝ }
+    ensures { λ r. ⌜ (r .bad ≡ badBlock (now (volume .entry))) × (r .falls ≡ fallsBefore (now (volume .entry)) (126 * r .bad)) × (r .bad ≤ blocks (now (volume .entry))) ⌝ }
+{
+    let n = volume.len() / 512;
+    let mut falls: usize = 0;
+    let mut k: usize = 0;
+    while k < n {
+        if number_wrong(volume, k) {
+            return Pass { bad: k, falls };
+        }
+        if checksum_wrong(volume, k) {
+            return Pass { bad: k, falls };
+        }
+        falls += falls_in(volume, k) as usize;
+        falls += fall_at(volume, 126 * k + 125) as usize;
+        k += 1;
+    }
+    Pass { bad: n, falls }
+}
