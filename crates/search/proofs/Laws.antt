@@ -29,7 +29,6 @@
 --     Filling        a row that is filled pattern by pattern
 --     Tally          the postings passed, variable by variable
 --     Visits         the listing loop, document by document
---     Cases          the starred cases
 pub mod Pages
 pub mod Loop
 pub mod Listing
@@ -43,5 +42,4 @@ pub mod Walk
 pub mod Filling
 pub mod Tally
 pub mod Visits
-pub mod Cases
 pub mod Stages

@@ -8,7 +8,6 @@
 --     Listing      the listing call
 --     Refusals     document 01's refusals as relations, one line for each number
 --     Search       a search as a list of calls, and what holds of every one
---     Cases        the starred cases of document 01, one table
 --     Demands      the statements that the crate is held to
 --     Shortfall    what a predicate that fails needs, for the contracts inside the crate
 --     Cursors      where cursors stand and how they move, for the contracts inside the crate
@@ -19,6 +18,5 @@ pub mod Answers
 pub mod Listing
 pub mod Refusals
 pub mod Search
-pub mod Cases
 pub mod Demands
 pub mod Walk

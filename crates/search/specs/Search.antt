@@ -1,5 +1,5 @@
--- A search: a list of listing calls as they were made, each with the buffer lent, the answer, and the buffer as it returned. An answer may have
--- any form: `plain` is document 01's number and values, and a crate above may have its own. Assumes nothing.
+-- A search: a list of listing calls as they were made, each with the buffer lent, the answer, and the buffer as it returned. An answer
+-- may have any form: `plain` is document 01's number and values, and a crate above may have its own. Assumes nothing.
 --     Form, plain             how an answer is made and what it says
 --     Call, IsSearch          calls that are a search
 --     Outcome, outcome        what a search comes to
@@ -42,8 +42,8 @@ abbrev pub Then : ℕ → Said Page → (ℕ → Type 0) → Type 0 → Type 0
 Then s (refused n q) from none = from s
 Then s (answered page) from none = Onward (page .next) from none
 
--- what a search has come to: the document reached (01: scene reached), 65,536 after DONE; the rows, joined in the order of the calls; the sum of
--- the tallies
+-- what a search has come to: the document reached (01: scene reached), 65,536 after DONE; the rows, joined in the order of the calls; the
+-- sum of the tallies
 pub record Outcome : Type 0 where
   pub reached : ℕ
   pub rows : List ℕ
@@ -138,8 +138,8 @@ module _ {A : Type 0} (form : Form A) where
     pub tally : o .tally ≡ w .postings 0 (o .reached)
     -- each call answers as it must
     pub answers : EachAnswers w 0 calls
-    -- with k true documents, the k-th of the calls that are not refused, or the first where k is 0, says DONE, and 65,536 is reached; had an
-    -- earlier one said DONE, the search would have ended there
+    -- with k true documents, the k-th of the calls that are not refused, or the first where k is 0, says DONE, and 65,536 is reached;
+    -- had an earlier one said DONE, the search would have ended there
     pub closes : (front rest : List (Call A)) (c : Call A)
         → unrefused calls ≡ front ++ (c ∷ rest)
         → length front + 1 ≡ max 1 (length (docsIn w 0 limit))
