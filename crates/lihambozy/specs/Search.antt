@@ -1,5 +1,5 @@
--- A search by the C functions: a list of calls of `lhz_list` as they were made, each with the struct that it answered. What a search is and what
--- holds of it stands in the crate `search`, for every form of answer; here is the form of the structs. Assumes nothing.
+-- A search by the C functions: a list of calls of `lhz_list` as they were made, each with the struct that it answered. What a search is
+-- and what holds of it stands in the crate `search`, for every form of answer; here is the form of the structs. Assumes nothing.
 use Prim.Native.Nat.{ℕ}
 use mathlib.Core.Bool.{cond}
 use mathlib.Core.List.{List}
@@ -7,7 +7,7 @@ use lib.Dec.{eqb}
 use Rattle.seq.specs.Refusals.{Said, refused, answered}
 use Rattle.fulltext.specs.Positions.{limit}
 use Rattle.search.specs.Answers.{Next, done, more, Page}
-use Rattle.search.specs.Search.{Form, Call, KeptAs}
+use Rattle.search.specs.Search.{Form, KeptAs}
 use Rattle.lihambozy.specs.declared.Listing.{Listing}
 use Rattle.lihambozy.specs.Flat.{flatListing}
 
@@ -26,6 +26,6 @@ heard a =
 abbrev pub structs : Form Listing
 structs = record { make = flatListing; said = heard }
 
--- what `lhz_list` promises of a call from document `start` on
-abbrev pub Kept : List ℕ → List ℕ → ℕ → Call Listing → Type 0
-Kept v p start c = KeptAs structs v p start c
+-- what `lhz_list` promises of a call from document `start` on: of the buffer lent, the struct, and the buffer as it returns
+abbrev pub Kept : List ℕ → List ℕ → ℕ → List ℕ → Listing → List ℕ → Type 0
+Kept v p start lent says back = KeptAs structs v p start (record { lent = lent; says = says; back = back })
