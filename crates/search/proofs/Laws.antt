@@ -28,6 +28,7 @@
 --     Walk           how each pattern is brought to the next document in which it can be found
 --     Filling        a row that is filled pattern by pattern
 --     Tally          the postings passed, variable by variable
+--     Seen           one document of the walk
 --     Visits         the listing loop, document by document
 pub mod Pages
 pub mod Loop
@@ -41,5 +42,6 @@ pub mod Align
 pub mod Walk
 pub mod Filling
 pub mod Tally
+pub mod Seen
 pub mod Visits
 pub mod Stages

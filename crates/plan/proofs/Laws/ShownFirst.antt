@@ -48,9 +48,14 @@ unfolding sizes
 parted v p e = record {
   rows = λ k h. ap rowsOf (part-there v p k e h) ∙ part-rows (listCount v) p ok k h;
   words = λ k h. part-there v p k e h ∙ part-words (listCount v) p ok k h;
-  whole = parts-whole (listCount v) p ok ∙ ap (λ (xs : List (List ℕ)). joined xs ++ gap p (sizes p .patterns)) (run-ext (λ k. gap p k ++ partAt p (spanAt p k)) (λ k. gap p k ++ partOf v p k) 0 0 (sizes p .patterns) (λ k h. ap (λ (ws : List ℕ). gap p (0 + k) ++ ws) (sym (part-there v p (0 + k) e (omega arith)))));
+  whole =
+      parts-whole (listCount v) p ok
+      ∙ ap (λ (xs : List (List ℕ)). joined xs ++ gap p (sizes p .patterns)) (run-ext (λ k. gap p k ++ partAt p (spanAt p k)) (λ k. gap p k ++ partOf v p k) 0 0 (sizes p .patterns) there);
   gaps = gaps-operate (listCount v) p ok;
 }
   where
     ok : Passed (listCount v) p
     ok = verdict-passed v p (sizes p) e
+
+    there : (k : ℕ) → k < sizes p .patterns → gap p (0 + k) ++ partAt p (spanAt p (0 + k)) ≡ gap p (0 + k) ++ partOf v p (0 + k)
+    there k h = ap (λ (ws : List ℕ). gap p (0 + k) ++ ws) (sym (part-there v p (0 + k) e (omega arith)))

@@ -7,6 +7,7 @@ use Prim.Native.Nat.{ℕ, _+_, _-_, _<_, _≤_}
 use native.Mathlib.Numerals.{add-one}
 use native.Mathlib.Omega.{arith}
 use mathlib.Core.Path.{_≡_, refl, sym, ap, _∙_}
+use mathlib.Core.Bool.{Bool, true, false}
 use mathlib.Core.Logic.{⊎-elim, _≢_}
 use mathlib.Core.List.{List, [], _∷_, _++_, map, map-append, append-nil, append-assoc}
 use lib.ListN.{length, getD, set, take, drop, length-set, length-append, length-drop}
@@ -24,6 +25,11 @@ use Rattle.plan.specs.Inner.Outline.{varsBefore}
 use Rattle.plan.specs.Inner.Stack.{flagOf, Flags}
 use Rattle.plan.proofs.Laws.Outline.{varsBefore-first, varsBefore-next, varsBefore-end, vars-within}
 use Rattle.fulltext.proofs.Laws.Counts.{length-shown}
+
+-- a flag is 0 or 1
+pub flag-small : (b : Bool) → flagOf b ≤ 1
+flag-small true = omega arith
+flag-small false = omega arith
 
 -- what the row shows of the first k patterns
 abbrev front : List ℕ → List ℕ → ℕ → ℕ → List ℕ

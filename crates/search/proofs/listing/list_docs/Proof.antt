@@ -1,352 +1,246 @@
--- The rows of the true documents below `from` are laid, and each pattern waits where it can be found next (`Visiting`). Each turn ends in an answer or a later document.
+-- The rows of the true documents below `from` are laid, and the walk goes on there (`Visiting`). Each turn ends in an answer or a later document.
 use Rattle.search.proofs.listing.list_docs.Statement.{statement}
 use Rattle.search.proofs.listing.list_docs.Tie as tie
-use Prim.Native.Nat.{ℕ, _+_, _-_, _<_, _≤_}
+use Prim.Native.Nat.{ℕ, _+_, _-_, _*_, _/_, _<_, _≤_}
 use native.Mathlib.Omega.{arith}
-use mathlib.Core.Path.{_≡_, refl, sym, subst, _∙_}
-use lib.ListN.{length, getD}
+use mathlib.Core.Path.{_≡_, refl, sym, _∙_}
+use lib.ListN.{length, take, length-append, length-drop}
+use lib.Seq.{length-take-le}
 use borrow.Author.Tests.{not-true, not-false}
 use denote.Ref.{now}
 use Rattle.plan.specs.Check.{sizes}
 use Rattle.plan.proofs.Laws.Accepted.{given}
-use Rattle.volume.specs.Layout.{listsOf}
-use Rattle.plan.specs.Accepted.{patternAt}
-use Rattle.fulltext.specs.Documents.{found, work}
-use Rattle.matcher.specs.Cursors.{listEnd, Stands}
-use Rattle.matcher.specs.Settling.{Candidate}
-use Rattle.search.specs.Walk.{LeastDoc}
-use Rattle.search.proofs.Laws.Loop.{Progress, same-size}
+use Rattle.fulltext.specs.Documents.{work}
 use Rattle.fulltext.proofs.Laws.Counts.{work-even}
-use Rattle.search.proofs.Laws.Visits.{Visiting, visiting-first, visit-from, visit-over, visit-ready, visit-true, visit-passed, visit-put, visit-room, visit-words, visit-later, visit-rows, visit-stretch, visit-few, visit-done, visit-more, flag-small}
+use Rattle.search.proofs.Laws.Loop.{Progress, same-size}
+use Rattle.search.proofs.Laws.Seen.{walking-first}
+use Rattle.search.proofs.Laws.Visits.{Visiting, visiting-first, visiting-part, part-length, visit-reached, visit-passed, visit-put, visit-room, visit-words, visit-rows, visit-few, visit-done, visit-more}
 
 abbrev Inv-loop : tie.InvT-loop
-Inv-loop volume plan table patterns vars start firsts ends ats₀ out₀ width room starts₀ paras docs₀ flags₀ row₀ rows₀ from₀ ats out starts docs flags row rows from = Visiting volume plan ends start out₀ ats docs row flags out from rows starts × (length ats ≡ length ats₀)
+Inv-loop volume plan table start firsts ends ats₀ out₀ patterns width room paras starts₀ docs₀ row₀ rows₀ from₀ ats out starts docs row rows from =
+    Visiting volume plan ends start out₀ ats (take patterns docs) out from rows starts × ((length docs ≡ 8) × ((length row ≡ 59) × (length ats ≡ length ats₀)))
 
 abbrev μ-loop : tie.MeasureT-loop
-μ-loop volume plan table patterns vars start firsts ends ats₀ out₀ width room starts₀ paras docs₀ flags₀ row₀ rows₀ from₀ ats out starts docs flags row rows from = 65537 - from
+μ-loop volume plan table start firsts ends ats₀ out₀ patterns width room paras starts₀ docs₀ row₀ rows₀ from₀ ats out starts docs row rows from = 65537 - from
 
 -- the places that the answers speak of, each from the one behind it
 abbrev start-of : tie.At-loop Inv-loop μ-loop → tie.Start Inv-loop μ-loop
-start-of c = c .before .before .before .before .before .before .before .before .before .before
+start-of c = c .before .before .before .before .before .before .before .before .before .before .before
 
-abbrev turn-of : tie.After-next-docs Inv-loop μ-loop → tie.At-loop Inv-loop μ-loop
-turn-of c = c .before .before .before
+abbrev words-of : tie.At-loop Inv-loop μ-loop → tie.After-row-words Inv-loop μ-loop
+words-of c = c .before .before .before
 
-abbrev docs-of : tie.After-least-of Inv-loop μ-loop → tie.After-next-docs Inv-loop μ-loop
-docs-of c = c .before .before .before .before .before
+abbrev turn-of : tie.After-visit Inv-loop μ-loop → tie.At-loop Inv-loop μ-loop
+turn-of c = c .before .before .before .before
 
-abbrev least-doc-of : tie.After-bring-starts Inv-loop μ-loop → tie.After-least-of Inv-loop μ-loop
-least-doc-of c = c .before .before
+abbrev seen-of : tie.Else1 Inv-loop μ-loop → tie.After-visit Inv-loop μ-loop
+seen-of c = c .before .before .before .before .before
 
-abbrev brought-of : tie.After-fill-row Inv-loop μ-loop → tie.After-bring-starts Inv-loop μ-loop
-brought-of c = c .before .before .before .before .before
+abbrev found-of : tie.Else2 Inv-loop μ-loop → tie.Else1 Inv-loop μ-loop
+found-of c = c .before .before .before
 
-abbrev filled-of : tie.After-answer-of Inv-loop μ-loop → tie.After-fill-row Inv-loop μ-loop
-filled-of c = c .before .before .before .before
+-- the number of patterns, and the words of a row
+many : (c : tie.Start Inv-loop μ-loop) → length (now (c .args .table)) / 4 ≡ sizes (now (c .args .plan)) .patterns
+many c = let t = c .pre .1 .0 in omega arith
 
--- each pattern stands where it can be found next
-stand : (c : tie.After-least-of Inv-loop μ-loop) → let docs = docs-of c in let turn = turn-of docs in let start = start-of turn in
-    (k : ℕ) → k < sizes (now (start .args .plan)) .patterns
-    → Candidate (now (start .args .volume)) (now (start .args .plan)) (docs .next-docs .last .1 .1 .1 .1 .1 .1 .0) (now (start .args .ends)) k (turn .loop .from) (getD (docs .next-docs .last .1 .1 .1 .1 .1 .1 .1 .1 .0) k 0)
-stand c k h =
-    let docs = docs-of c in
-    let start = start-of (turn-of docs) in
-    let e = start .pre .1 .0 in docs .next-docs .ensures .1 .1 k (omega arith)
+wide : (c : tie.After-row-words Inv-loop μ-loop) → let start = c .before .before .before .before .before .before .before .before in
+    c .row-words .result ≡ 1 + sizes (now (start .args .plan)) .patterns + sizes (now (start .args .plan)) .vars
+wide c = let start = c .before .before .before .before .before .before .before .before in let e = c .row-words .ensures in let m = many start in let f = start .pre .1 .1 .0 in omega arith
 
--- the least of those documents
-least : (c : tie.After-least-of Inv-loop μ-loop) → let docs = docs-of c in let start = start-of (turn-of docs) in
-    LeastDoc (docs .next-docs .last .1 .1 .1 .1 .1 .1 .1 .1 .0) (sizes (now (start .args .plan)) .patterns) (c .least-of .result)
-least c =
-    let docs = docs-of c in
-    let start = start-of (turn-of docs) in
-    subst (λ (n : ℕ). LeastDoc (docs .next-docs .last .1 .1 .1 .1 .1 .1 .1 .1 .0) n (c .least-of .result)) (start .pre .1 .0) (c .least-of .ensures)
+few : (c : tie.Start Inv-loop μ-loop) → (sizes (now (c .args .plan)) .patterns ≤ 8) × (1 + sizes (now (c .args .plan)) .patterns + sizes (now (c .args .plan)) .vars ≤ 59)
+few c = visit-few _ _ _ _ (c .pre .0)
 
--- the rows laid when it is reached
-reached : (c : tie.After-least-of Inv-loop μ-loop) → let turn = turn-of (docs-of c) in let start = start-of turn in
-    Progress (work (now (start .args .volume)) (now (start .args .plan))) (start .args .start) (now (start .args .out)) (c .least-of .result) (turn .loop .rows) (turn .loop .out)
-reached c =
-    let turn = turn-of (docs-of c) in
-    let start = start-of turn in
-    visit-over _ _ _ _ (start .pre .0) _ _ _ _ _ _ (stand c) (least c) _ _ (turn .loop .inv .0 .progress)
-
--- it is not in front of the document that was reached
-from-doc : (c : tie.After-least-of Inv-loop μ-loop) → let turn = turn-of (docs-of c) in
-    turn .loop .from ≤ c .least-of .result
-from-doc c =
-    let start = start-of (turn-of (docs-of c)) in
-    visit-from _ _ _ _ (start .pre .0) (start .args .start) (now (start .args .out)) _ _ _ _ (stand c) (least c)
+-- the rows laid when the next document is reached
+reached : (c : tie.After-visit Inv-loop μ-loop) → let turn = turn-of c in let start = start-of turn in
+    Progress (work (now (start .args .volume)) (now (start .args .plan))) (start .args .start) (now (start .args .out)) (c .visit .result .doc) (turn .loop .rows) (turn .loop .out)
+reached c = visit-reached _ _ _ _ _ _ _ _ _ _ (c .visit .ensures) _ _ (turn-of c .loop .inv .0 .progress)
 
 -- it is a document
-inside : (c : tie.Else1 Inv-loop μ-loop) → c .before .least-of .result < 65536
-inside c = let l = least (c .before) .most in let n = c .if1 .left in omega arith
+inside : (c : tie.Else1 Inv-loop μ-loop) → seen-of c .visit .result .doc < 65536
+inside c = let l = seen-of c .visit .ensures .most in let n = c .if1 .left in omega arith
 
--- the cursor on list 0 stands there
-starts-at : (c : tie.After-bring-starts Inv-loop μ-loop) → let start = start-of (turn-of (docs-of (least-doc-of c))) in
-    Stands (now (start .args .volume)) 0 (c .before .before .least-of .result) (c .bring-starts .result .at) × (c .bring-starts .result .end ≡ listEnd (now (start .args .volume)) 0)
-starts-at c = c .bring-starts .ensures
+-- the arrays keep their lengths
+docs-size : (c : tie.After-visit Inv-loop μ-loop) → let turn = turn-of c in let start = start-of turn in
+    length (c .visit .last .1 .1 .1 .1 .1 .1 .0) ≡ length (take (length (now (start .args .table)) / 4) (turn .loop .docs))
+docs-size c = c .visit .kept .1 .1 .1 .1 .1 .1 .0
 
-add-width : tie.Need-add-width Inv-loop μ-loop
-add-width c =
-    let start = c .before .before .before .before .before .before .before in
-    let w = start .pre .1 .1 .1 .1 .1 .1 .1 in omega arith
+row-size : (c : tie.After-visit Inv-loop μ-loop) → length (c .visit .last .1 .1 .1 .1 .1 .1 .1 .0) ≡ 59
+row-size c = c .visit .kept .1 .1 .1 .1 .1 .1 .1 .0 ∙ turn-of c .loop .inv .1 .1 .0
 
-add-width-2 : tie.Need-add-width-2 Inv-loop μ-loop
-add-width-2 c =
-    let start = c .before .before .before .before .before .before .before in
-    let w = start .pre .1 .1 .1 .1 .1 .1 .1 in omega arith
+ats-size : (c : tie.After-visit Inv-loop μ-loop) → length (c .visit .last .1 .1 .1 .1 .0) ≡ length (now (start-of (turn-of c) .args .ats))
+ats-size c = c .visit .kept .1 .1 .1 .1 .0 ∙ turn-of c .loop .inv .1 .1 .1
+
+cast-row-words : tie.Need-cast-row-words Inv-loop μ-loop
+cast-row-words c = let m = many (c .before .before .before .before .before .before .before) in let f = few (c .before .before .before .before .before .before .before) .0 in omega arith
+
+cast-row-words-2 : tie.Need-cast-row-words-2 Inv-loop μ-loop
+cast-row-words-2 c = let e = c .before .before .before .before .before .before .before .pre .1 .1 .0 in let f = few (c .before .before .before .before .before .before .before) .1 in omega arith
+
+row-words-requires : tie.Need-row-words-requires Inv-loop μ-loop
+row-words-requires c κs = omega arith
 
 div-room : tie.Need-div-room Inv-loop μ-loop
-div-room c = omega arith
-
-starts-of-requires : tie.Need-starts-of-requires Inv-loop μ-loop
-starts-of-requires c κs =
-    let start = c .before .before .before .before .before .before .before in
-    given _ _ (start .pre .0 .accepted) .volume-accepted
+div-room c = let w = wide c in omega arith
 
 has-samepara-requires : tie.Need-has-samepara-requires Inv-loop μ-loop
 has-samepara-requires c κs = omega arith
 
+starts-of-requires : tie.Need-starts-of-requires Inv-loop μ-loop
+starts-of-requires c κs = given _ _ (c .before .before .before .before .before .before .before .before .before .pre .0 .accepted) .volume-accepted
+
 loop-holds : tie.Need-loop-holds Inv-loop μ-loop
 loop-holds c =
-    let start = c .before .before .before .before .before .before .before .before .before in
+    let start = c .before .before .before .before .before .before .before .before .before .before in
     let p = start .pre in
-    let v = p .1 .1 .0 in
-    let r = p .1 .1 .1 .1 .0 in
-    (visiting-first _ _ _ _ (p .0) _ _ (now (start .args .firsts)) _ _ _ _ (p .1 .1 .1 .0) (omega arith) (p .1 .1 .1 .1 .1 .0) (p .1 .1 .1 .1 .1 .1 .0) refl refl refl _ (c .before .starts-of .ensures), refl)
+    let f = p .1 .1 .0 in
+    let low : start .args .start ≤ 65536 = let l = p .1 .1 .1 .0 in omega arith in
+    let m = many start in
+    let n = few start .0 in
+    (visiting-first _ _ _ _ _ _ _ _ low (walking-first _ _ _ _ (p .0) _ (now (start .args .firsts)) _ _ low (omega arith) (p .1 .1 .1 .1 .0) (p .1 .1 .1 .1 .1 .0) (length-take-le (length (now (start .args .table)) / 4) _ (omega arith) ∙ m) _ (c .starts-of .ensures)), (refl, (refl, refl)))
 
-slice-aggregate-next-docs : tie.Need-slice-aggregate-next-docs Inv-loop μ-loop
-slice-aggregate-next-docs c = sym (c .before .before .loop .inv .0 .docs-length)
-
-next-docs-requires : tie.Need-next-docs-requires Inv-loop μ-loop
-next-docs-requires c κs =
-    let start = start-of (c .before .before) in
-    let p = start .pre in
-    let i = c .before .before .loop .inv .0 in
-    let e = p .1 .0 in
-    let m = visit-few _ _ _ _ (p .0) .0 in
-    let d = i .docs-length in
-    (p .0, (p .1 .0, (i .ats-room, (omega arith, (i .progress .to, λ k h. i .pending k (omega arith))))))
-
-slice-aggregate-least-of : tie.Need-slice-aggregate-least-of Inv-loop μ-loop
-slice-aggregate-least-of c =
-    let docs = c .before .before .before .before in
-    let turn = turn-of docs in
-    sym (docs .next-docs .ensures .1 .0 ∙ turn .loop .inv .0 .docs-length)
-
-least-of-requires : tie.Need-least-of-requires Inv-loop μ-loop
-least-of-requires c κs =
-    let docs = c .before .before .before .before in
-    let turn = turn-of docs in
+array-borrow-prefix-docs : tie.Need-array-borrow-prefix-docs Inv-loop μ-loop
+array-borrow-prefix-docs c =
+    let turn = c .before in
     let start = start-of turn in
-    let p = start .pre in
-    let e = p .1 .0 in
-    let m = visit-few _ _ _ _ (p .0) .0 in
-    let d = docs .next-docs .ensures .1 .0 in
-    let f = turn .loop .inv .0 .docs-length in
-    (omega arith, λ k h. docs .next-docs .ensures .1 .1 k h .to)
+    let m = many start in
+    let n = few start .0 in
+    let l = turn .loop .inv .1 .0 in
+    omega arith
+
+slice-aggregate-visit : tie.Need-slice-aggregate-visit Inv-loop μ-loop
+slice-aggregate-visit c =
+    let turn = c .before .before in
+    let start = start-of turn in
+    let m = many start in
+    let n = few start .0 in
+    let l = turn .loop .inv .1 .0 in
+    sym (length-take-le (length (now (start .args .table)) / 4) _ (omega arith))
+
+slice-aggregate-visit-2 : tie.Need-slice-aggregate-visit-2 Inv-loop μ-loop
+slice-aggregate-visit-2 c = sym (c .before .before .before .loop .inv .1 .1 .0)
+
+visit-requires : tie.Need-visit-requires Inv-loop μ-loop
+visit-requires c κs =
+    let turn = c .before .before .before in
+    let start = start-of turn in
+    let n = few start .1 in
+    let l = turn .loop .inv .1 .1 .0 in
+    (start .pre .0, (turn .loop .inv .0 .walking, omega arith))
 
 tally-requires : tie.Need-tally-requires Inv-loop μ-loop
 tally-requires c κs =
-    let start = start-of (turn-of (docs-of (c .before))) in
-    let p = start .pre in
+    let seen = c .before .before .before .before .before in
+    let p = start-of (turn-of seen) .pre in
     let e = p .1 .1 .0 in
     let r = p .0 .ends-room in
-    (p .0 .accepted, (p .1 .1 .0, (reached (c .before) .from, (least (c .before) .most, (p .1 .1 .1 .1 .0, (omega arith, p .1 .1 .1 .1 .1 .0))))))
+    (p .0 .accepted, (e, (omega arith, (reached seen .from, (seen .visit .ensures .most, p .1 .1 .1 .1 .0)))))
 
 cast-t33 : tie.Need-cast-t33 Inv-loop μ-loop
-cast-t33 c = let n = visit-rows _ _ _ _ _ _ _ (reached (c .before .before)) in omega arith
+cast-t33 c = let n = visit-rows _ _ _ _ _ _ _ (reached (c .before .before .before .before .before .before)) in omega arith
 
 same-length : tie.Need-same-length Inv-loop μ-loop
-same-length c =
-    let docs = docs-of (c .before .before) in
-    let turn = turn-of docs in
-    docs .next-docs .ensures .0 ∙ turn .loop .inv .1
+same-length c = ats-size (c .before .before .before .before .before .before)
 
 same-length-2 : tie.Need-same-length-2 Inv-loop μ-loop
 same-length-2 c =
-    let turn = turn-of (docs-of (c .before .before)) in
+    let turn = turn-of (c .before .before .before .before .before .before) in
     let start = start-of turn in
     same-size (work (now (start .args .volume)) (now (start .args .plan))) (work-even (now (start .args .volume)) (now (start .args .plan))) (turn .loop .inv .0 .progress)
 
 returns : tie.Need-returns Inv-loop μ-loop
 returns c =
-    let start = start-of (turn-of (docs-of (c .before .before))) in
-    let p = start .pre in visit-done _ _ _ _ (p .0) _ _ (p .1 .1 .1 .0) (start .args .patterns) (start .args .vars) (p .1 .0) (p .1 .1 .0) (p .1 .1 .1 .1 .1 .1 .1) _ _ _ (reached (c .before .before)) (c .tally .result) (c .tally .ensures) (c .before .if1 .taken)
-
-bring-starts-requires : tie.Need-bring-starts-requires Inv-loop μ-loop
-bring-starts-requires c κs =
-    let turn = turn-of (docs-of (c .before)) in
-    let start = start-of turn in
-    let i = turn .loop .inv .0 in (visit-later _ _ _ _ _ (from-doc (c .before)) (i .starts-at), (i .starts-end, visit-stretch _ _ _ _ (start .pre .0) (turn .loop .from) (turn .loop .starts) (i .starts-at) (i .starts-end)))
-
-slice-aggregate-fill-row : tie.Need-slice-aggregate-fill-row Inv-loop μ-loop
-slice-aggregate-fill-row c =
-    let docs = docs-of (least-doc-of (c .before .before)) in
-    let turn = turn-of docs in
-    sym (docs .next-docs .ensures .1 .0 ∙ turn .loop .inv .0 .docs-length)
-
-slice-aggregate-fill-row-2 : tie.Need-slice-aggregate-fill-row-2 Inv-loop μ-loop
-slice-aggregate-fill-row-2 c =
-    let turn = turn-of (docs-of (least-doc-of (c .before .before .before))) in
-    sym (turn .loop .inv .0 .row-length)
-
-slice-aggregate-fill-row-3 : tie.Need-slice-aggregate-fill-row-3 Inv-loop μ-loop
-slice-aggregate-fill-row-3 c =
-    let turn = turn-of (docs-of (least-doc-of (c .before .before .before .before))) in
-    sym (turn .loop .inv .0 .flags-length)
-
-fill-row-requires : tie.Need-fill-row-requires Inv-loop μ-loop
-fill-row-requires c κs =
-    let brought = c .before .before .before .before in
-    let least-doc = least-doc-of brought in
-    let docs = docs-of least-doc in
-    let turn = turn-of docs in
-    let start = start-of turn in
+    let seen = c .before .before .before .before .before .before in
+    let start = start-of (turn-of seen) in
     let p = start .pre in
-    let i = turn .loop .inv .0 in
-    let room : sizes (now (start .args .plan)) .vars ≤ length (docs .next-docs .last .1 .1 .1 .1 .1 .1 .0) = let a = i .ats-room in let b = docs .next-docs .ensures .0 in omega arith in
-    let e = p .1 .0 in
-    let m = visit-few _ _ _ _ (p .0) in
-    let d = docs .next-docs .ensures .1 .0 in
-    let f = i .docs-length in
-    let g = i .flags-length in
-    let r = i .row-length in
-    let most = m .0 in
-    let wide = m .1 in
-    (p .1 .0, (omega arith, (omega arith, (omega arith, λ k h. visit-ready _ _ _ _ (start .pre .0) (start .args .start) (now (start .args .out)) _ _ _ _ (stand (least-doc)) (least (least-doc)) (inside (brought .before)) (brought .bring-starts .result) (starts-at (brought) .0) (starts-at (brought) .1) room k (omega arith)))))
+    visit-done _ _ _ _ (p .0) _ _ (p .1 .1 .1 .0) (p .1 .1 .1 .1 .1 .1) _ _ _ (reached seen) (c .tally .result) (c .tally .ensures) (c .before .if1 .taken)
 
 add-from : tie.Need-add-from Inv-loop μ-loop
-add-from c =
-    let brought = brought-of (c .before .before) in
-    let l = inside (brought .before) in omega arith
-
-slice-aggregate-answer-of : tie.Need-slice-aggregate-answer-of Inv-loop μ-loop
-slice-aggregate-answer-of c =
-    let filled = c .before .before .before in
-    let turn = turn-of (docs-of (least-doc-of (brought-of filled))) in
-    sym (filled .fill-row .ensures .1 .0 ∙ turn .loop .inv .0 .flags-length)
-
-answer-of-requires : tie.Need-answer-of-requires Inv-loop μ-loop
-answer-of-requires c κs =
-    let filled = c .before .before .before in
-    let least-doc = least-doc-of (brought-of filled) in
-    let turn = turn-of (docs-of least-doc) in
-    let start = start-of turn in
-    let p = start .pre in
-    let m = visit-few _ _ _ _ (p .0) .0 in
-    let f = filled .fill-row .ensures .1 .0 in
-    let g = turn .loop .inv .0 .flags-length in
-    ((now (start .args .volume), p .0 .accepted), (omega arith, λ k h. rw (filled .fill-row .ensures .1 .1 .1 k h) (flag-small (found (listsOf (now (start .args .volume))) (least-doc .least-of .result) (patternAt (now (start .args .plan)) k)))))
+add-from c = let l = inside c in omega arith
 
 loop-less : tie.Need-loop-less Inv-loop μ-loop
 loop-less c =
-    let brought = brought-of (filled-of (c .before)) in
-    let least-doc = least-doc-of brought in
-    let f = from-doc (least-doc) in let l = inside (brought .before) in omega arith
+    let found = c .before .before .before in
+    let l = inside found in
+    let f = seen-of found .visit .ensures .later in
+    omega arith
 
 loop-again : tie.Need-loop-again Inv-loop μ-loop
 loop-again c =
-    let filled = filled-of (c .before) in
-    let brought = brought-of filled in
-    let least-doc = least-doc-of brought in
-    let docs = docs-of least-doc in
-    let turn = turn-of docs in
+    let found = c .before .before .before in
+    let seen = seen-of found in
+    let turn = turn-of seen in
     let start = start-of turn in
-    let p = start .pre in
-    let i = turn .loop .inv .0 in
-    let room : sizes (now (start .args .plan)) .vars ≤ length (docs .next-docs .last .1 .1 .1 .1 .1 .1 .0) = let a = i .ats-room in let b = docs .next-docs .ensures .0 in omega arith in
-    (visit-passed _ _ _ _ (p .0) _ _ (docs .next-docs .last .1 .1 .1 .1 .1 .1 .0) (docs .next-docs .last .1 .1 .1 .1 .1 .1 .1 .1 .0) (turn .loop .from) (least-doc .least-of .result) (stand (least-doc)) (least (least-doc)) (i .progress .from) (inside (brought .before)) room (docs .next-docs .ensures .1 .0 ∙ i .docs-length) (filled .fill-row .last .1 .1 .1 .1 .1 .1 .1 .1 .1 .0) (filled .fill-row .last .1 .1 .1 .1 .1 .1 .1 .1 .1 .1 .0) (filled .fill-row .ensures .0 ∙ i .row-length) (filled .fill-row .ensures .1 .0 ∙ i .flags-length) (brought .bring-starts .result) (starts-at (brought) .0) (starts-at (brought) .1) (turn .loop .rows) (turn .loop .out) (i .progress) (visit-true _ _ (filled .fill-row .last .1 .1 .1 .1 .1 .1 .1 .1 .1 .1 .0) (least-doc .least-of .result) _ (c .before .answer-of .ensures) (filled .fill-row .ensures .1 .1 .1) ∙ not-true _ (c .if2 .taken)), docs .next-docs .ensures .0 ∙ turn .loop .inv .1)
+    (visiting-part _ _ _ _ _ _ _ _ _ _ _ _ _ (many start) (visit-passed _ _ _ _ _ _ _ _ _ _ (seen .visit .ensures) _ _ (turn .loop .inv .0 .progress) (inside found) (not-true _ (c .if2 .taken))), (part-length (turn .loop .docs) (seen .visit .last .1 .1 .1 .1 .1 .1 .0) (length (now (start .args .table)) / 4) 8 (docs-size seen) (turn .loop .inv .1 .0), (row-size seen, ats-size seen)))
 
 tally-requires-2 : tie.Need-tally-requires-2 Inv-loop μ-loop
 tally-requires-2 c κs =
-    let least-doc = least-doc-of (brought-of (filled-of (c .before .before))) in
-    let start = start-of (turn-of (docs-of least-doc)) in
-    let p = start .pre in
+    let seen = seen-of (found-of (c .before)) in
+    let p = start-of (turn-of seen) .pre in
     let e = p .1 .1 .0 in
     let r = p .0 .ends-room in
-    (p .0 .accepted, (p .1 .1 .0, (reached (least-doc) .from, (least (least-doc) .most, (p .1 .1 .1 .1 .0, (omega arith, p .1 .1 .1 .1 .1 .0))))))
+    (p .0 .accepted, (e, (omega arith, (reached seen .from, (seen .visit .ensures .most, p .1 .1 .1 .1 .0)))))
 
-cast-t45 : tie.Need-cast-t45 Inv-loop μ-loop
-cast-t45 c =
-    let least-doc = least-doc-of (brought-of (filled-of (c .before .before .before))) in
-    let n = visit-rows _ _ _ _ _ _ _ (reached (least-doc)) in omega arith
+cast-t34 : tie.Need-cast-t34 Inv-loop μ-loop
+cast-t34 c = let n = visit-rows _ _ _ _ _ _ _ (reached (seen-of (found-of (c .before .before)))) in omega arith
 
 same-length-3 : tie.Need-same-length-3 Inv-loop μ-loop
-same-length-3 c =
-    let docs = docs-of (least-doc-of (brought-of (filled-of (c .before .before .before)))) in
-    let turn = turn-of docs in
-    docs .next-docs .ensures .0 ∙ turn .loop .inv .1
+same-length-3 c = ats-size (seen-of (found-of (c .before .before)))
 
 same-length-4 : tie.Need-same-length-4 Inv-loop μ-loop
 same-length-4 c =
-    let turn = turn-of (docs-of (least-doc-of (brought-of (filled-of (c .before .before .before))))) in
+    let turn = turn-of (seen-of (found-of (c .before .before))) in
     let start = start-of turn in
     same-size (work (now (start .args .volume)) (now (start .args .plan))) (work-even (now (start .args .volume)) (now (start .args .plan))) (turn .loop .inv .0 .progress)
 
 returns-2 : tie.Need-returns-2 Inv-loop μ-loop
 returns-2 c =
-    let answered = c .before .before .before in
-    let filled = filled-of answered in
-    let brought = brought-of filled in
-    let least-doc = least-doc-of brought in
-    let start = start-of (turn-of (docs-of least-doc)) in
-    let p = start .pre in visit-more _ _ _ _ (p .0) _ _ (p .1 .1 .1 .0) (start .args .patterns) (start .args .vars) (p .1 .0) (p .1 .1 .0) (p .1 .1 .1 .1 .1 .1 .1) _ _ _ (reached (least-doc)) (c .tally2 .result) (c .tally2 .ensures) (inside (brought .before)) (visit-true _ _ (filled .fill-row .last .1 .1 .1 .1 .1 .1 .1 .1 .1 .1 .0) (least-doc .least-of .result) _ (answered .answer-of .ensures) (filled .fill-row .ensures .1 .1 .1) ∙ not-false _ (c .before .before .if2 .left)) (c .before .if3 .taken)
+    let found = found-of (c .before .before) in
+    let seen = seen-of found in
+    let turn = turn-of seen in
+    let start = start-of turn in
+    let p = start .pre in
+    visit-more _ _ _ _ (p .0) _ _ (p .1 .1 .1 .0) (p .1 .1 .1 .1 .1 .1) _ _ _ (reached seen) (c .tally2 .result) (c .tally2 .ensures) (inside found) (seen .visit .ensures .truth (inside found) ∙ not-false _ (c .before .before .if2 .left)) _ (wide (words-of turn)) (c .before .if3 .taken)
 
 slice-aggregate-put-row : tie.Need-slice-aggregate-put-row Inv-loop μ-loop
-slice-aggregate-put-row c =
-    let filled = filled-of (c .before .before .before) in
-    let turn = turn-of (docs-of (least-doc-of (brought-of filled))) in
-    sym (filled .fill-row .ensures .0 ∙ turn .loop .inv .0 .row-length)
+slice-aggregate-put-row c = sym (row-size (seen-of (found-of (c .before .before))))
 
 mul-put-row : tie.Need-mul-put-row Inv-loop μ-loop
 mul-put-row c =
-    let turn = turn-of (docs-of (least-doc-of (brought-of (filled-of (c .before .before .before .before))))) in
+    let turn = turn-of (seen-of (found-of (c .before .before .before))) in
     let start = start-of turn in
-    let p = start .pre in
-    let m = visit-few _ _ _ _ (p .0) .1 in
-    let x = p .1 .0 in
-    let y = p .1 .1 .0 in
+    let m = few start .1 in
     let n = visit-rows _ _ _ _ _ _ _ (turn .loop .inv .0 .progress) in
-    let s = visit-words (turn .loop .rows) (1 + start .args .patterns + start .args .vars) n (omega arith) in
+    let w = wide (words-of turn) in
+    let s = visit-words (turn .loop .rows) (words-of turn .row-words .result) n (omega arith) in
     omega arith
 
 put-row-requires : tie.Need-put-row-requires Inv-loop μ-loop
 put-row-requires c κs =
-    let filled = filled-of (c .before .before .before .before) in
-    let turn = turn-of (docs-of (least-doc-of (brought-of filled))) in
+    let seen = seen-of (found-of (c .before .before .before)) in
+    let turn = turn-of seen in
     let start = start-of turn in
-    let p = start .pre in
-    let m = visit-few _ _ _ _ (p .0) .1 in
-    let x = p .1 .0 in
-    let y = p .1 .1 .0 in
-    let r = filled .fill-row .ensures .0 in
-    let s = turn .loop .inv .0 .row-length in
-    (omega arith, visit-room _ _ _ _ (p .0) _ _ _ _ (turn .loop .rows) (start .args .patterns) (start .args .vars) (p .1 .0) (p .1 .1 .0) (turn .loop .inv .0 .progress) (c .before .before .if3 .left))
+    let m = few start .1 in
+    let w = wide (words-of turn) in
+    let r = row-size seen in
+    (omega arith, visit-room _ _ _ _ _ _ (turn .loop .rows) _ w (turn .loop .inv .0 .progress) (c .before .before .if3 .left))
 
 add-rows : tie.Need-add-rows Inv-loop μ-loop
-add-rows c =
-    let least-doc = least-doc-of (brought-of (filled-of (c .before .before .before .before .before .before .before))) in
-    let n = visit-rows _ _ _ _ _ _ _ (reached (least-doc)) in omega arith
+add-rows c = let n = visit-rows _ _ _ _ _ _ _ (reached (seen-of (found-of (c .before .before .before .before .before .before)))) in omega arith
 
 loop-less-2 : tie.Need-loop-less-2 Inv-loop μ-loop
 loop-less-2 c =
-    let brought = brought-of (filled-of (c .before .before .before .before .before .before .before)) in
-    let least-doc = least-doc-of brought in
-    let f = from-doc (least-doc) in let l = inside (brought .before) in omega arith
+    let found = found-of (c .before .before .before .before .before .before) in
+    let l = inside found in
+    let f = seen-of found .visit .ensures .later in
+    omega arith
 
 loop-again-2 : tie.Need-loop-again-2 Inv-loop μ-loop
 loop-again-2 c =
-    let answered = c .before .before .before .before .before .before .before in
-    let filled = filled-of answered in
-    let brought = brought-of filled in
-    let least-doc = least-doc-of brought in
-    let docs = docs-of least-doc in
-    let turn = turn-of docs in
+    let found = found-of (c .before .before .before .before .before .before) in
+    let seen = seen-of found in
+    let turn = turn-of seen in
     let start = start-of turn in
-    let p = start .pre in
-    let i = turn .loop .inv .0 in
-    let room : sizes (now (start .args .plan)) .vars ≤ length (docs .next-docs .last .1 .1 .1 .1 .1 .1 .0) = let a = i .ats-room in let b = docs .next-docs .ensures .0 in omega arith in
-    (visit-put _ _ _ _ (p .0) _ _ (docs .next-docs .last .1 .1 .1 .1 .1 .1 .0) (docs .next-docs .last .1 .1 .1 .1 .1 .1 .1 .1 .0) (turn .loop .from) (least-doc .least-of .result) (stand (least-doc)) (least (least-doc)) (i .progress .from) (inside (brought .before)) room (docs .next-docs .ensures .1 .0 ∙ i .docs-length) (filled .fill-row .last .1 .1 .1 .1 .1 .1 .1 .1 .1 .0) (filled .fill-row .last .1 .1 .1 .1 .1 .1 .1 .1 .1 .1 .0) (filled .fill-row .ensures .0 ∙ i .row-length) (filled .fill-row .ensures .1 .0 ∙ i .flags-length) (brought .bring-starts .result) (starts-at (brought) .0) (starts-at (brought) .1) (start .args .patterns) (start .args .vars) (p .1 .0) (p .1 .1 .0) (turn .loop .rows) (turn .loop .out) (i .progress) (visit-true _ _ (filled .fill-row .last .1 .1 .1 .1 .1 .1 .1 .1 .1 .1 .0) (least-doc .least-of .result) _ (answered .answer-of .ensures) (filled .fill-row .ensures .1 .1 .1) ∙ not-false _ (c .before .before .before .before .before .before .if2 .left)) (c .before .before .before .before .before .if3 .left) (filled .fill-row .last .1 .1 .1 .1 .1 .1 .1 .1 .1 .0) (c .before .before .put-row .last .1 .1 .0) (filled .fill-row .ensures .1 .1 .0) (c .before .before .put-row .ensures), docs .next-docs .ensures .0 ∙ turn .loop .inv .1)
+    (visiting-part _ _ _ _ _ _ _ _ _ _ _ _ _ (many start) (visit-put _ _ _ _ _ _ _ _ _ _ (seen .visit .ensures) _ _ (turn .loop .inv .0 .progress) (inside found) (not-false _ (c .before .before .before .before .before .before .if2 .left)) _ (wide (words-of turn)) (c .before .before .before .before .before .if3 .left) _ (c .before .before .put-row .ensures)), (part-length (turn .loop .docs) (seen .visit .last .1 .1 .1 .1 .1 .1 .0) (length (now (start .args .table)) / 4) 8 (docs-size seen) (turn .loop .inv .1 .0), (row-size seen, ats-size seen)))
 
 pub list-docs-spec : {M : Type 1} → statement M
 list-docs-spec =
@@ -354,33 +248,27 @@ list-docs-spec =
     (tie.spec
     Inv-loop
     μ-loop
-    add-width
-    add-width-2
+    cast-row-words
+    cast-row-words-2
+    row-words-requires
     div-room
-    starts-of-requires
     has-samepara-requires
+    starts-of-requires
     loop-holds
-    slice-aggregate-next-docs
-    next-docs-requires
-    slice-aggregate-least-of
-    least-of-requires
+    array-borrow-prefix-docs
+    slice-aggregate-visit
+    slice-aggregate-visit-2
+    visit-requires
     tally-requires
     cast-t33
     same-length
     same-length-2
     returns
-    bring-starts-requires
-    slice-aggregate-fill-row
-    slice-aggregate-fill-row-2
-    slice-aggregate-fill-row-3
-    fill-row-requires
     add-from
-    slice-aggregate-answer-of
-    answer-of-requires
     loop-less
     loop-again
     tally-requires-2
-    cast-t45
+    cast-t34
     same-length-3
     same-length-4
     returns-2

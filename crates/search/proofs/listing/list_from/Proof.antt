@@ -2,16 +2,52 @@
 use borrow.Author.Needs.{needs}
 use Rattle.search.proofs.listing.list_from.Statement.{statement}
 use Rattle.search.proofs.listing.list_from.Tie as tie
+use Prim.Native.Nat.{ℕ, _+_, _*_, _≤_}
 use native.Mathlib.Omega.{arith}
-use mathlib.Core.Path.{refl}
+use mathlib.Core.Path.{_≡_, refl, sym, _∙_}
+use lib.ListN.{length, take}
+use lib.Seq.{length-take-le}
 use denote.Ref.{now}
+use Rattle.plan.specs.Check.{sizes}
 use Rattle.plan.proofs.Laws.Accepted.{given}
+use Rattle.search.proofs.Laws.Seen.{tabled-part, cursors-part}
+
+-- the places that the answers speak of, each from the one behind it
+abbrev start-of : tie.After-lay-out → tie.Start
+start-of c = c .before .before .before .before .before
+
+abbrev laid-of : tie.After-set-cursors → tie.After-lay-out
+laid-of c = c .before .before .before .before .before
+
+abbrev placed-of : tie.After-list-docs-arg → tie.After-set-cursors
+placed-of c = c .before .before .before .before .before .before .before
+
+-- a plan's patterns and variables are few
+few : (c : tie.Start) → (c .args .patterns ≤ 8) × (c .args .vars ≤ 51)
+few c =
+    let g = given _ _ (c .pre .0) in
+    let e = c .pre .1 .0 in
+    let f = c .pre .1 .1 .0 in
+    let m = g .most-patterns in
+    let n = g .most-vars in
+    (omega arith, omega arith)
+
+-- the arrays keep their lengths
+table-size : (c : tie.After-lay-out) → length (c .lay-out .last .1 .1 .0) ≡ 32
+table-size c = c .lay-out .kept .1 .1 .0
+
+firsts-size : (c : tie.After-set-cursors) → length (c .set-cursors .last .1 .1 .1 .1 .1 .0) ≡ 51
+firsts-size c = c .set-cursors .kept .1 .1 .1 .1 .1 .0
 
 slice-aggregate-lay-out : tie.Need-slice-aggregate-lay-out
 slice-aggregate-lay-out c = search needs
 
 lay-out-requires : tie.Need-lay-out-requires
-lay-out-requires c κs = let p = c .before .before .before .before .pre in let e = p .1 .0 in let m = given _ _ (p .0) .most-patterns in ((now (c .before .before .before .before .args .volume), p .0), (p .1 .0, omega arith))
+lay-out-requires c κs =
+    let start = c .before .before .before .before in
+    let p = start .pre in
+    let m = few start .0 in
+    ((now (start .args .volume), p .0), (p .1 .0, omega arith))
 
 slice-aggregate-set-cursors : tie.Need-slice-aggregate-set-cursors
 slice-aggregate-set-cursors c = search needs
@@ -23,35 +59,89 @@ slice-aggregate-set-cursors-3 : tie.Need-slice-aggregate-set-cursors-3
 slice-aggregate-set-cursors-3 c = search needs
 
 set-cursors-requires : tie.Need-set-cursors-requires
-set-cursors-requires c κs = let p = c .before .before .before .before .before .before .before .before .before .pre in
-    let e = p .1 .0 in
-    let m = given _ _ (p .0) .most-patterns in
-    let t = c .before .before .before .before .lay-out .kept .1 .1 .0 in
-    (p .0, (p .1 .0, (c .before .before .before .before .lay-out .ensures, (omega arith, (p .1 .1 .1 .0, (omega arith, omega arith))))))
+set-cursors-requires c κs =
+    let laid = c .before .before .before .before in
+    let start = start-of laid in
+    let p = start .pre in
+    let m = few start .0 in
+    let t = table-size laid in
+    (p .0, (p .1 .0, (laid .lay-out .ensures, (omega arith, (p .1 .1 .1 .0, (omega arith, omega arith))))))
+
+mul-table : tie.Need-mul-table
+mul-table c = let m = few (c .before .before .before .before .before .before .before .before .before .before .before .before) .0 in omega arith
+
+array-share-prefix-table : tie.Need-array-share-prefix-table
+array-share-prefix-table c =
+    let laid = c .before .before .before .before .before .before .before in
+    let m = few (start-of laid) .0 in
+    let t = table-size laid in
+    omega arith
 
 slice-aggregate-list-docs : tie.Need-slice-aggregate-list-docs
-slice-aggregate-list-docs c = search needs
+slice-aggregate-list-docs c =
+    let laid = c .before .before .before .before .before .before .before .before in
+    let start = start-of laid in
+    let m = few start .0 in
+    let t = table-size laid in
+    sym (length-take-le (4 * start .args .patterns) _ (omega arith))
+
+array-share-prefix-firsts : tie.Need-array-share-prefix-firsts
+array-share-prefix-firsts c =
+    let placed = c .before .before .before in
+    let m = few (start-of (laid-of placed)) .1 in
+    let t = firsts-size placed in
+    omega arith
 
 slice-aggregate-list-docs-2 : tie.Need-slice-aggregate-list-docs-2
-slice-aggregate-list-docs-2 c = search needs
+slice-aggregate-list-docs-2 c =
+    let placed = c .before .before .before .before in
+    let start = start-of (laid-of placed) in
+    let m = few start .1 in
+    let t = firsts-size placed in
+    sym (length-take-le (start .args .vars) _ (omega arith))
 
 slice-aggregate-list-docs-3 : tie.Need-slice-aggregate-list-docs-3
 slice-aggregate-list-docs-3 c = search needs
 
+array-borrow-prefix-ats : tie.Need-array-borrow-prefix-ats
+array-borrow-prefix-ats c =
+    let placed = c .before .before .before .before .before in
+    let m = few (start-of (laid-of placed)) .1 in
+    let t = firsts-size placed in
+    omega arith
+
 slice-aggregate-list-docs-4 : tie.Need-slice-aggregate-list-docs-4
-slice-aggregate-list-docs-4 c = search needs
+slice-aggregate-list-docs-4 c =
+    let placed = c .before .before .before .before .before .before in
+    let start = start-of (laid-of placed) in
+    let m = few start .1 in
+    let t = firsts-size placed in
+    sym (length-take-le (start .args .vars) _ (omega arith))
 
 list-docs-requires : tie.Need-list-docs-requires
-list-docs-requires c κs = let p = c .before .before .before .before .before .before .before .before .before .before .before .before .before .before .before .before .before .pre in
+list-docs-requires c κs =
+    let placed = placed-of c in
+    let laid = laid-of placed in
+    let start = start-of laid in
+    let p = start .pre in
     let e = p .1 .0 in
-    let w = p .1 .1 .0 in
-    let m = given _ _ (p .0) .most-patterns in
-    let n = given _ _ (p .0) .most-vars in
-    let t = c .before .before .before .before .before .before .before .before .before .before .before .before .lay-out .kept .1 .1 .0 in
-    let f = c .before .before .before .before .before .before .before .set-cursors .kept .1 .1 .1 .1 .1 .0 in
-    let g = c .before .before .before .before .before .before .before .set-cursors .kept .1 .1 .1 .1 .1 .1 .0 in (
-      record { accepted = p .0; tabled = c .before .before .before .before .before .before .before .before .before .before .before .before .lay-out .ensures; table-room = omega arith; ends-room = omega arith },
-      (p .1 .0, (p .1 .1 .0, (p .1 .1 .1 .0, (omega arith, (c .before .before .before .before .before .before .before .set-cursors .ensures, (refl, p .1 .1 .1 .1)))))),
+    let f = p .1 .1 .0 in
+    let m = few start in
+    let most = m .0 in
+    let many = m .1 in
+    let t = table-size laid in
+    let r = firsts-size placed in
+    let g = placed .set-cursors .kept .1 .1 .1 .1 .1 .1 .0 in
+    let table : length (take (4 * start .args .patterns) (laid .lay-out .last .1 .1 .0)) ≡ 4 * start .args .patterns = length-take-le (4 * start .args .patterns) _ (omega arith) in
+    let firsts : length (take (start .args .vars) (placed .set-cursors .last .1 .1 .1 .1 .1 .0)) ≡ start .args .vars = length-take-le (start .args .vars) _ (omega arith) in
+    let size : 4 * start .args .patterns ≡ 4 * sizes (now (start .args .plan)) .patterns = omega arith in (
+      record {
+        accepted = p .0;
+        tabled = tabled-part _ _ _ size (laid .lay-out .ensures);
+        table-room = omega arith;
+        ends-room = omega arith;
+      },
+      (table ∙ size, (firsts ∙ f, (p .1 .1 .1 .0, (cursors-part _ _ _ (placed .set-cursors .last .1 .1 .1 .1 .1 .0) (placed .set-cursors .last .1 .1 .1 .1 .1 .1 .0) _ f (placed .set-cursors .ensures), (refl, omega arith))))),
     )
 
 same-length : tie.Need-same-length
@@ -70,9 +160,13 @@ list-from-spec =
     slice-aggregate-set-cursors-2
     slice-aggregate-set-cursors-3
     set-cursors-requires
+    mul-table
+    array-share-prefix-table
     slice-aggregate-list-docs
+    array-share-prefix-firsts
     slice-aggregate-list-docs-2
     slice-aggregate-list-docs-3
+    array-borrow-prefix-ats
     slice-aggregate-list-docs-4
     list-docs-requires
     same-length

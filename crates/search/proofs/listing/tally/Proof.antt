@@ -1,9 +1,9 @@
--- `listing::tally` meets its contract. The loop's invariant: `sum` is the postings of the first x variables (`Tallied`). The measure is what is left of
--- the variables. Assumes nothing.
+-- The loop's invariant: `sum` is the postings of the first x variables (`Tallied`). The measure is what is left of
+-- the variables.
 use native.Mathlib.Omega.{arith}
 use Prim.Native.Nat.{_-_, _*_}
 use mathlib.Core.Path.{_≡_, ap}
-use lib.ListN.{getD}
+use lib.ListN.{length, getD}
 use denote.Ref.{now}
 use Rattle.plan.proofs.Laws.Accepted.{given}
 use Rattle.matcher.specs.declared.cursor.Cursor.{Cursor}
@@ -13,10 +13,10 @@ use Rattle.search.proofs.listing.tally.Statement.{statement}
 use Rattle.search.proofs.listing.tally.Tie as tie
 
 abbrev Inv-loop : tie.InvT-loop
-Inv-loop volume plan vars start doc ats ends sum₀ x₀ sum x = Tallied volume plan start doc sum x
+Inv-loop volume plan start doc ats ends sum₀ x₀ sum x = Tallied volume plan start doc sum x
 
 abbrev μ-loop : tie.MeasureT-loop
-μ-loop volume plan vars start doc ats ends sum₀ x₀ sum x = vars - x
+μ-loop volume plan start doc ats ends sum₀ x₀ sum x = length ats - x
 
 -- the places that the answers speak of, each from the one behind it
 abbrev start-of : tie.At-loop Inv-loop μ-loop → tie.Start Inv-loop μ-loop
@@ -31,7 +31,7 @@ turned : (c : tie.In-loop Inv-loop μ-loop) → let start = start-of (c .before)
 turned c =
     let start = start-of (c .before) in
     let s = start in
-    turn (now (s .args .volume)) (now (s .args .plan)) (s .pre .0) (s .args .start) (s .args .doc) (s .pre .1 .1 .0) (now (s .args .ats)) (now (s .args .ends)) (s .pre .1 .1 .1 .1 .1 .1) (c .before .loop .x) (omega arith)
+    turn (now (s .args .volume)) (now (s .args .plan)) (s .pre .0) (s .args .start) (s .args .doc) (s .pre .1 .1 .1 .0) (now (s .args .ats)) (now (s .args .ends)) (s .pre .1 .1 .1 .1 .1) (c .before .loop .x) (let e = s .pre .1 .0 in omega arith)
 
 -- where its cursor comes to
 at-is : (c : tie.After-struct-known Inv-loop μ-loop) → let turn = turn-of (c .before .before) in let start = start-of turn in
@@ -44,11 +44,11 @@ loop-holds c =
     let a = start .args in
     tallied-first (now (a .volume)) (now (a .plan)) (a .start) (a .doc)
 
-mul-t13 : tie.Need-mul-t13 Inv-loop μ-loop
-mul-t13 c = omega arith
+mul-t11 : tie.Need-mul-t11 Inv-loop μ-loop
+mul-t11 c = omega arith
 
-shared-slice-read-t15 : tie.Need-shared-slice-read-t15 Inv-loop μ-loop
-shared-slice-read-t15 c = omega arith
+shared-slice-read-t14 : tie.Need-shared-slice-read-t14 Inv-loop μ-loop
+shared-slice-read-t14 c = omega arith
 
 mul-sum : tie.Need-mul-sum Inv-loop μ-loop
 mul-sum c = omega arith
@@ -79,6 +79,7 @@ add-sum c =
     let t = turned (sought .before .before .before) in
     let e = at-is c in
     let g = given _ _ (start .pre .0) .most-vars in
+    let n = start .pre .1 .0 in
     omega arith
 
 add-x : tie.Need-add-x Inv-loop μ-loop
@@ -94,12 +95,13 @@ loop-again c =
     let start = start-of turn in
     let l = turn .loop in
     let a = start .args in
-    tallied-next (now (a .volume)) (now (a .plan)) (a .start) (a .doc) (getD (now (a .ats)) (l .x) 0) (getD (now (a .ends)) (l .x) 0) (l .sum) (l .x) (c .before .before .seek .result .at) (l .inv) (omega arith) (turned (sought .before .before .before)) (at-is c)
+    tallied-next (now (a .volume)) (now (a .plan)) (a .start) (a .doc) (getD (now (a .ats)) (l .x) 0) (getD (now (a .ends)) (l .x) 0) (l .sum) (l .x) (c .before .before .seek .result .at) (l .inv) (let e = start .pre .1 .0 in omega arith) (turned (sought .before .before .before)) (at-is c)
 
 cast-result : tie.Need-cast-result Inv-loop μ-loop
 cast-result c =
     let start = start-of (c .before) in
     let g = given _ _ (start .pre .0) .most-vars in
+    let n = start .pre .1 .0 in
     omega arith
 
 returns : tie.Need-returns Inv-loop μ-loop
@@ -107,7 +109,7 @@ returns c =
     let start = start-of (c .before) in
     let l = c .before .loop in
     let a = start .args in
-    tallied-done (now (a .volume)) (now (a .plan)) (a .start) (a .doc) (l .sum) (l .x) (l .inv) (omega arith)
+    tallied-done (now (a .volume)) (now (a .plan)) (a .start) (a .doc) (l .sum) (l .x) (l .inv) (let e = start .pre .1 .0 in omega arith)
 
 pub tally-spec : {M : Type 1} → statement M
 tally-spec =
@@ -116,8 +118,8 @@ tally-spec =
     Inv-loop
     μ-loop
     loop-holds
-    mul-t13
-    shared-slice-read-t15
+    mul-t11
+    shared-slice-read-t14
     mul-sum
     shared-slice-read-sum
     seek-requires

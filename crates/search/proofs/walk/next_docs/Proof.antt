@@ -6,17 +6,17 @@ use native.Mathlib.Omega.{arith}
 use mathlib.Core.Path.{_≡_}
 use mathlib.Core.Bool.{true}
 use mathlib.Core.Logic.{_⊎_, inl, inr, ⊎-elim}
-use lib.ListN.{getD}
+use lib.ListN.{length, getD}
 use borrow.Author.Tests.{not-true, not-false}
 use denote.Ref.{now}
 use Rattle.plan.specs.Check.{sizes}
 use Rattle.search.proofs.Laws.Walk.{walk-patterns, walk-within, walk-few, walk-stretch, Bringing, bringing-first, bringing-kept, bringing-due, bringing-next}
 
 abbrev Inv-loop : tie.InvT-loop
-Inv-loop volume plan table patterns fresh doc ats₀ ends docs₀ k₀ ats docs k = Bringing volume plan ends doc fresh ats₀ docs₀ ats docs k
+Inv-loop volume plan table fresh doc ats₀ ends docs₀ k₀ ats docs k = Bringing volume plan ends doc fresh ats₀ docs₀ ats docs k
 
 abbrev μ-loop : tie.MeasureT-loop
-μ-loop volume plan table patterns fresh doc ats₀ ends docs₀ k₀ ats docs k = patterns - k
+μ-loop volume plan table fresh doc ats₀ ends docs₀ k₀ ats docs k = length docs₀ - k
 
 -- the places that the answers speak of, each from the one behind it
 abbrev start-of : tie.At-loop Inv-loop μ-loop → tie.Start Inv-loop μ-loop
@@ -37,12 +37,12 @@ inside : (c : tie.Joined1 Inv-loop μ-loop) → let start = start-of (c .before 
     c .before .before .loop .k < sizes (now (start .args .plan)) .patterns
 inside c =
     let start = start-of (c .before .before) in
-    let p = start .pre .1 .0 in let t = c .before .loop-test .taken in omega arith
+    let p = start .pre .1 .0 in let l = c .before .before .loop .inv .docs-length in let t = c .before .loop-test .taken in omega arith
 
 loop-holds : tie.Need-loop-holds Inv-loop μ-loop
 loop-holds c =
     let start = c .before .before .before .before .before .before in
-    let a = start in let e = a .pre .1 .0 in bringing-first _ _ _ _ _ _ _ (λ k h. a .pre .1 .1 .1 .1 .1 k (omega arith))
+    bringing-first _ _ _ _ _ _ _ (start .pre .1 .1 .1 .1)
 
 mul-if2 : tie.Need-mul-if2 Inv-loop μ-loop
 mul-if2 c = omega arith
@@ -51,13 +51,13 @@ slice-read-if2 : tie.Need-slice-read-if2 Inv-loop μ-loop
 slice-read-if2 c =
     let turn = c .before .before .before in
     let start = start-of turn in
-    let a = start in let r = a .pre .1 .1 .1 .0 in let l = turn .loop .inv .docs-length in omega arith
+    let r = start .pre .1 .0 in let l = turn .loop .inv .docs-length in omega arith
 
 add-k : tie.Need-add-k Inv-loop μ-loop
 add-k c = omega arith
 
 loop-less : tie.Need-loop-less Inv-loop μ-loop
-loop-less c = omega arith
+loop-less c = let l = c .before .before .before .before .loop .inv .docs-length in omega arith
 
 loop-again : tie.Need-loop-again Inv-loop μ-loop
 loop-again c =
@@ -66,6 +66,7 @@ loop-again c =
     let a = start in
     let l = turn .loop in
     let e = a .pre .1 .0 in
+    let n = l .inv .docs-length in
     bringing-kept _ _ _ _ _ _ _ (l .ats) (l .docs) (l .k) (l .inv) (omega arith) (not-true (a .args .fresh) (c .before .before .if1 .taken)) (c .if2 .taken)
 
 mul-first : tie.Need-mul-first Inv-loop μ-loop
@@ -116,7 +117,7 @@ align-requires c κs =
     let n = l .inv .ats-length in
     let r = a .pre .1 .1 .0 in
     let e = w .ends-room in
-    (omega arith, (omega arith, (f .0, (f .1, (a .pre .1 .1 .1 .1 .0, walk-stretch _ _ _ _ w (l .k) i (l .ats) (a .args .doc) (bringing-due _ _ _ _ _ _ _ (l .ats) (l .docs) (l .k) (l .inv) i (due (c .before .before .before))))))))
+    (omega arith, (omega arith, (f .0, (f .1, (a .pre .1 .1 .1 .0, walk-stretch _ _ _ _ w (l .k) i (l .ats) (a .args .doc) (bringing-due _ _ _ _ _ _ _ (l .ats) (l .docs) (l .k) (l .inv) i (due (c .before .before .before))))))))
 
 mul-docs : tie.Need-mul-docs Inv-loop μ-loop
 mul-docs c = omega arith
@@ -126,13 +127,13 @@ slice-write-docs c =
     let aligned = c .before .before in
     let turn = turn-of aligned in
     let start = start-of turn in
-    let a = start in let r = a .pre .1 .1 .1 .0 in let l = turn .loop .inv .docs-length in let i = inside (aligned .before .before .before .before) in omega arith
+    let r = start .pre .1 .0 in let l = turn .loop .inv .docs-length in let i = inside (aligned .before .before .before .before) in omega arith
 
 add-k-2 : tie.Need-add-k-2 Inv-loop μ-loop
 add-k-2 c = omega arith
 
 loop-less-2 : tie.Need-loop-less-2 Inv-loop μ-loop
-loop-less-2 c = omega arith
+loop-less-2 c = let l = turn-of (c .before .before) .loop .inv .docs-length in omega arith
 
 loop-again-2 : tie.Need-loop-again-2 Inv-loop μ-loop
 loop-again-2 c =
@@ -141,8 +142,7 @@ loop-again-2 c =
     let start = start-of turn in
     let a = start in
     let l = turn .loop in
-    let e = a .pre .1 .0 in
-    let r = a .pre .1 .1 .1 .0 in
+    let r = a .pre .1 .0 in
     bringing-next _ _ _ _ _ _ _ (l .ats) (l .docs) (l .k) (l .inv) (inside (aligned .before .before .before .before)) (now (a .args .table)) (a .pre .0) (omega arith) (c .before .before .align .result) (c .before .before .align .last .1 .0) (due (aligned .before .before .before .before)) (c .before .before .align .ensures)
 
 same-length : tie.Need-same-length Inv-loop μ-loop
@@ -155,9 +155,9 @@ returns : tie.Need-returns Inv-loop μ-loop
 returns c =
     let start = start-of (c .before) in
     let l = c .before .loop in
-    let a = start in
-    let e = a .pre .1 .0 in
-    (l .inv .ats-length, (l .inv .docs-length, λ k h. l .inv .brought k (let t = c .loop-test .left in omega arith)))
+    let e = start .pre .1 .0 in
+    let n = l .inv .docs-length in
+    record { ats-length = l .inv .ats-length; docs-length = n; each = λ k h. l .inv .brought k (let t = c .loop-test .left in omega arith) }
 
 pub next-docs-spec : {M : Type 1} → statement M
 next-docs-spec =

@@ -1,0 +1,190 @@
+-- One document of the walk: the next in which a pattern can be found. No contract cites this file.
+--     tabled-part, cursors-part     the parts of what is laid out that the walk is handed
+--     walking-first             before the first document
+--     seen-from, seen-none      it is not in front of the document that was reached; no document between is true
+--     seen-out, seen-in         there is none; its truth, its row, and where the walk goes on
+--     seen-ready                what its row asks
+--     seen-true                 whether it is true
+--     starts-later, starts-sought, starts-stretch     the cursor on list 0
+-- Assumes nothing.
+use Prim.Native.Nat.{ℕ, _+_, _*_, _<_, _≤_}
+use native.Mathlib.Omega.{arith}
+use mathlib.Core.Path.{_≡_, refl, sym, ap, _∙_}
+use mathlib.Core.Bool.{Bool, true, false, true≢false}
+use mathlib.Core.Logic.{_⊎_, ⊎-elim}
+use mathlib.Core.List.{List}
+use lib.ListN.{length, getD, take}
+use lib.Seq.{getD-take}
+use Rattle.seq.proofs.Laws.Tests.{below-or}
+use Rattle.volume.specs.Layout.{listsOf}
+use Rattle.volume.specs.Layout as layout
+use Rattle.volume.proofs.Laws.Check.{good}
+use Rattle.plan.specs.Rows.{rowsOf}
+use Rattle.plan.specs.Patterns.{Pattern, answer}
+use Rattle.plan.specs.Check.{sizes}
+use Rattle.plan.proofs.Laws.Accepted.{given}
+use Rattle.matcher.specs.declared.cursor.Cursor.{Cursor}
+use Rattle.fulltext.specs.Positions.{limit}
+use Rattle.fulltext.specs.Documents.{found, matching, rowIn, workOf, work}
+use Rattle.fulltext.proofs.Laws.Skips.{matching-none}
+use Rattle.matcher.specs.Cursors.{seekFrom, Stretch, listEnd, Stands, listCursor}
+use Rattle.plan.specs.Inner.Outline.{Tabled}
+use Rattle.matcher.specs.Tables.{varAt, Placed, Cursors}
+use Rattle.matcher.specs.Settling.{Candidate, Ready}
+use Rattle.matcher.proofs.Laws.Cursors.{seek-ge, seek-le, seek-below}
+use Rattle.matcher.proofs.Laws.Volume.{list-stretch}
+use Rattle.plan.proofs.Laws.Outline.{vars-within}
+use Rattle.search.specs.declared.walk.Seen.{Seen}
+use Rattle.plan.specs.Inner.Stack.{Flags}
+use Rattle.search.specs.Inner.Walk.{Stood, Pending, Brought, LeastDoc, Walks, Walking, Visited}
+use Rattle.search.proofs.Laws.Tally.{var-there}
+
+-- the words of a row, by the plan's sizes
+pub work-words : (v p : List ℕ) → work v p .width ≡ 1 + sizes p .patterns + sizes p .vars
+unfolding work sizes
+work-words v p = refl
+
+-- a cursor that has passed documents below one alone has passed those below a later one alone
+pub starts-later : (v : List ℕ) (l from doc i : ℕ) → from ≤ doc → Stands v l from i → Stands v l doc i
+starts-later v l from doc i h s = record { from = s .from; to = s .to; behind = λ j a b. let t = s .behind j a b in omega arith }
+
+-- a cursor on list 0 that seeks a later document
+pub starts-sought : (v : List ℕ) (from doc i : ℕ) → from ≤ doc → Stands v 0 from i → Stands v 0 doc (seekFrom v (doc * 65536) i (listEnd v 0))
+starts-sought v from doc i h s = record {
+  from = let f = s .from in let g = seek-ge v (doc * 65536) i (listEnd v 0) in omega arith;
+  to = seek-le v (doc * 65536) i (listEnd v 0) (s .to);
+  behind = λ j a b. ⊎-elim (λ (l : j < i). let t = s .behind j a l in omega arith) (λ (l : i ≤ j). seek-below v (doc * 65536) i (listEnd v 0) j l b) (below-or j i);
+}
+
+-- the part of a table that has four numbers for each pattern
+pub tabled-part : (p table : List ℕ) (n : ℕ) → n ≡ 4 * sizes p .patterns → Tabled p table → Tabled p (take n table)
+tabled-part p table n e t k h =
+    rw (getD-take n table (4 * k) 0 (omega arith), getD-take n table (4 * k + 1) 0 (omega arith), getD-take n table (4 * k + 2) 0 (omega arith), getD-take n table (4 * k + 3) 0 (omega arith)) (t k h)
+
+-- the part of the cursors that has one for each variable
+pub cursors-part : (v p : List ℕ) (d : ℕ) (ats ends : List ℕ) (n : ℕ) → n ≡ sizes p .vars → Cursors v p d ats ends → Cursors v p d (take n ats) ends
+cursors-part v p d ats ends n e c x h = rw (getD-take n ats x 0 (omega arith)) (c x h)
+
+-- whether a document is true
+pub seen-true : (v p flags : List ℕ) (doc : ℕ) (r : Bool) → ((found : Pattern → Bool) → Flags found p flags → r ≡ answer found (rowsOf p)) → Flags (found (listsOf v) doc) p flags → work v p .isTrue doc ≡ r
+unfolding work workOf matching
+seen-true v p flags doc r told f = sym (told (found (listsOf v) doc) f)
+
+module _ (v p table ends : List ℕ) (w : Walks v p table ends) where
+  -- the words that the cursor on list 0 has before it
+  pub starts-stretch : (from : ℕ) (c : Cursor) → Stands v 0 from (c .at) → c .end ≡ listEnd v 0 → Stretch v (c .at) (c .end)
+  starts-stretch from c s e =
+      let g = given v p (w .accepted) .volume-accepted in
+      let l = list-stretch v g 0 (good v g .lists-some) in
+      rw e (record { order = s .to; within = l .within; rising = λ i j a b k. let f = s .from in l .rising i j (omega arith) b k })
+
+  pub walking-first : (start : ℕ) (firsts ats docs : List ℕ) → start ≤ limit → sizes p .vars ≤ length firsts → Cursors v p start firsts ends → ats ≡ firsts → length docs ≡ sizes p .patterns
+      → (starts : Cursor) → starts ≡ listCursor v 0 → Walking v p ends ats docs start true starts
+  walking-first start firsts ats docs low room placed same d starts e = record {
+    to = low;
+    docs-length = d;
+    ats-room = rw same room;
+    pending = λ k h. record { due = λ c. stood k h; ahead = λ n. absurd (true≢false n) };
+    starts-at = rw e (record { from = omega arith; to = omega arith; behind = λ j a b. absurd (let z : ⊥ = omega arith in z) });
+    starts-end = ap (λ (c : Cursor). c .end) e;
+  }
+    where
+      stood : (k : ℕ) → k < sizes p .patterns → Stood v p ats ends k start
+      stood k h x a = rw same (stands, q .end-is)
+        where
+          inside : x < sizes p .vars
+          inside = let s = vars-within p k h in omega arith
+
+          q : Placed v p start x (getD firsts x 0) (getD ends x 0)
+          q = placed x inside
+
+          s : Stretch v (layout.start v (varAt p x)) (listEnd v (varAt p x))
+          s = list-stretch v (given v p (w .accepted) .volume-accepted) (varAt p x) (var-there v p (w .accepted) x inside)
+
+          stands : Stands v (varAt p x) start (getD firsts x 0)
+          stands = rw (q .at-is) (record {
+            from = seek-ge v (start * 65536) (layout.start v (varAt p x)) (listEnd v (varAt p x));
+            to = seek-le v (start * 65536) (layout.start v (varAt p x)) (listEnd v (varAt p x)) (s .order);
+            behind = λ j b c. seek-below v (start * 65536) (layout.start v (varAt p x)) (listEnd v (varAt p x)) j b c;
+          })
+
+  module _ (ats₀ docs₀ ats docs : List ℕ) (from doc : ℕ) (b : Brought v p ends ats₀ docs₀ from ats docs) (l : LeastDoc docs (length docs) doc) (size : length docs₀ ≡ sizes p .patterns) where
+    docs-size : length docs ≡ sizes p .patterns
+    docs-size = b .docs-length ∙ size
+
+    -- each pattern's document is this one or a later one
+    least : (k : ℕ) → k < sizes p .patterns → doc ≤ getD docs k 0
+    least k h = l .least k (let s = docs-size in omega arith)
+
+    pub seen-from : from ≤ doc
+    seen-from =
+        ⊎-elim
+        (λ (h : doc < limit). let o = l .one h in let s = docs-size in let c = b .each (o .0) (let i = o .1 .0 in omega arith) .from in let e = o .1 .1 in omega arith)
+        (λ (h : limit ≤ doc). let c = b .each 0 (given v p (w .accepted) .some-patterns) in let f = c .from in let t = c .to in omega arith)
+        (below-or doc limit)
+
+    pub seen-none : (j : ℕ) → from ≤ j → j < doc → work v p .isTrue j ≡ false
+    unfolding work workOf sizes
+    seen-none j f h = matching-none (listsOf v) (rowsOf p) j (λ k i. b .each k i .absent j f (let m = least k i in omega arith))
+
+    -- each pattern in the document
+    here : (k : ℕ) → k < sizes p .patterns → Candidate v p ats ends k doc (getD docs k 0)
+    here k i = let c = b .each k i in record {
+      from = least k i;
+      to = c .to;
+      absent = λ e f h. c .absent e (let z = seen-from in omega arith) h;
+      stands = c .stands;
+      here = c .here;
+    }
+
+    pub seen-ready : doc < limit → (starts : Cursor) → Stands v 0 doc (starts .at) → starts .end ≡ listEnd v 0 → sizes p .vars ≤ length ats → (k : ℕ) → k < sizes p .patterns → Ready v p table ats ends k doc (getD docs k 0) starts
+    seen-ready h starts s e room k i = record {
+      accepted = w .accepted;
+      pattern = i;
+      tabled = w .tabled;
+      table-room = w .table-room;
+      ats-room = room;
+      ends-room = w .ends-room;
+      starts-at = s;
+      starts-end = e;
+      doc = omega arith;
+      candidate = here k i;
+    }
+
+    pub seen-out : (starts : Cursor) (row : List ℕ) → doc ≡ limit → Visited v p ends from (record { doc = doc; matching = false; starts = starts }) ats docs row
+    seen-out starts row e = record {
+      later = seen-from;
+      most = l .most;
+      none = seen-none;
+      truth = λ h. absurd (let z : ⊥ = omega arith in z);
+      shown = λ h. absurd (let z : ⊥ = omega arith in z);
+      walking = λ h. absurd (let z : ⊥ = omega arith in z);
+    }
+
+    pub seen-in : (matching : Bool) (starts : Cursor) (row : List ℕ) → work v p .isTrue doc ≡ matching → take (1 + sizes p .patterns + sizes p .vars) row ≡ rowIn (listsOf v) (rowsOf p) doc
+        → Stands v 0 doc (starts .at) → starts .end ≡ listEnd v 0 → sizes p .vars ≤ length ats → Visited v p ends from (record { doc = doc; matching = matching; starts = starts }) ats docs row
+    unfolding work workOf
+    seen-in matching starts row t shown s e room = record {
+      later = seen-from;
+      most = l .most;
+      none = seen-none;
+      truth = λ h. t;
+      shown = λ h. ap (λ (n : ℕ). take n row) (work-words v p) ∙ shown;
+      walking = λ h. record {
+        to = omega arith;
+        docs-length = docs-size;
+        ats-room = room;
+        pending = pending;
+        starts-at = starts-later v 0 doc (doc + 1) (starts .at) (omega arith) s;
+        starts-end = e;
+      };
+    }
+      where
+        near : (k : ℕ) → k < sizes p .patterns → getD docs k 0 < doc + 1 → Stood v p ats ends k (doc + 1)
+        near k i h x a = let q = here k i .stands x a in (starts-later v (varAt p x) (getD docs k 0) (doc + 1) (getD ats x 0) (omega arith) (q .0), q .1)
+
+        pending : (k : ℕ) → k < sizes p .patterns → Pending v p ats ends k (doc + 1) (getD docs k 0) false
+        pending k i = record {
+          due = λ c. ⊎-elim (λ (f : false ≡ true). absurd (true≢false (sym f))) (near k i) c;
+          ahead = λ n m. let c = here k i in record { from = m; to = c .to; absent = λ j f h. c .absent j (omega arith) h; stands = c .stands; here = c .here };
+        }

@@ -1,0 +1,149 @@
+-- The cursors are brought to the next document, its row is filled, and the plan answers.
+use borrow.Author.Needs.{needs}
+use Rattle.search.proofs.walk.visit.Statement.{statement}
+use Rattle.search.proofs.walk.visit.Tie as tie
+use Prim.Native.Nat.{_<_, _≤_}
+use native.Mathlib.Omega.{arith}
+use mathlib.Core.Path.{_≡_, _∙_}
+use lib.ListN.{length}
+use denote.Ref.{now}
+use Rattle.volume.specs.Layout.{listsOf}
+use Rattle.plan.specs.Check.{sizes}
+use Rattle.plan.specs.Accepted.{patternAt}
+use Rattle.plan.proofs.Laws.Accepted.{given}
+use Rattle.fulltext.specs.Documents.{found}
+use Rattle.search.proofs.Laws.Filling.{flag-small}
+use Rattle.search.proofs.Laws.Seen.{seen-from, seen-ready, seen-true, seen-out, seen-in, starts-later, starts-stretch}
+
+-- the places that the answers speak of, each from the one behind it
+abbrev start-of : tie.After-next-docs → tie.Start
+start-of c = c .before .before .before .before .before .before .before .before .before .before
+
+abbrev docs-of : tie.After-least-of → tie.After-next-docs
+docs-of c = c .before .before .before .before .before .before
+
+abbrev least-of : tie.After-bring-starts → tie.After-least-of
+least-of c = c .before .before .before
+
+abbrev brought-of : tie.After-fill-row → tie.After-bring-starts
+brought-of c = c .before .before .before .before .before
+
+abbrev filled-of : tie.After-answer-of → tie.After-fill-row
+filled-of c = c .before .before .before .before .before
+
+-- it is not in front of the document that was reached
+from-doc : (c : tie.After-least-of) → start-of (docs-of c) .args .walk .from ≤ c .least-of .result
+from-doc c =
+    let docs = docs-of c in
+    let start = start-of docs in
+    seen-from _ _ _ _ (start .pre .0) _ _ _ _ _ _ (docs .next-docs .ensures) (c .least-of .ensures) (start .pre .1 .0 .docs-length)
+
+-- it is a document
+inside : (c : tie.Else1) → c .before .before .least-of .result < 65536
+inside c = let l = c .before .before .least-of .ensures .most in let n = c .if1 .left in omega arith
+
+-- the patterns' documents are as many as the patterns
+size : (c : tie.After-next-docs) → length (c .next-docs .last .1 .1 .1 .1 .1 .1 .1 .0) ≡ sizes (now (start-of c .args .plan)) .patterns
+size c = c .next-docs .ensures .docs-length ∙ start-of c .pre .1 .0 .docs-length
+
+-- there is a cursor for each variable
+room : (c : tie.After-next-docs) → sizes (now (start-of c .args .plan)) .vars ≤ length (c .next-docs .last .1 .1 .1 .1 .1 .0)
+room c = let a = start-of c .pre .1 .0 .ats-room in let e = c .next-docs .ensures .ats-length in omega arith
+
+next-docs-requires : tie.Need-next-docs-requires
+next-docs-requires c κs =
+    let start = c .before .before .before .before .before .before .before .before .before in
+    let w = start .pre .1 .0 in
+    (start .pre .0, (w .docs-length, (w .ats-room, (w .to, w .pending))))
+
+least-of-requires : tie.Need-least-of-requires
+least-of-requires c κs k h =
+    let docs = c .before .before .before .before .before in
+    let s = size docs in
+    docs .next-docs .ensures .each k (omega arith) .to
+
+same-length : tie.Need-same-length
+same-length c = search needs
+
+same-length-2 : tie.Need-same-length-2
+same-length-2 c = search needs
+
+returns : tie.Need-returns
+returns c =
+    let least = c .before .before in
+    let docs = docs-of least in
+    let start = start-of docs in
+    seen-out _ _ _ _ (start .pre .0) _ _ _ _ _ _ (docs .next-docs .ensures) (least .least-of .ensures) (start .pre .1 .0 .docs-length) _ _ (c .if1 .taken)
+
+bring-starts-requires : tie.Need-bring-starts-requires
+bring-starts-requires c κs =
+    let least = c .before .before in
+    let start = start-of (docs-of least) in
+    let w = start .pre .1 .0 in
+    (starts-later _ _ _ _ _ (from-doc least) (w .starts-at), (w .starts-end, starts-stretch _ _ _ _ (start .pre .0) (start .args .walk .from) (start .args .walk .starts) (w .starts-at) (w .starts-end)))
+
+slice-aggregate-fill-row : tie.Need-slice-aggregate-fill-row
+slice-aggregate-fill-row c = search needs
+
+fill-row-requires : tie.Need-fill-row-requires
+fill-row-requires c κs =
+    let brought = c .before .before .before .before in
+    let least = least-of brought in
+    let docs = docs-of least in
+    let start = start-of docs in
+    let s = size docs in
+    let m = given _ _ (start .pre .0 .accepted) .most-patterns in
+    let cursor = brought .bring-starts .ensures in
+    (s, (omega arith, (omega arith, (start .pre .1 .1, λ k h. seen-ready _ _ _ _ (start .pre .0) _ _ _ _ _ _ (docs .next-docs .ensures) (least .least-of .ensures) (start .pre .1 .0 .docs-length) (inside (brought .before)) (brought .bring-starts .result) (cursor .0) (cursor .1) (room docs) k (omega arith)))))
+
+slice-aggregate-answer-of : tie.Need-slice-aggregate-answer-of
+slice-aggregate-answer-of c = search needs
+
+answer-of-requires : tie.Need-answer-of-requires
+answer-of-requires c κs =
+    let filled = c .before .before .before .before in
+    let least = least-of (brought-of filled) in
+    let start = start-of (docs-of least) in
+    let m = given _ _ (start .pre .0 .accepted) .most-patterns in
+    let f = filled .fill-row .ensures .1 .0 in
+    ((now (start .args .volume), start .pre .0 .accepted), (omega arith, λ k h. rw (filled .fill-row .ensures .1 .1 .1 k h) (flag-small (found (listsOf (now (start .args .volume))) (least .least-of .result) (patternAt (now (start .args .plan)) k)))))
+
+same-length-3 : tie.Need-same-length-3
+same-length-3 c = search needs
+
+same-length-4 : tie.Need-same-length-4
+same-length-4 c = search needs
+
+same-length-5 : tie.Need-same-length-5
+same-length-5 c = search needs
+
+returns-2 : tie.Need-returns-2
+returns-2 c =
+    let filled = filled-of c in
+    let brought = brought-of filled in
+    let least = least-of brought in
+    let docs = docs-of least in
+    let start = start-of docs in
+    let e = filled .fill-row .ensures .1 .1 in
+    let cursor = brought .bring-starts .ensures in
+    seen-in _ _ _ _ (start .pre .0) _ _ _ _ _ _ (docs .next-docs .ensures) (least .least-of .ensures) (start .pre .1 .0 .docs-length) _ _ _
+    (seen-true _ _ (filled .fill-row .last .1 .1 .1 .1 .1 .1 .1 .1 .1 .1 .0) (least .least-of .result) _ (c .answer-of .ensures) (e .1)) (e .0) (cursor .0) (cursor .1) (room docs)
+
+pub visit-spec : {M : Type 1} → statement M
+visit-spec =
+    tie.close
+    (tie.spec
+    next-docs-requires
+    least-of-requires
+    same-length
+    same-length-2
+    returns
+    bring-starts-requires
+    slice-aggregate-fill-row
+    fill-row-requires
+    slice-aggregate-answer-of
+    answer-of-requires
+    same-length-3
+    same-length-4
+    same-length-5
+    returns-2)
