@@ -1,5 +1,4 @@
 -- A struct tells the answer that it was made from. No contract cites this file.
---     heard              the answer of a struct
 --     heard-refused, heard-done, heard-more     by its fields
 --     heard-flat         what is heard is what listing answers
 -- Assumes nothing.
@@ -21,13 +20,7 @@ use Rattle.search.proofs.Laws.ListFirst.{list-sound}
 use Rattle.search.proofs.Laws.Calls.{more-later}
 use Rattle.lihambozy.specs.declared.Listing.{Listing}
 use Rattle.lihambozy.specs.Flat.{flatListing}
-
--- what is next
-abbrev pub heardNext : ℕ → Next
-heardNext n = cond (eqb n limit) done (more n)
-
-abbrev pub heard : Listing → Said Page
-heard a = cond (eqb (a .refusal) 0) (answered (record { rows = a .rows; tally = a .tally; next = heardNext (a .next) })) (refused (a .refusal) (a .at))
+use Rattle.lihambozy.specs.Search.{heard}
 
 module _ (a : Listing) where
   pub heard-refused : a .refusal ≢ 0 → heard a ≡ refused (a .refusal) (a .at)
