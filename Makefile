@@ -1,34 +1,62 @@
 # make          proves every crate, builds the program, the library, the Rust package and the command, and prints the
 #               sample listing
 # make test     the gate (rt ci), then every other test; the last line is the gate's own, if all passed
-# make bench    times the library beside plain Rust and beside a copy
+# make mutants  tries the edits crates/*/mutants/*.edit, which the gate passes over: the prover must refuse each. CRATES="volume
+#               plan" tries those of some crates alone
+# make bench    times the library beside a yardstick in Rust and beside a copy
 # make soak     random and damaged input beside the naive searcher, for ten minutes or as SECONDS=60 says
-# make install  copies the command, the header and the library to bin/, include/ and lib/ of PREFIX
+# make install  copies the command, the header and the library to bin/, include/ and lib/ of PREFIX, below DESTDIR if that is
+#               given; make uninstall removes them
 # make clean    removes all that these made
 
 SHELL := bash
 .SHELLFLAGS := -euo pipefail -c
 .NOTPARALLEL:
-.PHONY: all test bench soak install clean
+.DELETE_ON_ERROR:
+.PHONY: all tools proved test mutants bench soak install uninstall clean
 
 PREFIX := /usr/local
+# The folder to install into, quoted for the shell.
+INTO = '$(subst ','\'',$(DESTDIR)$(PREFIX))'
 CARGO := cargo
 PACKAGE := --manifest-path rust/Cargo.toml --offline --locked
+COMMAND := rust/target/release/lhz
 HEADER := include/lihambozy.h
+LIBRARY := target/staticlib/liblihambozy.a
+# What the library is made of. A folder is newer than the library where a file has gone.
+SOURCES := crates.txt $(shell find crates \( -name must-fail -o -name mutants \) -prune -o -print)
 WARNINGS := -Wall -Wextra -Werror
 GATE_LOG := build/ci.log
 LIBRARY_LOG := build/staticlib.log
 SECONDS := 600
+CRATES :=
 
-all:
-	rt check
-	rt staticlib lihambozy
+all: tools proved $(LIBRARY)
 	$(CARGO) build --release $(PACKAGE)
 	cd crates/lister/data && ../../../target/bin/lister
 	@echo 'the command: rust/target/release/lhz'
 
+# Says which tools are missing, before anything is proved.
+tools:
+	@missing=0; \
+	need() { command -v "$$1" >/dev/null || { echo "make: $$1 is missing: $$2" >&2; missing=1; }; }; \
+	need rt 'the Rattle toolchain, which proves and compiles the crates'; \
+	need '$(CARGO)' 'it builds the Rust package and the command, and runs the tests'; \
+	for compiler in $(sort cc $(firstword $(CC))); do \
+	    need $$compiler 'the C compiler, for the link of the Rust package and for programs in C'; \
+	done; \
+	exit $$missing
+
+# Proves the crates that have changed since they were proved last.
+proved:
+	rt check
+
+# `rt staticlib` proves its crate each time.
+$(LIBRARY): $(SOURCES)
+	rt staticlib lihambozy
+
 # `rt ci` removes target/: its log is kept in build/, and the library is built after it.
-test:
+test: tools
 	mkdir -p build
 	rt ci 2>&1 | tee $(GATE_LOG) || { echo 'rt ci failed'; exit 1; }
 	awk -v assumed='$(ASSUMED)' "$$ASSUME_NOTHING" crates.txt $(GATE_LOG)
@@ -40,19 +68,26 @@ test:
 	$(CARGO) test --release $(PACKAGE) --bench volume --bench search
 	@tail -n 1 $(GATE_LOG)
 
-bench:
-	rt staticlib lihambozy
+mutants:
+	tools/mutants $(CRATES)
+
+bench: tools $(LIBRARY)
 	$(CARGO) bench --no-fail-fast $(PACKAGE) --bench volume --bench search
 
-soak:
-	rt staticlib lihambozy
+soak: tools $(LIBRARY)
 	$(CARGO) test --release $(PACKAGE) --test soak -- --seconds $(SECONDS)
 
 install:
-	install -d $(DESTDIR)$(PREFIX)/bin $(DESTDIR)$(PREFIX)/include $(DESTDIR)$(PREFIX)/lib
-	install rust/target/release/lhz $(DESTDIR)$(PREFIX)/bin
-	install -m 644 $(HEADER) $(DESTDIR)$(PREFIX)/include
-	install -m 644 target/staticlib/liblihambozy.a $(DESTDIR)$(PREFIX)/lib
+	@for file in $(COMMAND) $(LIBRARY); do \
+	    test -f $$file || { echo "make: $$file is absent: run make first" >&2; exit 1; }; \
+	done
+	install -d $(INTO)/bin $(INTO)/include $(INTO)/lib
+	install $(COMMAND) $(INTO)/bin
+	install -m 644 $(HEADER) $(INTO)/include
+	install -m 644 $(LIBRARY) $(INTO)/lib
+
+uninstall:
+	rm -f $(INTO)/bin/$(notdir $(COMMAND)) $(INTO)/include/$(notdir $(HEADER)) $(INTO)/lib/$(notdir $(LIBRARY))
 
 clean:
 	rm -rf target build rust/target

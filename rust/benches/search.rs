@@ -1,4 +1,4 @@
-//! Times the library's listing beside a searcher in plain Rust: ten plans over each of two made-up
+//! Times the library's listing beside the yardstick's: ten plans over each of two made-up
 //! archives, and how the time grows with the positions of one document. The results are compared
 //! before anything is timed. Run as a test, it makes one round and prints no times.
 //!
@@ -9,21 +9,21 @@
 //! archive's other lists are empty: the same walk after a short check.
 
 mod archives;
-mod late;
 mod support;
-mod walk;
+mod yardstick;
 
 use archives::{endless_plans, one_document, repertory, season, ten_plans, Filling, Lists, Plan};
 use lihambozy::calls::{check_plan, check_volume, list, Next};
 use lihambozy::BLOCK_BYTES;
 use std::hint::black_box;
 use support::Times;
+use yardstick::{late, walk};
 
 const SEED: u32 = 1;
 
-/// A listing's time, as a part of the plain one's, at most.
+/// A listing's time, as a part of the yardstick's, at most.
 const LISTING_TARGET: f64 = 0.8;
-/// A walk's time, as a part of the plain one's, at most.
+/// A walk's time, as a part of the yardstick's, at most.
 const WALK_TARGET: f64 = 1.3;
 /// The standard error of a ratio, as a part of it, above which the ratio is noise.
 const NOISE: f64 = 0.05;
@@ -80,7 +80,7 @@ fn main() {
     }
     missed |= time_growth(timed);
     if !timed {
-        println!("the library and plain Rust agree on every listing");
+        println!("the library and the yardstick agree on every listing");
     }
     if missed {
         std::process::exit(1);
@@ -96,9 +96,9 @@ struct Listing<'a> {
     tally: u32,
     check: Times,
     list: Times,
-    plain_check: Times,
-    plain_list: Times,
-    plain_walk: Times,
+    yardstick_check: Times,
+    yardstick_list: Times,
+    yardstick_walk: Times,
 }
 
 impl<'a> Listing<'a> {
@@ -108,13 +108,13 @@ impl<'a> Listing<'a> {
         let words = plan.rows.concat();
         let width = check_plan(volume, &words).expect("the plan is accepted").row_width();
         let mut out: Vec<u32> = (0..(docs + 1) * width).map(|i| !(i as u32)).collect();
-        let mut plain_out = out.clone();
+        let mut yardstick_out = out.clone();
         let library = list(volume, &words, 0, &mut out).expect("a row fits");
-        let plain = walk::list(volume, &words, 0, &mut plain_out).expect("a row fits");
-        assert_eq!((library.next, plain.next), (Next::Done, None), "{}", plan.name);
-        assert_eq!(library.rows, plain.rows, "{}: rows", plan.name);
-        assert_eq!(library.tally, plain.tally, "{}: tally", plan.name);
-        assert!(out == plain_out, "{}: the buffers differ", plan.name);
+        let yardstick = walk::list(volume, &words, 0, &mut yardstick_out).expect("a row fits");
+        assert_eq!((library.next, yardstick.next), (Next::Done, None), "{}", plan.name);
+        assert_eq!(library.rows, yardstick.rows, "{}: rows", plan.name);
+        assert_eq!(library.tally, yardstick.tally, "{}: tally", plan.name);
+        assert!(out == yardstick_out, "{}: the buffers differ", plan.name);
         Listing {
             volume,
             plan: words,
@@ -123,14 +123,14 @@ impl<'a> Listing<'a> {
             tally: library.tally,
             check: Times::default(),
             list: Times::default(),
-            plain_check: Times::default(),
-            plain_list: Times::default(),
-            plain_walk: Times::default(),
+            yardstick_check: Times::default(),
+            yardstick_list: Times::default(),
+            yardstick_walk: Times::default(),
         }
     }
 
-    /// Times a check and a listing on each side, in odd rounds plain Rust first. The check before
-    /// them, which is not timed, brings the volume near.
+    /// Times a check and a listing on each side, in odd rounds the yardstick first. The check
+    /// before them, which is not timed, brings the volume near.
     fn time(&mut self, round: usize) {
         let (volume, plan, out) = (black_box(self.volume), black_box(&self.plan), &mut self.out);
         for side in [round, round + 1] {
@@ -139,39 +139,39 @@ impl<'a> Listing<'a> {
                 self.check.time(|| check_volume(volume));
                 self.list.time(|| list(volume, plan, 0, out));
             } else {
-                self.plain_check.time(|| late::check_volume(volume));
-                self.plain_list.time(|| walk::list(volume, plan, 0, out));
+                self.yardstick_check.time(|| late::check_volume(volume));
+                self.yardstick_list.time(|| walk::list(volume, plan, 0, out));
             }
         }
     }
 
-    /// Times the walk of plain Rust without its check.
-    fn time_plain_walk(&mut self) {
+    /// Times the walk of the yardstick without its check.
+    fn time_yardstick_walk(&mut self) {
         let (volume, plan, out) = (black_box(self.volume), black_box(&self.plan), &mut self.out);
         let _ = black_box(check_volume(volume));
-        self.plain_walk.time(|| walk::walk(volume, plan, 0, out));
+        self.yardstick_walk.time(|| walk::walk(volume, plan, 0, out));
     }
 
-    /// The walk's time, and that of plain Rust.
+    /// The walk's time, and that of the yardstick.
     fn walks(&self) -> [Times; 2] {
-        [self.list.less(&self.check), self.plain_list.less(&self.plain_check)]
+        [self.list.less(&self.check), self.yardstick_list.less(&self.yardstick_check)]
     }
 
     /// The same as differences of minima.
     fn least_walks(&self) -> [f64; 2] {
-        [(&self.list, &self.check), (&self.plain_list, &self.plain_check)]
+        [(&self.list, &self.check), (&self.yardstick_list, &self.yardstick_check)]
             .map(|(list, check)| list.minimum() - check.minimum())
     }
 }
 
-/// Times the listings, so many rounds. The walks of plain Rust alone come behind all of them: a walk
-/// between two listings would make the second one faster.
+/// Times the listings, so many rounds. The walks of the yardstick alone come behind all of them: a
+/// walk between two listings would make the second one faster.
 fn time_listings(listings: &mut [Listing], rounds: usize) {
     for round in 0..rounds {
         listings.iter_mut().for_each(|listing| listing.time(round));
     }
     for _ in 0..rounds {
-        listings.iter_mut().for_each(Listing::time_plain_walk);
+        listings.iter_mut().for_each(Listing::time_yardstick_walk);
     }
 }
 
@@ -228,14 +228,14 @@ fn time_plans(archive: &Archive, timed: bool) -> bool {
 /// Prints the times of the listings: whether the target is missed.
 fn print_listings(plans: &[Plan], listings: &[Listing]) -> bool {
     println!(
-        "\n| listing | rows | tally | library ms | plain Rust ms | ratio of medians | of minima \
+        "\n| listing | rows | tally | library ms | yardstick ms | ratio of medians | of minima \
          | target | |"
     );
     println!("|---|---|---|---|---|---|---|---|---|");
     let mut missed = false;
     for (plan, listing) in plans.iter().zip(listings) {
-        let Listing { list, plain_list, .. } = listing;
-        let ratio = list.over(plain_list);
+        let Listing { list, yardstick_list, .. } = listing;
+        let ratio = list.over(yardstick_list);
         missed |= ratio > LISTING_TARGET;
         println!(
             "| {} | {} | {} | {:.3} | {:.3} | {ratio:.2} | {:.2} | {LISTING_TARGET:.2} | {} |",
@@ -243,18 +243,18 @@ fn print_listings(plans: &[Plan], listings: &[Listing]) -> bool {
             listing.rows,
             listing.tally,
             list.median(),
-            plain_list.median(),
-            list.minimum() / plain_list.minimum(),
+            yardstick_list.median(),
+            list.minimum() / yardstick_list.minimum(),
             verdict(ratio > LISTING_TARGET)
         );
     }
-    let Listing { check, plain_check, .. } = &listings[0];
+    let Listing { check, yardstick_check, .. } = &listings[0];
     println!(
         "| the check alone | | | {:.3} | {:.3} | {:.2} | {:.2} | | |",
         check.median(),
-        plain_check.median(),
-        check.over(plain_check),
-        check.minimum() / plain_check.minimum()
+        yardstick_check.median(),
+        check.over(yardstick_check),
+        check.minimum() / yardstick_check.minimum()
     );
     missed
 }
@@ -263,8 +263,8 @@ fn print_listings(plans: &[Plan], listings: &[Listing]) -> bool {
 fn print_walks(plans: &[Plan], whole: &[Listing], own: &[Listing]) -> bool {
     println!("\nWalks in microseconds. *Alone*: timed directly, without a check.\n");
     println!(
-        "| walk | library | plain Rust | alone | 1: ratio of medians | own lists: library \
-         | plain Rust | alone | 2: ratio of medians | 3: of minima | target | |"
+        "| walk | library | yardstick | alone | 1: ratio of medians | own lists: library \
+         | yardstick | alone | 2: ratio of medians | 3: of minima | target | |"
     );
     println!("|---|---|---|---|---|---|---|---|---|---|---|---|");
     let mut missed = false;
@@ -272,18 +272,18 @@ fn print_walks(plans: &[Plan], whole: &[Listing], own: &[Listing]) -> bool {
         print!("| {} |", plan.name);
         let mut clear = Vec::new();
         for (place, listing) in (1..).zip([whole, own]) {
-            let [walk, plain_walk] = listing.walks();
-            for times in [&walk, &plain_walk, &listing.plain_walk] {
+            let [walk, yardstick_walk] = listing.walks();
+            for times in [&walk, &yardstick_walk, &listing.yardstick_walk] {
                 print!(" {:.1} |", times.median() * 1e3);
             }
-            let (ratio, error) = (walk.over(&plain_walk), walk.error_over(&plain_walk));
+            let (ratio, error) = (walk.over(&yardstick_walk), walk.error_over(&yardstick_walk));
             print!(" {ratio:.2} ± {error:.2} |");
             if error <= NOISE * ratio {
                 clear.push((place, ratio));
             }
         }
-        let [walk, plain_walk] = own.least_walks();
-        let minima = walk / plain_walk;
+        let [walk, yardstick_walk] = own.least_walks();
+        let minima = walk / yardstick_walk;
         let (place, ratio) = clear.first().copied().unwrap_or((3, minima));
         missed |= ratio > WALK_TARGET;
         let told = verdict(ratio > WALK_TARGET);
@@ -321,23 +321,23 @@ fn time_growth(timed: bool) -> bool {
     }
     println!(
         "\n| predicate | positions of each | starts | library ms | ns a posting | of the row above \
-         | target | | plain Rust ns a posting | of the row above |"
+         | target | | yardstick ns a posting | of the row above |"
     );
     println!("|---|---|---|---|---|---|---|---|---|---|");
     let mut missed = false;
     for (plan, listings) in plans.iter().zip(listings.chunks(SIZES.len())) {
         let mut above: Option<[f64; 2]> = None;
         for (listing, (positions, starts)) in listings.iter().zip(SIZES) {
-            let times = [listing.list.minimum(), listing.plain_list.minimum()];
-            let [each, plain_each] = times.map(|time| time * 1e6 / f64::from(listing.tally));
+            let times = [listing.list.minimum(), listing.yardstick_list.minimum()];
+            let [each, yardstick_each] = times.map(|time| time * 1e6 / f64::from(listing.tally));
             print!("| {} | {positions} | {starts} | {:.3} | {each:.2} |", plan.name, times[0]);
             match above {
-                None => println!(" | | | {plain_each:.2} | |"),
+                None => println!(" | | | {yardstick_each:.2} | |"),
                 Some(above) => {
                     let growth = [times[0] / above[0], times[1] / above[1]];
                     missed |= growth[0] > DOUBLING_TARGET;
                     println!(
-                        " {:.2} | {DOUBLING_TARGET:.2} | {} | {plain_each:.2} | {:.2} |",
+                        " {:.2} | {DOUBLING_TARGET:.2} | {} | {yardstick_each:.2} | {:.2} |",
                         growth[0],
                         verdict(growth[0] > DOUBLING_TARGET),
                         growth[1]

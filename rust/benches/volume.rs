@@ -1,14 +1,16 @@
 //! Times the library's check and writer on the largest volume, beside a copy of the same bytes and
-//! beside plain Rust, and its check of the largest plan beside its check of the volume. Every shape runs once a round, so that a slow moment of the machine falls on
-//! all of them. Run as a test, it makes one round, to compare the results, and prints no times.
+//! beside the yardstick, and its check of the largest plan beside its check of the volume. Every
+//! shape runs once a round, so that a slow moment of the machine falls on all of them. Run as a
+//! test, it makes one round, to compare the results, and prints no times.
 
-mod late;
 mod support;
+mod yardstick;
 
 use lihambozy::calls::{check_plan, check_volume, volume_len, write_volume};
 use lihambozy::kind;
 use std::hint::black_box;
 use support::{Rng, Times};
+use yardstick::late;
 
 const SEED: u64 = 1;
 const ROUNDS: usize = 101;
@@ -75,28 +77,28 @@ fn main() {
     let names = [
         "copy",
         "check, library",
-        "check, plain Rust",
+        "check, yardstick",
         "write, library",
-        "write, plain Rust",
+        "write, yardstick",
         "check of a plan, library",
     ];
     let mut shapes = names.map(|_| Times::default());
-    let [copied, check, plain_check, write, plain_write, check_rows] = &mut shapes;
+    let [copied, check, yardstick_check, write, yardstick_write, check_rows] = &mut shapes;
     for _ in 0..rounds {
         copied.time(|| {
             copy.copy_from_slice(black_box(&volume));
             black_box(&mut copy);
         });
         check.time(|| check_volume(black_box(&volume)));
-        plain_check.time(|| late::check_volume(black_box(&volume)));
+        yardstick_check.time(|| late::check_volume(black_box(&volume)));
         write.time(|| write_volume(black_box(&counts), black_box(&postings), &mut ours));
-        plain_write
+        yardstick_write
             .time(|| late::write_volume(black_box(&counts), black_box(&postings), &mut theirs));
         check_rows.time(|| check_plan(black_box(&volume), black_box(&plan)));
     }
     assert!(ours == volume && theirs == volume && copy == volume);
     if !timed {
-        println!("the library and plain Rust agree on the largest volume");
+        println!("the library and the yardstick agree on the largest volume");
         return;
     }
 
@@ -116,8 +118,8 @@ fn main() {
     let mut missed = false;
     for (name, over, under, target) in [
         ("check / copy", 1, 0, 1.5),
-        ("check / plain check", 1, 2, 1.0),
-        ("write / plain write", 3, 4, 1.25),
+        ("check / yardstick check", 1, 2, 1.0),
+        ("write / yardstick write", 3, 4, 1.25),
         ("check of a plan / check", 5, 1, 1.25),
     ] {
         let (over, under) = (&shapes[over], &shapes[under]);

@@ -1,18 +1,17 @@
 //! Large volumes, up to the largest there is: few documents with thousands of positions, or many
 //! documents.
 
+use crate::case::Case;
+use crate::inputs::{deface, MOST_WORDS};
 use crate::package::walk;
+use crate::plain;
 use crate::report::Counts;
 use crate::searches::any_test;
 use crate::support::plans::Row;
 use crate::support::searches::*;
 use crate::support::*;
-use crate::volumes::deface;
-use crate::{plain, Case};
 use lihambozy::{kind, Plan, Volume};
 
-/// Stream words of the largest volume.
-pub const MOST_WORDS: usize = 1_032_192;
 /// The choices that the naive searcher may have for a pattern.
 const CHOICES: usize = 200_000;
 
@@ -81,11 +80,10 @@ fn spread(rng: &mut Rng, docs: &[u32], count: usize) -> Vec<u32> {
     let mut list = Vec::with_capacity(count);
     for (i, doc) in docs.iter().enumerate() {
         let of_doc = count / docs.len() + usize::from(i < count % docs.len());
-        if of_doc > 0 {
-            let step = 1 + rng.below(65_536 / of_doc);
-            let first = rng.below(65_536 - (of_doc - 1) * step);
-            list.extend((0..of_doc).map(|k| doc * 65_536 + (first + k * step) as u32));
-        }
+        let Some(widest) = 65_536_usize.checked_div(of_doc) else { continue };
+        let step = 1 + rng.below(widest);
+        let first = rng.below(65_536 - (of_doc - 1) * step);
+        list.extend((0..of_doc).map(|k| doc * 65_536 + (first + k * step) as u32));
     }
     list
 }

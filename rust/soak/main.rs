@@ -14,6 +14,9 @@ mod plain;
 #[path = "../tests/support/mod.rs"]
 mod support;
 
+mod case;
+mod inputs;
+mod kinds;
 mod large;
 mod options;
 mod package;
@@ -24,6 +27,8 @@ mod texts;
 mod volumes;
 mod watch;
 
+use case::Case;
+use kinds::{pick, KINDS};
 use options::Options;
 use report::Counts;
 use std::io;
@@ -32,36 +37,6 @@ use std::time::{Duration, Instant};
 use support::Rng;
 use watch::Note;
 
-/// A case: what it draws from, and where it counts.
-pub struct Case<'a> {
-    pub rng: Rng,
-    pub counts: &'a mut Counts,
-}
-
-/// A kind of case.
-pub struct Kind {
-    pub name: &'static str,
-    /// How many cases of this kind there are beside the others: the more, the less time one takes,
-    /// so that each kind has its share.
-    weight: usize,
-    run: fn(&mut Case),
-}
-
-/// The kinds of cases. The first one is that of case 0 alone.
-pub static KINDS: [Kind; 9] = [
-    Kind { name: "bytes changed", weight: 0, run: volumes::bytes_changed },
-    Kind { name: "writing", weight: 1200, run: volumes::writing },
-    Kind { name: "damage", weight: 2500, run: volumes::damaged },
-    Kind { name: "plans", weight: 1500, run: plans::plans },
-    Kind { name: "searches", weight: 8000, run: searches::searches },
-    Kind { name: "positions", weight: 3000, run: searches::positions },
-    Kind { name: "package", weight: 2500, run: package::package },
-    Kind { name: "texts", weight: 700, run: texts::texts },
-    Kind { name: "large", weight: 3, run: large::large },
-];
-
-/// The steps that the naive searcher may take over a volume that is not large.
-pub const NAIVE_STEPS: u64 = 30_000;
 /// A run at least so long, in seconds, meets every refusal.
 const WHOLE: u64 = 60;
 /// After so much time a run tells how far it is.
@@ -115,7 +90,7 @@ fn work(options: &Options, mut note: Note) -> io::Result<ExitCode> {
             println!("{}", counts.line(elapsed));
         }
     }
-    counts.print();
+    counts.print(KINDS.iter().map(|kind| kind.name));
     let missed = counts.missed();
     if options.seconds >= WHOLE && !missed.is_empty() {
         missed.iter().for_each(|missed| println!("soak: FAILED: {missed}"));
@@ -136,18 +111,5 @@ fn run(counts: &mut Counts, seed: u64, case: u64) {
     };
     counts.trial.case = format!("seed {seed}, case {case}, {}", kind.name);
     (kind.run)(&mut Case { rng, counts });
-    counts.case(kind, start.elapsed());
-}
-
-/// A kind, as often as its weight says.
-fn pick(rng: &mut Rng) -> &'static Kind {
-    let mut left = rng.below(KINDS.iter().map(|kind| kind.weight).sum());
-    let chosen = |kind: &&Kind| match left.checked_sub(kind.weight) {
-        Some(behind) => {
-            left = behind;
-            false
-        }
-        None => true,
-    };
-    KINDS.iter().find(chosen).expect("a number below the sum is below some part of it")
+    counts.case(kind.name, start.elapsed());
 }

@@ -1,13 +1,12 @@
 //! The Rust package: volumes, plans, and searches that page by themselves.
 
+use crate::case::Case;
+use crate::inputs::{any_lists, any_plan, any_volume, spoil_lists, NAIVE_STEPS};
 use crate::plain::search::Searcher;
 use crate::plain::{self, Refused};
-use crate::plans::any_plan;
 use crate::report::Counts;
 use crate::support::searches::{random_large_subject, random_subject, Subject};
 use crate::support::{pair, Lists, Rng};
-use crate::volumes::{any_lists, any_volume, spoil_lists};
-use crate::{Case, NAIVE_STEPS};
 use lihambozy::{Plan, Posting, Search, Volume};
 use std::fmt::Debug;
 

@@ -1,7 +1,6 @@
 //! What a run counts, and what it tells.
 
 use crate::support::{Call, Met, Trial};
-use crate::{Kind, KINDS};
 use std::collections::BTreeMap;
 use std::time::Duration;
 
@@ -32,8 +31,9 @@ pub struct Counts {
 }
 
 impl Counts {
-    pub fn case(&mut self, kind: &Kind, time: Duration) {
-        let (cases, all, longest) = self.kinds.entry(kind.name).or_default();
+    /// Counts a case of a kind.
+    pub fn case(&mut self, kind: &'static str, time: Duration) {
+        let (cases, all, longest) = self.kinds.entry(kind).or_default();
         *cases += 1;
         *all += time;
         *longest = time.max(*longest);
@@ -70,13 +70,13 @@ impl Counts {
         )
     }
 
-    /// Prints all counts.
-    pub fn print(&self) {
+    /// Prints all counts, those of the cases kind by kind.
+    pub fn print(&self, kinds: impl Iterator<Item = &'static str>) {
         println!("\n{:16}{:>9}{:>11}{:>13}", "kind of case", "cases", "seconds", "longest ms");
-        for kind in &KINDS {
-            let (cases, all, longest) = self.kinds.get(kind.name).copied().unwrap_or_default();
+        for kind in kinds {
+            let (cases, all, longest) = self.kinds.get(kind).copied().unwrap_or_default();
             let (all, longest) = (all.as_secs_f64(), longest.as_secs_f64() * 1e3);
-            println!("{:16}{cases:>9}{all:>11.1}{longest:>13.1}", kind.name);
+            println!("{kind:16}{cases:>9}{all:>11.1}{longest:>13.1}");
         }
 
         let met = CALLS.map(|(_, call, _)| self.trial.met(call));

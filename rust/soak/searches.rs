@@ -1,10 +1,10 @@
 //! Searches through buffers of every sort, listing calls from any document, and positions to test.
 
+use crate::case::Case;
 use crate::plain::search::Searcher;
 use crate::report::Counts;
 use crate::support::searches::*;
 use crate::support::Rng;
-use crate::Case;
 
 /// Two searches over one volume and plan, and calls that are part of none.
 pub fn searches(case: &mut Case) {

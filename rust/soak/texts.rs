@@ -1,12 +1,11 @@
 //! Lists and plans as text: shown and read again, and texts of any sort beside the plain reader.
 
+use crate::case::Case;
+use crate::inputs::{any_lists, any_plan, spoil_lists};
 use crate::package::{postings_of, same};
 use crate::plain::text::{list_lines, lists, posting, rows, words, Place, NAMES};
-use crate::plans::any_plan;
 use crate::report::Counts;
 use crate::support::Rng;
-use crate::volumes::{any_lists, spoil_lists};
-use crate::Case;
 use lihambozy::row::PlanRow;
 use lihambozy::text::{self, Mistake};
 use lihambozy::{Plan, Posting, Volume};

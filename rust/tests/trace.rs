@@ -1,38 +1,132 @@
 //! docs/TRACE.md: each name on the page is there in the repository, what the page must name is on
-//! it, and its lists of gaps are those of its tables.
+//! it, and its lists of gaps are those of its sentences. docs/DECISIONS.md: the open functions with
+//! a `requires` are those that it lists.
 
 use std::collections::{BTreeMap, BTreeSet};
 use std::fs;
 use std::path::{Path, PathBuf};
 
-/// The columns of a table behind the sentence.
+// The page.
+
+/// The lines under a sentence.
 #[derive(Clone, Copy, Debug, PartialEq, Eq, PartialOrd, Ord)]
-enum Column {
+enum Line {
     Said,
     Proved,
     Edit,
     Test,
 }
-use Column::{Edit, Proved, Said, Test};
+use Line::{Edit, Proved, Said, Test};
 
-const COLUMNS: [Column; 4] = [Said, Proved, Edit, Test];
-const HEADER: &str = "| document 01 | said by | proved by | must-fail edit | test |";
+const LINES: [Line; 4] = [Said, Proved, Edit, Test];
+const LABELS: [&str; 4] = ["said by: ", "proved by: ", "edit: ", "test: "];
 
 /// The libraries of the Rattle kit that the page names functions of.
 const KIT: [&str; 3] = ["io", "libc", "os"];
 
-/// A sentence of document 01: its id, and a cell for each column.
-struct Row {
+/// A sentence of document 01: its id, its words, and what the lines under it say.
+#[derive(Default)]
+struct Sentence {
     id: String,
-    cells: BTreeMap<Column, String>,
+    words: String,
+    lines: Vec<String>,
 }
 
-impl Row {
-    /// Whether a column has a dash.
-    fn lacks(&self, column: Column) -> bool {
-        self.cells[&column].starts_with('—')
+impl Sentence {
+    /// Takes one more line of the page.
+    fn read(&mut self, line: &str) {
+        if let Some(words) = line.strip_prefix("> ") {
+            assert!(self.lines.is_empty(), "{}: words behind its lines: {line}", self.id);
+            self.words += words;
+            self.words += " ";
+        } else if let Some(item) = line.strip_prefix("- ") {
+            let label = LABELS.get(self.lines.len()).copied().unwrap_or("no line");
+            let told = item.strip_prefix(label).map(str::to_string);
+            self.lines.push(told.unwrap_or_else(|| panic!("{}, {label}: {line}", self.id)));
+        } else if let Some(more) = line.strip_prefix("  ") {
+            let last = self.lines.last_mut().expect("a line to carry on");
+            *last += " ";
+            *last += more;
+        } else {
+            assert_eq!(line, "", "{}", self.id);
+        }
+    }
+
+    /// Whether a line says that there is nothing.
+    fn lacks(&self, line: Line) -> bool {
+        self.lines[line as usize].starts_with("none")
     }
 }
+
+/// The sentences of the page, and the lines that belong to none.
+struct Page {
+    sentences: Vec<Sentence>,
+    prose: Vec<String>,
+}
+
+fn page() -> Page {
+    let mut page = Page { sentences: vec![], prose: vec![] };
+    let mut inside = false;
+    for line in read("docs/TRACE.md").lines() {
+        if line.starts_with('#') {
+            let id = line.strip_prefix("### ").filter(|id| is_id(id)).map(str::to_string);
+            inside = id.is_some();
+            page.sentences.extend(id.map(|id| Sentence { id, ..Sentence::default() }));
+        }
+        match page.sentences.last_mut() {
+            Some(sentence) if inside && !line.starts_with('#') => sentence.read(line),
+            _ => page.prose.push(line.to_string()),
+        }
+    }
+    for Sentence { id, lines, .. } in &page.sentences {
+        assert_eq!(lines.len(), LINES.len(), "lines of {id}");
+    }
+    page
+}
+
+/// A capital, and a number.
+fn is_id(word: &str) -> bool {
+    let number = word.strip_prefix(|c: char| c.is_ascii_uppercase());
+    number.is_some_and(|number| number.parse::<u32>().is_ok())
+}
+
+/// What stands between backquotes.
+fn quoted(text: &str) -> impl Iterator<Item = &str> {
+    assert!(text.matches('`').count() % 2 == 0, "a backquote is left open: {text}");
+    text.split('`').skip(1).step_by(2)
+}
+
+/// Every name on the page, with the sentence and the line that it stands in. Outside the sentences an
+/// edit or a test is told by that word, and the words that name nothing of the repository are free.
+fn references() -> Vec<(String, Line, String)> {
+    let mut references = Vec::new();
+    let Page { sentences, prose } = page();
+    for Sentence { id, lines, .. } in &sentences {
+        for (line, told) in LINES.into_iter().zip(lines) {
+            references.extend(quoted(told).map(|name| (id.clone(), line, name.to_string())));
+        }
+    }
+    for name in prose.iter().flat_map(|line| quoted(line)) {
+        let told = match name.split_once(' ') {
+            Some(("edit", name)) => Some((Edit, name)),
+            Some(("test", name)) => Some((Test, name)),
+            Some(_) => None,
+            None => {
+                let is_kits = KIT.iter().any(|library| name.starts_with(&format!("{library}::")));
+                (name.contains('/') || name.contains("::") && !is_kits).then_some((Said, name))
+            }
+        };
+        references.extend(told.map(|(line, name)| ("prose".into(), line, name.to_string())));
+    }
+    references
+}
+
+/// The names on one line of all sentences, or in the prose.
+fn cited(line: Line) -> BTreeSet<String> {
+    references().into_iter().filter(|(_, of, _)| *of == line).map(|(_, _, name)| name).collect()
+}
+
+// The repository.
 
 fn root() -> PathBuf {
     Path::new(env!("CARGO_MANIFEST_DIR")).join("..")
@@ -43,71 +137,33 @@ fn read(path: impl AsRef<Path>) -> String {
     fs::read_to_string(&path).unwrap_or_else(|error| panic!("{}: {error}", path.display()))
 }
 
+/// The text of a file, or nothing where there is no file.
+fn read_if_there(path: &str) -> String {
+    fs::read_to_string(root().join(path)).unwrap_or_default()
+}
+
 /// The names of what a folder holds, if there is one.
 fn names(folder: &str) -> BTreeSet<String> {
-    let Ok(entries) = fs::read_dir(root().join(folder)) else {
-        return BTreeSet::new();
-    };
+    let entries = fs::read_dir(root().join(folder)).into_iter().flatten();
     entries.map(|entry| entry.unwrap().file_name().into_string().unwrap()).collect()
+}
+
+/// The paths of the files of a kind in a folder and the folders in it.
+fn files(folder: &str, kind: &str) -> Vec<String> {
+    let mut found = Vec::new();
+    for name in names(folder) {
+        let path = format!("{folder}/{name}");
+        if root().join(&path).is_dir() {
+            found.extend(files(&path, kind));
+        } else if name.ends_with(kind) {
+            found.push(path);
+        }
+    }
+    found
 }
 
 fn crates() -> BTreeSet<String> {
     names("crates")
-}
-
-fn page() -> String {
-    read("docs/TRACE.md")
-}
-
-/// The rows of all tables of sentences.
-fn rows(page: &str) -> Vec<Row> {
-    let mut rows = Vec::new();
-    let mut in_table = false;
-    for line in page.lines() {
-        if !line.starts_with('|') || line == HEADER {
-            in_table = line == HEADER;
-        } else if in_table && !line.starts_with("|---") {
-            let cells: Vec<&str> = line.trim_matches('|').split('|').map(str::trim).collect();
-            assert_eq!(cells.len(), 1 + COLUMNS.len(), "{line}");
-            let id = cells[0].strip_prefix("**").and_then(|rest| rest.split_once("** “"));
-            let id = id.unwrap_or_else(|| panic!("no id and sentence: {line}")).0.to_string();
-            let texts = cells[1..].iter().map(|cell| cell.to_string());
-            rows.push(Row { id, cells: COLUMNS.into_iter().zip(texts).collect() });
-        }
-    }
-    rows
-}
-
-/// What stands between backquotes in a line or a cell.
-fn quoted(text: &str) -> impl Iterator<Item = &str> {
-    assert!(text.matches('`').count() % 2 == 0, "a backquote is left open: {text}");
-    text.split('`').skip(1).step_by(2)
-}
-
-/// Every name on the page with the column that it belongs to. Outside the tables of sentences an
-/// edit or a test is told by that word, and the words that name nothing of the repository are free.
-fn references(page: &str) -> Vec<(String, Column, String)> {
-    let mut references = Vec::new();
-    let rows = rows(page);
-    for row in &rows {
-        for (&column, cell) in &row.cells {
-            references.extend(quoted(cell).map(|name| (row.id.clone(), column, name.to_string())));
-        }
-    }
-    let prose = page.lines().filter(|line| !line.starts_with("| **"));
-    for name in prose.flat_map(quoted) {
-        let told = match name.split_once(' ') {
-            Some(("edit", name)) => Some((Edit, name)),
-            Some(("test", name)) => Some((Test, name)),
-            Some(_) => None,
-            None => {
-                let is_kits = KIT.iter().any(|library| name.starts_with(&format!("{library}::")));
-                (name.contains('/') || name.contains("::") && !is_kits).then_some((Said, name))
-            }
-        };
-        references.extend(told.map(|(column, name)| ("prose".into(), column, name.to_string())));
-    }
-    references
 }
 
 /// The crate that a name starts with, and what stands behind it.
@@ -116,28 +172,50 @@ fn of_crate(name: &str) -> Option<(&str, &str)> {
     crates().contains(&name[..end]).then_some((&name[..end], &name[end..]))
 }
 
-fn resolves(column: Column, name: &str) -> bool {
-    match (column, of_crate(name)) {
-        (Edit, Some((of, name))) => {
-            let name = name.strip_prefix('/');
-            name.is_some_and(|name| names(&edits_of(of)).contains(&format!("{name}.edit")))
-        }
-        (Edit, None) => false,
+fn resolves(line: Line, name: &str) -> bool {
+    match (line, of_crate(name)) {
+        (Edit, _) => edits().contains(name),
         (Test, _) => name.split_once("::").is_some_and(|(file, name)| is_test(file, name)),
         (_, Some((of, name))) => match (name.strip_prefix('/'), name.strip_prefix("::")) {
-            (Some(name), _) => name.split_once('.').is_some_and(|(file, name)| match column {
+            (Some(name), _) => name.split_once('.').is_some_and(|(file, name)| match line {
                 Proved => file == "Demands" && theorems(of).contains(name),
                 _ => is_defined(of, file, name),
             }),
-            (_, Some(name)) => has_promise(of, name) || column == Said && is_declared(of, name),
+            (_, Some(name)) => has_promise(of, name) || line == Said && is_declared(of, name),
             _ => false,
         },
         (_, None) => !name.is_empty() && root().join(name).exists(),
     }
 }
 
-fn edits_of(of: &str) -> String {
-    format!("crates/{of}/must-fail")
+/// The names with the same end that would resolve: of another crate, file of definitions or of tests.
+fn alike(line: Line, name: &str) -> Vec<String> {
+    let stem = |path: &str| path.rsplit('/').next().unwrap().split('.').next().unwrap().to_string();
+    let end = name.find(['/', ':']).unwrap_or(name.len());
+    let rest = &name[end..];
+    let mut names: BTreeSet<String> =
+        files("rust/tests", ".rs").iter().map(|path| stem(path) + rest).collect();
+    for of in crates() {
+        names.insert(format!("{of}{rest}"));
+        if let Some((_, name)) = rest.split_once('.') {
+            let files = files(&format!("crates/{of}/specs"), ".antt");
+            names.extend(files.iter().map(|path| format!("{of}/{}.{name}", stem(path))));
+        }
+    }
+    names.into_iter().filter(|name| resolves(line, name)).collect()
+}
+
+/// The edits of all crates: `must-fail` has those of the gate, `mutants` those of `make mutants`.
+fn edits() -> BTreeSet<String> {
+    let mut edits = BTreeSet::new();
+    for path in files("crates", ".edit") {
+        let parts: Vec<&str> = path.trim_end_matches(".edit").split('/').collect();
+        let [_, of, "must-fail" | "mutants", name] = parts[..] else {
+            panic!("{path} is never tried");
+        };
+        assert!(edits.insert(format!("{of}/{name}")), "edit {of}/{name} stands in both folders");
+    }
+    edits
 }
 
 /// The words of a line of definitions without the marks in front.
@@ -151,13 +229,12 @@ fn unmarked(line: &str) -> &str {
     rest
 }
 
-/// Whether a file of definitions has a name, or a record or a relation with a field or a case.
+/// Whether a file of definitions, of a crate or of its folder `Inner`, has a name, or a record or a
+/// relation with a field or a case.
 fn is_defined(of: &str, file: &str, name: &str) -> bool {
-    let path = format!("crates/{of}/specs/{file}.antt");
-    if !root().join(&path).is_file() {
-        return false;
-    }
-    let text = read(path);
+    let folder = format!("crates/{of}/specs");
+    let text = read_if_there(&format!("{folder}/{file}.antt"))
+        + &read_if_there(&format!("{folder}/Inner/{file}.antt"));
     let (name, part) = name.split_once('.').map_or((name, None), |(name, part)| (name, Some(part)));
     let is_signature = |line: &str, name: &str| {
         unmarked(line).strip_prefix(name).is_some_and(|rest| rest.starts_with(" :"))
@@ -166,47 +243,44 @@ fn is_defined(of: &str, file: &str, name: &str) -> bool {
         let words: Vec<&str> = unmarked(line).split(' ').collect();
         ["record", "data"].contains(&words[0]) && words.get(1) == Some(&name)
     };
+    // What stands in a module is indented, and so are fields and cases, which have no such mark.
+    let is_marked =
+        |line: &str| ["abbrev ", "unfoldable "].iter().any(|m| line.trim_start().starts_with(m));
+    let is_outer = |line: &str| !line.starts_with(' ') || is_marked(line);
+    let indent = |line: &str| line.len() - line.trim_start().len();
+    let mut lines = text.lines();
     match part {
-        None => {
-            // Fields and cases are indented too, and have no such mark.
-            let marked = |line: &str| {
-                ["abbrev ", "unfoldable "].iter().any(|m| line.trim_start().starts_with(m))
-            };
-            let mut outer = text.lines().filter(|line| !line.starts_with(' ') || marked(line));
-            outer.any(|line| is_signature(line, name) || is_type(line))
-        }
-        Some(part) => {
-            let behind = text.lines().skip_while(|line| !is_type(line)).skip(1);
-            let mut inside = behind.take_while(|line| line.starts_with(' '));
+        None => lines.any(|line| is_type(line) || is_outer(line) && is_signature(line, name)),
+        Some(part) => lines.by_ref().find(|line| is_type(line)).is_some_and(|record| {
+            let mut inside = lines.take_while(|line| indent(record) < indent(line));
             inside.any(|line| is_signature(line, part))
-        }
+        }),
     }
 }
 
 /// The statements of a crate that are proved.
 fn theorems(of: &str) -> BTreeSet<String> {
-    let path = format!("crates/{of}/proofs/Demands.antt");
-    if !root().join(&path).is_file() {
-        return BTreeSet::new();
-    }
-    let text = read(path);
+    let text = read_if_there(&format!("crates/{of}/proofs/Demands.antt"));
     let proved = text.lines().filter_map(|line| line.strip_prefix("pub ")?.split_once(" : "));
     proved.map(|(_, statement)| statement.to_string()).collect()
 }
 
-/// The files of a crate's code.
-fn code(of: &str) -> Vec<String> {
-    let folder = format!("crates/{of}/src");
-    names(&folder).iter().map(|file| read(format!("{folder}/{file}"))).collect()
+/// A function of a crate's code, a method by `Type::name`: its module, its marks, and its head up to
+/// the body.
+struct Function {
+    name: String,
+    module: String,
+    marks: String,
+    head: String,
 }
 
-/// Whether a crate has one function of that name, or one method `Type::name`, and it promises
-/// something: an `ensures` between the name and the body.
-fn has_promise(of: &str, name: &str) -> bool {
-    let (of_type, name) = name.split_once("::").map_or((None, name), |(of, name)| (Some(of), name));
-    let mut heads = Vec::new();
-    for file in code(of) {
-        let lines: Vec<&str> = file.lines().collect();
+fn functions(of: &str) -> Vec<Function> {
+    let mut functions = Vec::new();
+    let folder = format!("crates/{of}/src");
+    for file in files(&folder, ".rt") {
+        let module = file[folder.len() + 1..].trim_end_matches(".rt").replace('/', "::");
+        let text = read(file);
+        let lines: Vec<&str> = text.lines().collect();
         let mut methods_of = None;
         for (i, line) in lines.iter().enumerate() {
             match line.strip_prefix("impl ") {
@@ -214,14 +288,41 @@ fn has_promise(of: &str, name: &str) -> bool {
                 None if *line == "}" => methods_of = None,
                 None => {}
             }
-            let rest = line.split_once("fn ").and_then(|(_, rest)| rest.strip_prefix(name));
-            if rest.is_some_and(|rest| rest.starts_with(['(', '<'])) && methods_of == of_type {
-                let body = lines[i..].iter().position(|line| line.ends_with('{'));
-                heads.push(lines[i..=i + body.expect("a body")].join("\n"));
+            let Some((marks, rest)) = line.split_once("fn ") else {
+                continue;
+            };
+            if !["", "pub", "pub extern \"C\""].contains(&marks.trim()) {
+                continue;
             }
+            let name = rest.split(['(', '<']).next().unwrap_or_default();
+            let name = methods_of.map_or(name.to_string(), |of| format!("{of}::{name}"));
+            let body = lines[i..].iter().position(|line| line.ends_with('{')).expect("a body");
+            let head = lines[i..=i + body].join("\n");
+            let (module, marks) = (module.clone(), marks.trim().to_string());
+            functions.push(Function { name, module, marks, head });
         }
     }
-    matches!(&heads[..], [head] if head.contains(" ensures "))
+    functions
+}
+
+/// Whether a crate has one function of that name and it promises something.
+fn has_promise(of: &str, name: &str) -> bool {
+    let named: Vec<Function> = functions(of).into_iter().filter(|f| f.name == name).collect();
+    matches!(&named[..], [function] if function.head.contains(" ensures "))
+}
+
+/// The functions that a library opens to other crates or to C: those of its modules that its `lib.rt`
+/// hands on, the open methods of the types that it hands on, and those with a C name.
+fn open_functions(of: &str) -> Vec<Function> {
+    let text = read_if_there(&format!("crates/{of}/src/lib.rt"));
+    let handed = text.lines().filter_map(|line| line.strip_prefix("pub use ")?.strip_suffix(';'));
+    let handed: BTreeSet<&str> = handed.collect();
+    assert!(!handed.iter().any(|path| path.contains(['{', '*', ' '])), "{of} hands on {handed:?}");
+    let is_open = |Function { name, module, marks, .. }: &Function| match name.split_once("::") {
+        Some((of_type, _)) => marks == "pub" && handed.contains(&*format!("{module}::{of_type}")),
+        None => handed.contains(&*format!("{module}::{name}")) || marks.contains("extern"),
+    };
+    functions(of).into_iter().filter(is_open).collect()
 }
 
 /// Whether a crate's code has a type or a constant of that name.
@@ -231,15 +332,14 @@ fn is_declared(of: &str, name: &str) -> bool {
         let named = words.get(1).map(|word| word.trim_end_matches([':', ';']));
         ["struct", "enum", "const"].contains(words.first().unwrap_or(&"")) && named == Some(name)
     };
-    code(of).iter().flat_map(|file| file.lines()).any(is_here)
+    files(&format!("crates/{of}/src"), ".rt").iter().any(|file| read(file).lines().any(is_here))
 }
 
-/// Whether a file of `rust/tests` or `rust/src` has a test of that name.
+/// Whether one file of that name, anywhere in `rust/tests` or `rust/src`, has a test of that name.
 fn is_test(file: &str, name: &str) -> bool {
-    ["rust/tests", "rust/src"].iter().any(|folder| {
-        let path = format!("{folder}/{file}.rs");
-        root().join(&path).is_file() && has_test(&read(path), name)
-    })
+    let end = format!("/{file}.rs");
+    let named = [files("rust/tests", ".rs"), files("rust/src", ".rs")].concat();
+    named.iter().filter(|path| path.ends_with(&end) && has_test(&read(path), name)).count() == 1
 }
 
 fn has_test(text: &str, name: &str) -> bool {
@@ -252,146 +352,130 @@ fn has_test(text: &str, name: &str) -> bool {
     marks.any(|line| *line == "#[test]")
 }
 
-/// The ids under a heading.
-fn told_under(page: &str, heading: &str, ids: &BTreeSet<String>) -> BTreeSet<String> {
-    let behind = page.lines().skip_while(|line| *line != heading).skip(1);
-    let text: Vec<&str> = behind.take_while(|line| !line.starts_with('#')).collect();
-    assert!(!text.is_empty(), "no heading {heading}");
-    let words = text.join(" ");
-    let words = words.split(|c: char| !c.is_alphanumeric()).map(str::to_string);
-    words.filter(|word| ids.contains(word)).collect()
-}
+// The tests.
 
 #[test]
 fn every_name_is_there() {
-    let missing: Vec<String> = references(&page())
-        .into_iter()
-        .filter(|(_, column, name)| !resolves(*column, name))
-        .map(|(place, column, name)| format!("{place}, {column:?}: {name}"))
-        .collect();
-    assert!(missing.is_empty(), "not there:\n{}", missing.join("\n"));
+    let mut missing: BTreeMap<(Line, String), Vec<String>> = BTreeMap::new();
+    for (at, line, name) in references() {
+        if !resolves(line, &name) {
+            missing.entry((line, name)).or_default().push(at);
+        }
+    }
+    let told = missing.iter().map(|((line, name), at)| {
+        format!("{line:?} {name}, in {at:?}; alike are {:?}\n", alike(*line, name))
+    });
+    assert!(missing.is_empty(), "not there:\n{}", told.collect::<String>());
 }
 
-/// A cell has a name of its kind, or a dash.
+/// A line has a name of its kind, or says that there is none.
 #[test]
-fn no_cell_is_empty() {
-    let page = page();
-    let rows = rows(&page);
-    assert!(rows.len() > 100, "{} rows", rows.len());
-    for row in &rows {
-        for (column, cell) in &row.cells {
-            let names = quoted(cell).filter(|name| name.contains(['/', ':'])).count();
-            assert!(names > 0 || row.lacks(*column), "{}, {column:?}: {cell}", row.id);
+fn no_line_is_empty() {
+    for sentence in page().sentences {
+        for (line, told) in LINES.into_iter().zip(&sentence.lines) {
+            let names = quoted(told).filter(|name| name.contains(['/', ':'])).count();
+            assert!(names > 0 || sentence.lacks(line), "{}, {line:?}: {told}", sentence.id);
         }
     }
 }
 
 /// The ids of a letter go from 1 upward, and the page tells how many there are.
 #[test]
-fn no_row_is_missing() {
-    let page = page();
-    let rows = rows(&page);
+fn no_sentence_is_missing() {
+    let Page { sentences, prose } = page();
     let mut last = BTreeMap::new();
-    for Row { id, .. } in &rows {
+    for Sentence { id, .. } in &sentences {
         let (letter, number) = id.split_at(1);
         let last = last.entry(letter).or_insert(0);
         *last += 1;
-        assert!(letter.chars().all(char::is_uppercase), "no id: {id}");
         assert_eq!(number, last.to_string(), "{id} is not the next id");
     }
-    let told = format!("The tables have {} rows.", rows.len());
-    assert!(page.contains(&told), "the page does not say: {told}");
+    assert!(sentences.len() > 100, "{} sentences", sentences.len());
+    let told = format!("The page has {} sentences.", sentences.len());
+    assert!(prose.join(" ").contains(&told), "the page does not say: {told}");
 }
 
 #[test]
-fn every_refusal_has_its_row() {
-    let page = page();
+fn every_refusal_has_its_sentence() {
+    let sentences = page().sentences;
     for number in 1..=20 {
-        let start = format!("| **R{number}** “{number}: ");
-        let count = page.lines().filter(|line| line.starts_with(&start)).count();
-        assert_eq!(count, 1, "rows of refusal {number}");
+        let (id, start) = (format!("R{number}"), format!("{number}: "));
+        let sentence = sentences.iter().find(|sentence| sentence.id == id);
+        assert!(sentence.is_some_and(|s| s.words.starts_with(&start)), "refusal {number}");
     }
 }
 
 #[test]
 fn every_edit_is_cited() {
-    let references = references(&page());
-    let cited: BTreeSet<&str> = references
-        .iter()
-        .filter(|(_, column, _)| *column == Edit)
-        .map(|(_, _, name)| name.as_str())
-        .collect();
-    let mut count = 0;
-    for of in crates() {
-        for file in names(&edits_of(&of)) {
-            let name = format!("{of}/{}", file.trim_end_matches(".edit"));
-            assert!(cited.contains(name.as_str()), "edit {name} is not cited");
-            count += 1;
-        }
-    }
-    assert!(count > 40, "{count} edits");
+    let (edits, cited) = (edits(), cited(Edit));
+    let uncited: Vec<_> = edits.difference(&cited).collect();
+    assert!(uncited.is_empty(), "edits that are not cited: {uncited:#?}");
+    assert!(edits.len() > 40, "{} edits", edits.len());
 }
 
 #[test]
 fn every_theorem_is_cited() {
-    let references = references(&page());
-    let mut count = 0;
-    for of in crates() {
-        for statement in theorems(&of) {
-            let name = format!("{of}/Demands.{statement}");
-            let is_cited =
-                references.iter().any(|(_, column, other)| (*column, other) == (Proved, &name));
-            assert!(is_cited, "{name} is not cited as proved");
-            count += 1;
-        }
-    }
-    assert!(count > 20, "{count} theorems");
+    let proved = crates().into_iter().flat_map(|of| {
+        theorems(&of).into_iter().map(move |statement| format!("{of}/Demands.{statement}"))
+    });
+    let (proved, cited) = (proved.collect::<BTreeSet<String>>(), cited(Proved));
+    let uncited: Vec<_> = proved.difference(&cited).collect();
+    assert!(uncited.is_empty(), "theorems that are not cited as proved: {uncited:#?}");
+    assert!(proved.len() > 20, "{} theorems", proved.len());
 }
 
-/// What the page says of its gaps is what its tables show.
+/// What the page says of its gaps is what its sentences show.
 #[test]
 fn every_gap_is_told() {
-    let page = page();
-    let rows = rows(&page);
-    let ids: BTreeSet<String> = rows.iter().map(|row| row.id.clone()).collect();
-    for (heading, columns) in [
-        ("### No must-fail edit", &[Edit][..]),
+    let Page { sentences, prose } = page();
+    for (heading, lines) in [
+        ("### No edit", &[Edit][..]),
         ("### No test", &[Test]),
         ("### No definition, or nothing proved", &[Said, Proved]),
     ] {
-        let lacking = rows.iter().filter(|row| columns.iter().any(|column| row.lacks(*column)));
-        let lacking: BTreeSet<String> = lacking.map(|row| row.id.clone()).collect();
-        let told = told_under(&page, heading, &ids);
+        let lacking = sentences.iter().filter(|s| lines.iter().any(|line| s.lacks(*line)));
+        let lacking: BTreeSet<&str> = lacking.map(|sentence| sentence.id.as_str()).collect();
+        let behind = prose.iter().skip_while(|line| *line != heading).skip(1);
+        let under = behind.take_while(|line| !line.starts_with('#'));
+        let words = under.flat_map(|line| line.split(|c: char| !c.is_alphanumeric()));
+        let told: BTreeSet<&str> = words.filter(|word| is_id(word)).collect();
         let untold: Vec<_> = lacking.difference(&told).collect();
         let untrue: Vec<_> = told.difference(&lacking).collect();
         assert!(untold.is_empty() && untrue.is_empty(), "{heading}: {untold:?}, but {untrue:?}");
     }
 }
 
-/// The functions that a library's `lib.rt` hands on to other crates, or to C, each have an
-/// `ensures`.
 #[test]
 fn every_open_function_has_a_promise() {
-    let mut count = 0;
+    let mut open = BTreeSet::new();
     for of in crates() {
-        let path = format!("crates/{of}/src/lib.rt");
-        if !root().join(&path).is_file() {
-            continue;
-        }
-        for line in read(path).lines() {
-            let handed = line.strip_prefix("pub use ").and_then(|rest| rest.rsplit_once("::"));
-            let handed = handed.map(|(_, name)| name.trim_end_matches(';'));
-            let exported = line.strip_prefix("pub extern \"C\" fn ");
-            let exported = exported.map(|rest| rest.split_once('(').unwrap().0);
-            // Types have their names in capitals.
-            let is_function = |name: &&str| name.starts_with(|c: char| c.is_ascii_lowercase());
-            for name in [handed, exported].into_iter().flatten().filter(is_function) {
-                assert!(has_promise(&of, name), "{of}::{name} promises nothing");
-                count += 1;
-            }
+        for Function { name, head, .. } in open_functions(&of) {
+            assert!(head.contains(" ensures "), "{of}::{name} promises nothing");
+            open.insert(format!("{of}::{name}"));
         }
     }
-    assert!(count > 15, "{count} open functions");
+    let cited = cited(Proved);
+    let uncited: Vec<_> = open.difference(&cited).collect();
+    assert!(uncited.is_empty(), "open functions that are not cited as proved: {uncited:#?}");
+    assert!(open.len() > 15, "{} open functions", open.len());
+}
+
+#[test]
+fn every_requires_is_told() {
+    let decisions = read("docs/DECISIONS.md");
+    let heading = "## Public functions with a `requires`";
+    let behind = decisions.lines().skip_while(|line| *line != heading).skip(1);
+    let items = behind.take_while(|line| !line.starts_with('#')).filter(|l| l.starts_with("- `"));
+    let told: BTreeSet<String> =
+        items.map(|line| line.split('`').nth(1).unwrap_or_default().to_string()).collect();
+    let mut required = BTreeSet::new();
+    for of in crates() {
+        let functions = open_functions(&of).into_iter().filter(|f| f.head.contains(" requires "));
+        required.extend(functions.map(|function| format!("{of}::{}", function.name)));
+    }
+    let untold: Vec<_> = required.difference(&told).collect();
+    let untrue: Vec<_> = told.difference(&required).collect();
+    assert!(untold.is_empty() && untrue.is_empty(), "not told: {untold:#?}, but {untrue:#?}");
 }
 
 #[test]
@@ -399,8 +483,8 @@ fn the_axioms_are_those_that_the_gate_allows() {
     let makefile = read("Makefile");
     let assumed = makefile.lines().find_map(|line| line.strip_prefix("ASSUMED := "));
     let assumed: BTreeSet<&str> = assumed.expect("the gate's list").split(' ').collect();
-    let page = page();
-    let lines = page.lines().filter_map(|line| line.strip_prefix("    axioms "));
+    let prose = page().prose;
+    let lines = prose.iter().filter_map(|line| line.strip_prefix("    axioms "));
     let named: BTreeSet<&str> = lines
         .flat_map(|line| {
             let (_, names) = line.split_once(": ").expect("a library in front of the names");

@@ -7,6 +7,7 @@ use lib.ListN.{length, replicate}
 use Rattle.seq.specs.Lists.{keep, total, joined}
 use Rattle.seq.specs.Numbers.{run}
 use Rattle.volume.specs.Layout.{listsOf}
+use Rattle.plan.specs.Limits.{rowWords}
 use Rattle.plan.specs.Rows.{rowsOf}
 use Rattle.plan.specs.declared.row.Row.{Row}
 use Rattle.plan.specs.Patterns.{Pattern, patternsOf, varsOf, answer}
@@ -60,7 +61,7 @@ unfolding matching rowIn varsOf postingsIn
 workOf lists rows = record {
   isTrue = matching lists rows;
   rowOf = rowIn lists rows;
-  width = 1 + length (patternsOf rows) + total (λ (f : Pattern). length (f .vars)) (patternsOf rows);
+  width = rowWords (length (patternsOf rows)) (total (λ (f : Pattern). length (f .vars)) (patternsOf rows));
   postings = postingsIn lists rows;
 }
 

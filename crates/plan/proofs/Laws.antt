@@ -18,15 +18,15 @@
 pub mod Kinds
 pub mod Rows
 pub mod State
-pub mod Counts
-pub mod Passed
+mod Counts
+mod Passed
 pub mod Check
-pub mod Patterns
+mod Patterns
 pub mod Given
 pub mod Spans
-pub mod Reading
-pub mod Walk
-pub mod Parts
+mod Reading
+mod Walk
+mod Parts
 pub mod Shown
 pub mod CheckFirst
 pub mod ShownFirst

@@ -18,7 +18,8 @@ use Rattle.plan.specs.Check.{sizes}
 abbrev pub patternAt : List ℕ → ℕ → Pattern
 patternAt p k = getD (patternsOf (rowsOf p)) k noRow
 
--- a pattern over t lists: 1 to 8 variables, each over a list that is there and is not list 0; predicates in range, naming variables that are there
+-- a pattern over t lists: 1 to 8 variables, each over a list that is there and is not list 0; predicates in range, naming variables
+-- that are there
 pub record WellMade (t : ℕ) (f : Pattern) : Type 0 where
   pub some-vars : 1 ≤ length (f .vars)
   pub most-vars : length (f .vars) ≤ mostPatternVars

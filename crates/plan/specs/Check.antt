@@ -13,13 +13,14 @@ use Rattle.volume.specs.Check as volume
 use Rattle.plan.specs.declared.state.Step.{Step}
 use Rattle.plan.specs.declared.state.Step.the-variants.{Stands, Faulty}
 use Rattle.plan.specs.Answers.{Sizes, faultCode}
+use Rattle.plan.specs.Limits.{mostWords}
 use Rattle.plan.specs.Rows.{rowCount, rowsOf}
 use Rattle.plan.specs.State.{stateAt, step}
 use Rattle.plan.specs.Patterns.{Pattern, patternsOf}
 
 -- 9: length 0, not a multiple of four words, or over 256 words
 unfoldable pub lengthWrong : List ℕ → Bool
-lengthWrong p = eqb (length p) 0 || (not (eqb (length p % 4) 0) || ltb 256 (length p))
+lengthWrong p = eqb (length p) 0 || (not (eqb (length p % 4) 0) || ltb mostWords (length p))
 
 -- a row is refused, and its number
 abbrev pub faulty : Step → Bool

@@ -37,7 +37,9 @@ PartRefuses = (v p : List ℕ) (k : ℕ) → (partOf v p k ≡ []) ↔ ((n : ℕ
 
 -- four words have the right form and are read as a row exactly if its limit is in range and they are its words
 unfoldable pub ReadsRows : Type 0
-ReadsRows = (k a b c : ℕ) (r : Row) → ((formWrong k a b c ≡ false) × (rowOf k a b c ≡ r)) ↔ (InRange (r .kind) × (wordsOf (r .kind) ≡ k ∷ a ∷ b ∷ c ∷ []))
+ReadsRows =
+    (k a b c : ℕ) (r : Row)
+    → ((formWrong k a b c ≡ false) × (rowOf k a b c ≡ r)) ↔ (InRange (r .kind) × (wordsOf (r .kind) ≡ k ∷ a ∷ b ∷ c ∷ []))
 
 -- an accepted volume and plan give these facts
 unfoldable pub Gives : Type 0

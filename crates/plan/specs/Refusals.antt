@@ -3,7 +3,7 @@
 -- Assumes nothing.
 use Prim.Native.Nat.{ℕ, _%_, _<_, _≤_}
 use mathlib.Core.Path.{_≡_}
-use mathlib.Core.Bool.{true, false}
+use mathlib.Core.Bool.{Bool, true, false}
 use mathlib.Core.Logic.{_⊎_, _≢_}
 use mathlib.Core.List.{List, [], _∷_, _++_}
 use lib.ListN.{length}
@@ -15,6 +15,7 @@ use Rattle.plan.specs.declared.row.Predicate.the-variants.{Distance, Ord
 use Rattle.plan.specs.declared.row.Kind.{Kind}
 use Rattle.plan.specs.declared.row.Kind.the-variants as kind
 use Rattle.plan.specs.declared.state.State.{State}
+use Rattle.plan.specs.Limits.{lastKind, mostWords, mostPatterns, mostPatternVars}
 use Rattle.plan.specs.Rows.{rowCount, kindAt, aAt, bAt, cAt, kindOf, rowAt, rowsBefore, rowsOf, usesOf}
 use Rattle.plan.specs.State.{takes}
 use Rattle.plan.specs.Counts.{counted}
@@ -22,15 +23,26 @@ use Rattle.plan.specs.Check.{sizes}
 
 -- length 0, not a multiple of four words, or over 256 words
 abbrev pub WrongLength : List ℕ → Type 0
-WrongLength p = (length p ≡ 0) ⊎ ((length p % 4 ≢ 0) ⊎ (256 < length p))
+WrongLength p = (length p ≡ 0) ⊎ ((length p % 4 ≢ 0) ⊎ (mostWords < length p))
+
+-- a word that is not used is not 0
+abbrev pub Stray : Bool → ℕ → Type 0
+Stray used word = (used ≡ false) × (word ≢ 0)
 
 -- a word that is not used is not 0, or c is out of range
 abbrev pub Misused : Uses → ℕ → ℕ → ℕ → Type 0
-Misused u a b c = ((u .a ≡ false) × (a ≢ 0)) ⊎ (((u .b ≡ false) × (b ≢ 0)) ⊎ ((c < u .least) ⊎ (u .most < c)))
+Misused u a b c = Stray (u .a) a ⊎ (Stray (u .b) b ⊎ (Stray (u .c) c ⊎ ((c < u .least) ⊎ (u .most < c))))
+
+-- words that a row carries do not fit each other; there is no such rule for any kind
+abbrev pub WrongPair : Kind → Type 0
+WrongPair (kind.Voice list) = ⊥
+WrongPair (kind.Condition c) = ⊥
+WrongPair kind.End = ⊥
+WrongPair (kind.Operator o) = ⊥
 
 -- an unknown kind, an unused word that is not 0, or c out of range
 abbrev pub WrongForm : ℕ → ℕ → ℕ → ℕ → Type 0
-WrongForm k a b c = (k < 1) ⊎ ((9 < k) ⊎ Misused (usesOf (kindOf k a b c)) a b c)
+WrongForm k a b c = (k < 1) ⊎ ((lastKind < k) ⊎ (Misused (usesOf (kindOf k a b c)) a b c ⊎ WrongPair (kindOf k a b c)))
 
 -- a row of a list that is list 0, or not below t
 abbrev pub WrongList : ℕ → Kind → Type 0
@@ -41,7 +53,7 @@ WrongList t (kind.Operator o) = ⊥
 
 -- a VOICE where the open pattern has eight variables, or where none is open and there are eight patterns
 abbrev pub Ninth : State → Kind → Type 0
-Ninth s (kind.Voice list) = (8 ≤ s .vars) ⊎ ((s .vars ≡ 0) × (8 ≤ s .patterns))
+Ninth s (kind.Voice list) = (mostPatternVars ≤ s .vars) ⊎ ((s .vars ≡ 0) × (mostPatterns ≤ s .patterns))
 Ninth s (kind.Condition c) = ⊥
 Ninth s kind.End = ⊥
 Ninth s (kind.Operator o) = ⊥

@@ -1,5 +1,5 @@
--- The rows of a plan: four words each, and the kind that they are read as. Each definition is total: behind the end of the plan stand zeros.
--- Assumes nothing.
+-- The rows of a plan: four words each, and the kind that they are read as. Each definition is total: behind the end of the plan stand
+-- zeros. Assumes nothing.
 use Prim.Native.Nat.{ℕ, _+_, _-_, _*_, _/_, _≤_}
 use mathlib.Core.Bool.{Bool, true, false, not, _&&_, _||_}
 use mathlib.Core.List.{List, [], _∷_, map}
@@ -14,6 +14,7 @@ use Rattle.plan.specs.declared.row.Operator.the-variants.{Both, Either, 
 use Rattle.plan.specs.declared.row.Kind.{Kind}
 use Rattle.plan.specs.declared.row.Kind.the-variants as kind
 use Rattle.plan.specs.declared.row.Row.{Row}
+use Rattle.plan.specs.Limits.{lastKind}
 
 -- the number of rows
 abbrev pub rowCount : List ℕ → ℕ
@@ -32,7 +33,7 @@ bAt p i = getD p (4 * i + 2) 0
 abbrev pub cAt : List ℕ → ℕ → ℕ
 cAt p i = getD p (4 * i + 3) 0
 
--- the kind of a row with these words, for kinds 1 to 9
+-- the kind of a row with these words, for kinds 1 to the last
 abbrev pub kindOf : ℕ → ℕ → ℕ → ℕ → Kind
 kindOf k a b c =
     getD
@@ -89,27 +90,38 @@ isOperator (kind.Condition c) = false
 isOperator kind.End = false
 isOperator (kind.Operator o) = true
 
--- whether a and b are used, and the range of c
-abbrev pub uses : Bool → Bool → ℕ → ℕ → Uses
-uses a b least most = record { a = a; b = b; least = least; most = most }
+-- whether a, b and c are used, and the range of c
+abbrev pub uses : Bool → Bool → Bool → ℕ → ℕ → Uses
+uses a b c least most = record { a = a; b = b; c = c; least = least; most = most }
 
--- the words that a row uses, by its kind; c is 0 where it is not used
+-- the words that a row uses, by its kind; the range of c is 0 to 0 where it is not used
 abbrev pub usesOf : Kind → Uses
-usesOf (kind.Voice list) = uses true false 0 0
-usesOf (kind.Condition (Distance a b limit)) = uses true true 0 65535
-usesOf (kind.Condition (Ordered a b)) = uses true true 0 0
-usesOf (kind.Condition (Samepara a b)) = uses true true 0 0
-usesOf (kind.Condition (Window limit)) = uses false false 1 65536
-usesOf kind.End = uses false false 0 0
-usesOf (kind.Operator o) = uses false false 0 0
+usesOf (kind.Voice list) = uses true false false 0 0
+usesOf (kind.Condition (Distance a b limit)) = uses true true true 0 65535
+usesOf (kind.Condition (Ordered a b)) = uses true true false 0 0
+usesOf (kind.Condition (Samepara a b)) = uses true true false 0 0
+usesOf (kind.Condition (Window limit)) = uses false false true 1 65536
+usesOf kind.End = uses false false false 0 0
+usesOf (kind.Operator o) = uses false false false 0 0
+
+-- a word that is not used is not 0
+abbrev pub stray : Bool → ℕ → Bool
+stray used word = not used && not (eqb word 0)
 
 -- words a, b and c are not as a kind uses them: one that is not used is not 0, or c is out of its range
 unfoldable pub misused : Uses → ℕ → ℕ → ℕ → Bool
-misused u a b c = (not (u .a) && not (eqb a 0)) || ((not (u .b) && not (eqb b 0)) || (ltb c (u .least) || ltb (u .most) c))
+misused u a b c = stray (u .a) a || (stray (u .b) b || (stray (u .c) c || (ltb c (u .least) || ltb (u .most) c)))
+
+-- words that a row carries do not fit each other; there is no such rule for any kind
+abbrev pub pairWrong : Kind → Bool
+pairWrong (kind.Voice list) = false
+pairWrong (kind.Condition c) = false
+pairWrong kind.End = false
+pairWrong (kind.Operator o) = false
 
 -- 10: unknown kind, unused word not 0, or c out of range
 unfoldable pub formWrong : ℕ → ℕ → ℕ → ℕ → Bool
-formWrong k a b c = ltb k 1 || (ltb 9 k || misused (usesOf (kindOf k a b c)) a b c)
+formWrong k a b c = ltb k 1 || (ltb lastKind k || (misused (usesOf (kindOf k a b c)) a b c || pairWrong (kindOf k a b c)))
 
 abbrev pub formWrongAt : List ℕ → ℕ → Bool
 formWrongAt p i = formWrong (kindAt p i) (aAt p i) (bAt p i) (cAt p i)

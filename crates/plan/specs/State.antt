@@ -20,6 +20,7 @@ use Rattle.plan.specs.declared.row.Row.{Row}
 use Rattle.plan.specs.declared.state.State.{State}
 use Rattle.plan.specs.declared.state.Step.{Step}
 use Rattle.plan.specs.declared.state.Step.the-variants.{Stands, Faulty}
+use Rattle.plan.specs.Limits.{mostPatterns, mostPatternVars}
 use Rattle.plan.specs.Rows.{rowAt, rowsBefore, formWrongAt}
 
 -- in front of row 0: no pattern open, nothing stacked
@@ -34,10 +35,14 @@ takes FirstNotSecond = 2
 
 -- behind a row: a variable is added; conditions have begun; the pattern is closed and its answer stacked; the top answers become one
 abbrev pub after : State → Kind → State
-after s (kind.Voice list) = record { vars = s .vars + 1; begun = s .begun; patterns = s .patterns; answers = s .answers; total = s .total + 1 }
-after s (kind.Condition c) = record { vars = s .vars; begun = true; patterns = s .patterns; answers = s .answers; total = s .total }
-after s kind.End = record { vars = 0; begun = false; patterns = s .patterns + 1; answers = s .answers + 1; total = s .total }
-after s (kind.Operator o) = record { vars = s .vars; begun = s .begun; patterns = s .patterns; answers = s .answers + 1 - takes o; total = s .total }
+after s (kind.Voice list) =
+    record { vars = s .vars + 1; begun = s .begun; patterns = s .patterns; answers = s .answers; total = s .total + 1 }
+after s (kind.Condition c) =
+    record { vars = s .vars; begun = true; patterns = s .patterns; answers = s .answers; total = s .total }
+after s kind.End =
+    record { vars = 0; begun = false; patterns = s .patterns + 1; answers = s .answers + 1; total = s .total }
+after s (kind.Operator o) =
+    record { vars = s .vars; begun = s .begun; patterns = s .patterns; answers = s .answers + 1 - takes o; total = s .total }
 
 -- behind several rows
 unfoldable pub afterAll : State → List Row → State
@@ -64,7 +69,7 @@ listWrong t (kind.Operator o) = false
 
 -- 12: a ninth variable, or a VOICE that would open a ninth pattern
 abbrev pub tooMany : State → Kind → Bool
-tooMany s (kind.Voice list) = leb 8 (s .vars) || (eqb (s .vars) 0 && leb 8 (s .patterns))
+tooMany s (kind.Voice list) = leb mostPatternVars (s .vars) || (eqb (s .vars) 0 && leb mostPatterns (s .patterns))
 tooMany s (kind.Condition c) = false
 tooMany s kind.End = false
 tooMany s (kind.Operator o) = false

@@ -1,16 +1,18 @@
 // The words that rows of each kind use.
 ghost use mathlib.Core.Path.{_≡_};
-ghost use mathlib.Core.Bool.{_&&_, not};
 ghost use Prim.Native.Nat.{ℕ, _≤_};
-ghost use lib.Dec.{eqb};
 ghost use Rattle.plan.specs.Limits.{lastKind};
-ghost use Rattle.plan.specs.Rows.{kindOf, usesOf, formWrong};
+ghost use Rattle.plan.specs.Rows.{kindOf, usesOf, pairWrong, formWrong};
+ghost use Rattle.plan.specs.Rows as rows;
 use super::limits::LAST_KIND;
+use super::row::Kind;
+use super::row::row_of;
 
-// Whether a and b are used, and the range of c; 0 to 0 where c is not used.
+// Whether a, b and c are used, and the range of c; 0 to 0 where c is not used.
 pub struct Uses {
     pub a: bool,
     pub b: bool,
+    pub c: bool,
     pub least: u32,
     pub most: u32,
 }
@@ -21,6 +23,7 @@ const KINDS: [Uses; LAST_KIND as usize] = [
     Uses {
         a: true,
         b: false,
+        c: false,
         least: 0,
         most: 0,
     },
@@ -28,6 +31,7 @@ const KINDS: [Uses; LAST_KIND as usize] = [
     Uses {
         a: true,
         b: true,
+        c: true,
         least: 0,
         most: 65535,
     },
@@ -35,6 +39,7 @@ const KINDS: [Uses; LAST_KIND as usize] = [
     Uses {
         a: true,
         b: true,
+        c: false,
         least: 0,
         most: 0,
     },
@@ -42,6 +47,7 @@ const KINDS: [Uses; LAST_KIND as usize] = [
     Uses {
         a: true,
         b: true,
+        c: false,
         least: 0,
         most: 0,
     },
@@ -49,6 +55,7 @@ const KINDS: [Uses; LAST_KIND as usize] = [
     Uses {
         a: false,
         b: false,
+        c: true,
         least: 1,
         most: 65536,
     },
@@ -56,6 +63,7 @@ const KINDS: [Uses; LAST_KIND as usize] = [
     Uses {
         a: false,
         b: false,
+        c: false,
         least: 0,
         most: 0,
     },
@@ -63,6 +71,7 @@ const KINDS: [Uses; LAST_KIND as usize] = [
     Uses {
         a: false,
         b: false,
+        c: false,
         least: 0,
         most: 0,
     },
@@ -70,6 +79,7 @@ const KINDS: [Uses; LAST_KIND as usize] = [
     Uses {
         a: false,
         b: false,
+        c: false,
         least: 0,
         most: 0,
     },
@@ -77,6 +87,7 @@ const KINDS: [Uses; LAST_KIND as usize] = [
     Uses {
         a: false,
         b: false,
+        c: false,
         least: 0,
         most: 0,
     },
@@ -93,7 +104,7 @@ fn used_by(kind: u32) -> Uses
 
 // Whether a word that is not used is not 0.
 fn stray(used: bool, word: u32) -> bool
-    ensures { λ r. ⌜ r ≡ (not used && not (eqb word 0)) ⌝ }
+    ensures { λ r. ⌜ r ≡ rows.stray used word ⌝ }
 {
     if used {
         return false;
@@ -101,8 +112,20 @@ fn stray(used: bool, word: u32) -> bool
     word != 0
 }
 
-// Whether four words are no row: the kind is unknown, a word that it does not use is not 0, or c is
-// out of its range.
+// Whether words that a row carries do not fit each other; there is no such rule for any kind.
+fn pair_wrong(kind: Kind) -> bool
+    ensures { λ r. ⌜ r ≡ pairWrong kind ⌝ }
+{
+    match kind {
+        Kind::Voice(_) => false,
+        Kind::Condition(_) => false,
+        Kind::End => false,
+        Kind::Operator(_) => false,
+    }
+}
+
+// Whether four words are no row: the kind is unknown, a word that it does not use is not 0, c is out
+// of its range, or words do not fit each other.
 pub fn form_wrong(kind: u32, a: u32, b: u32, c: u32) -> bool
     ensures { λ r. ⌜ r ≡ formWrong kind a b c ⌝ }
 {
@@ -119,8 +142,16 @@ pub fn form_wrong(kind: u32, a: u32, b: u32, c: u32) -> bool
     if stray(used.b, b) {
         return true;
     }
+    if stray(used.c, c) {
+        return true;
+    }
     if c < used.least {
         return true;
     }
-    used.most < c
+    if used.most < c {
+        return true;
+    }
+    let row = row_of(kind, a, b, c);
+    let carried = row.kind;
+    pair_wrong(carried)
 }

@@ -37,8 +37,8 @@ pub struct Row {
     pub kind: Kind,
 }
 
-// The row of four words.
-fn row_of(kind: u32, a: u32, b: u32, c: u32) -> Row
+// The row of four words, of a kind that there is.
+pub fn row_of(kind: u32, a: u32, b: u32, c: u32) -> Row
     requires { ⌜ 1 ≤ kind ⌝ }
     requires { ⌜ kind ≤ lastKind ⌝ }
     ensures { λ r. ⌜ r ≡ rowOf kind a b c ⌝ }

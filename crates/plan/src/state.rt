@@ -2,6 +2,7 @@
 ghost use mathlib.Core.Path.{_≡_};
 ghost use mathlib.Core.Bool.{false};
 ghost use Prim.Native.Nat.{_<_};
+ghost use Rattle.plan.specs.Limits.{mostRows};
 ghost use Rattle.plan.specs.Rows.{rowCount};
 ghost use Rattle.plan.specs.State as state;
 ghost use Rattle.plan.specs.Inner.State.{AtMost};
@@ -110,7 +111,7 @@ fn order_wrong(kind: Kind, s: State) -> bool
 
 // The state behind a row that may stand here.
 fn after(kind: Kind, s: State) -> State
-    requires { ⌜ AtMost 63 s ⌝ }
+    requires { ⌜ AtMost mostRows s ⌝ }
     requires { ⌜ state.orderWrong s kind ≡ false ⌝ }
     ensures { λ r. ⌜ r ≡ state.after s kind ⌝ }
 {
@@ -149,7 +150,7 @@ fn after(kind: Kind, s: State) -> State
 // What row i of a plan does to a state, over a volume of so many lists.
 pub fn row_step(plan: &[u32], i: usize, lists: u32, s: State) -> Step
     requires { ⌜ i < rowCount (now plan) ⌝ }
-    requires { ⌜ AtMost 63 s ⌝ }
+    requires { ⌜ AtMost mostRows s ⌝ }
     ensures { λ r. ⌜ r ≡ state.step lists s (now (plan .entry)) i ⌝ }
 {
     let at = 4 * i;

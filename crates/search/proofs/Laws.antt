@@ -30,7 +30,6 @@
 --     Tally          the postings passed, variable by variable
 --     Seen           one document of the walk
 --     Visits         the listing loop, document by document
---     Cases          the starred cases
 pub mod Pages
 pub mod Loop
 pub mod Listing
@@ -45,5 +44,4 @@ pub mod Filling
 pub mod Tally
 pub mod Seen
 pub mod Visits
-pub mod Cases
 pub mod Stages

@@ -49,7 +49,7 @@ pub fn set_word(volume: &mut [u8], index: usize, word: u32) {
 
 /// The least number of blocks that holds so many stream words.
 pub fn blocks_for(words: u64) -> u64 {
-    words / 126 + u64::from(words % 126 != 0)
+    words / 126 + u64::from(!words.is_multiple_of(126))
 }
 
 /// Whether each posting is above the one before it.
@@ -72,7 +72,7 @@ pub fn cut<'a>(counts: &[u32], postings: &'a [u32]) -> (Vec<&'a [u32]>, &'a [u32
 /// The lists of an accepted volume.
 pub fn lists(volume: &[u8]) -> Result<Vec<Vec<u32>>, Refused> {
     let n = volume.len() / 512;
-    if volume.is_empty() || volume.len() % 512 != 0 || n > 8_192 {
+    if volume.is_empty() || !volume.len().is_multiple_of(512) || n > 8_192 {
         return Err((1, 0));
     }
     for (k, block) in volume.chunks(512).enumerate() {

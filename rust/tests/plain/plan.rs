@@ -98,7 +98,7 @@ pub struct Plan {
 /// Checks a plan over a volume.
 pub fn check(volume: &[u8], plan: &[u32]) -> Result<Plan, Refused> {
     let t = lists(volume)?.len();
-    if plan.is_empty() || plan.len() % 4 != 0 || plan.len() > 256 {
+    if plan.is_empty() || !plan.len().is_multiple_of(4) || plan.len() > 256 {
         return Err((9, 0));
     }
     let rows: Vec<Row> = plan.chunks(4).map(|row| [row[0], row[1], row[2], row[3]]).collect();

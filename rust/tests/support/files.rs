@@ -1,5 +1,5 @@
-//! For the programs that print a listing: folders and plan files for them, and what document 01 says
-//! that is printed.
+//! For the programs that print a listing: folders and plan files for them, and what document 01
+//! says that is printed.
 
 use super::plans::Row;
 use crate::plain::search::Searcher;
@@ -75,7 +75,7 @@ pub fn word_bytes(words: &[u32]) -> Vec<u8> {
 
 /// What document 01 says is printed of the bytes of two files, a volume of any length and a plan.
 pub fn listing(volume: &[u8], plan: &[u8]) -> String {
-    let fits = (1..=1_024).contains(&plan.len()) && plan.len() % 16 == 0;
+    let fits = (1..=1_024).contains(&plan.len()) && plan.len().is_multiple_of(16);
     let plan: Vec<u32> = match fits {
         true => plan.chunks(4).map(|word| u32::from_le_bytes(word.try_into().unwrap())).collect(),
         false => vec![],

@@ -27,6 +27,7 @@ use Rattle.plan.specs.declared.state.State.{State}
 use Rattle.plan.specs.declared.state.Step.{Step}
 use Rattle.plan.specs.declared.state.Step.the-variants.{Stands, Faulty}
 use Rattle.plan.specs.Answers.{Sizes, faultCode}
+use Rattle.plan.specs.Limits.{mostWords}
 use Rattle.plan.specs.Rows.{rowCount, rowAt, formWrongAt}
 use Rattle.plan.specs.State.{stateAt, listWrong, tooMany, orderWrong, step}
 use Rattle.plan.specs.Check.{lengthWrong, faulty, faultOf, rowWrong, rowFault, badRow, rowsWrong, unfinished, sizes, rowsVerdict, planVerdict, verdictBy, verdict}
@@ -79,17 +80,17 @@ module _ (t : ℕ) (p : List ℕ) where
     plan-cut h = rw (ne-eqb (length p) 0 some, ne-eqb (length p % 4) 0 h)
 
     module _ (whole : length p % 4 ≡ 0) where
-      pub plan-long : 256 < length p → planVerdict t p ≡ refused 9 0
+      pub plan-long : mostWords < length p → planVerdict t p ≡ refused 9 0
       unfolding planVerdict lengthWrong
-      plan-long h = rw (ne-eqb (length p) 0 some, eq-eqb (length p % 4) 0 whole, lt-ltb 256 (length p) h)
+      plan-long h = rw (ne-eqb (length p) 0 some, eq-eqb (length p % 4) 0 whole, lt-ltb mostWords (length p) h)
 
-      pub plan-rows : length p ≤ 256 → planVerdict t p ≡ rowsVerdict t p
+      pub plan-rows : length p ≤ mostWords → planVerdict t p ≡ rowsVerdict t p
       unfolding planVerdict lengthWrong
-      plan-rows h = rw (ne-eqb (length p) 0 some, eq-eqb (length p % 4) 0 whole, le-ltb 256 (length p) h)
+      plan-rows h = rw (ne-eqb (length p) 0 some, eq-eqb (length p % 4) 0 whole, le-ltb mostWords (length p) h)
 
 pub lengthWrong-decides : (p : List ℕ) → Decides (lengthWrong p) (WrongLength p)
 unfolding lengthWrong
-lengthWrong-decides p = or-decides (eqb-decides (length p) 0) (or-decides (not-decides (eqb-decides (length p % 4) 0)) (ltb-decides 256 (length p)))
+lengthWrong-decides p = or-decides (eqb-decides (length p) 0) (or-decides (not-decides (eqb-decides (length p % 4) 0)) (ltb-decides mostWords (length p)))
 
 pub unfinished-decides : (p : List ℕ) → Decides (unfinished p) (Unfinished (stateAt p (rowCount p)))
 unfolding unfinished
@@ -131,7 +132,7 @@ module _ (t : ℕ) (p : List ℕ) (s : Sizes) (e : planVerdict t p ≡ answered 
         let m : length p % 4 ≡ 0 = stable (eqb-decides (length p % 4) 0) (λ n. long (inr (inl n))) in
         let z : length p ≢ 0 = λ q. long (inl q) in
         omega arith;
-    most-rows = let z : 256 < length p → ⊥ = λ q. long (inr (inr q)) in omega arith;
+    most-rows = let z : mostWords < length p → ⊥ = λ q. long (inr (inr q)) in omega arith;
     formed = λ i h. row-right t p i (right i h) .0;
     listed = λ i h. row-right t p i (right i h) .1;
     few = λ i h. row-right t p i (right i h) .2;

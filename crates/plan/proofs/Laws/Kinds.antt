@@ -12,28 +12,33 @@ use lib.ListN.{getD}
 use Rattle.seq.specs.Numbers.{run}
 use Rattle.seq.proofs.Laws.Numbers.{getD-run}
 use Rattle.plan.specs.declared.kinds.Uses.{Uses}
+use Rattle.plan.specs.Limits.{lastKind}
 use Rattle.plan.specs.Rows.{kindOf, uses, usesOf}
 
 abbrev pub table : List Uses
 table =
-    uses true false 0 0
-    ∷ uses true true 0 65535
-    ∷ uses true true 0 0
-    ∷ uses true true 0 0
-    ∷ uses false false 1 65536
-    ∷ uses false false 0 0
-    ∷ uses false false 0 0
-    ∷ uses false false 0 0
-    ∷ uses false false 0 0
+    uses true false false 0 0
+    ∷ uses true true true 0 65535
+    ∷ uses true true false 0 0
+    ∷ uses true true false 0 0
+    ∷ uses false false true 1 65536
+    ∷ uses false false false 0 0
+    ∷ uses false false false 0 0
+    ∷ uses false false false 0 0
+    ∷ uses false false false 0 0
     ∷ []
 
+-- no word is used
+abbrev nothing : Uses
+nothing = uses false false false 0 0
+
 module _ (a b c : ℕ) where
-  table-is : run (λ j. usesOf (kindOf (j + 1) a b c)) 0 9 ≡ table
+  table-is : run (λ j. usesOf (kindOf (j + 1) a b c)) 0 lastKind ≡ table
   unfolding run
   table-is = refl
 
-  pub table-at : (j : ℕ) → j < 9 → getD table j (uses false false 0 0) ≡ usesOf (kindOf (j + 1) a b c)
+  pub table-at : (j : ℕ) → j < lastKind → getD table j nothing ≡ usesOf (kindOf (j + 1) a b c)
   table-at j h =
-      ap (λ (us : List Uses). getD us j (uses false false 0 0)) (sym table-is)
-      ∙ getD-run (λ i. usesOf (kindOf (i + 1) a b c)) 0 9 j (uses false false 0 0) h
+      ap (λ (us : List Uses). getD us j nothing) (sym table-is)
+      ∙ getD-run (λ i. usesOf (kindOf (i + 1) a b c)) 0 lastKind j nothing h
       ∙ ap (λ (i : ℕ). usesOf (kindOf (i + 1) a b c)) (zero-add j)

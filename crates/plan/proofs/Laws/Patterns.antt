@@ -27,6 +27,7 @@ use Rattle.plan.specs.declared.row.Kind.{Kind}
 use Rattle.plan.specs.declared.row.Kind.the-variants as kind
 use Rattle.plan.specs.declared.row.Row.{Row}
 use Rattle.plan.specs.declared.state.State.{State}
+use Rattle.plan.specs.Limits.{mostPatterns, mostPatternVars}
 use Rattle.plan.specs.Rows.{InRange}
 use Rattle.plan.specs.State.{initial, takes, after, afterAll, namesBelow, listWrong, tooMany, orderWrong}
 use Rattle.plan.specs.Patterns.{Pattern, noRow, openAfter, closed, patternsFrom, two, operate, answersAfter, answersFrom}
@@ -93,11 +94,11 @@ module _ (t : ℕ) (s : State) where
       let a : list ≢ 0 = eqb-false list 0 (w .0) in
       (omega arith, leb-false t list (w .1))
 
-  voice-few : (list : ℕ) → Passes t s (kind.Voice list) → (s .vars < 8) × (s .vars ≡ 0 → s .patterns < 8)
+  voice-few : (list : ℕ) → Passes t s (kind.Voice list) → (s .vars < mostPatternVars) × (s .vars ≡ 0 → s .patterns < mostPatterns)
   voice-few list h =
-      let w = neither (leb 8 (s .vars)) (eqb (s .vars) 0 && leb 8 (s .patterns)) (h .few) in
-      let no = and-decides (eqb-decides (s .vars) 0) (leb-decides 8 (s .patterns)) .no (w .1) in
-      (leb-false 8 (s .vars) (w .0), λ e. let n : 8 ≤ s .patterns → ⊥ = λ l. no (e, l) in omega arith)
+      let w = neither (leb mostPatternVars (s .vars)) (eqb (s .vars) 0 && leb mostPatterns (s .patterns)) (h .few) in
+      let no = and-decides (eqb-decides (s .vars) 0) (leb-decides mostPatterns (s .patterns)) .no (w .1) in
+      (leb-false mostPatternVars (s .vars) (w .0), λ e. let n : mostPatterns ≤ s .patterns → ⊥ = λ l. no (e, l) in omega arith)
 
   condition-names : (c : Predicate) → Passes t s (kind.Condition c) → namesBelow (s .vars) c ≡ true
   condition-names c h = condition-stands s c (h .ordered) .1
@@ -125,7 +126,7 @@ namesBelow-le n m (Window limit) l e = refl
 -- the open pattern f where the reading stands at s, over t lists: all that a pattern is held to, but that it has a variable
 pub record Fits (t : ℕ) (s : State) (f : Pattern) : Type 0 where
   pub count : varsOf f ≡ s .vars
-  pub most : s .vars ≤ 8
+  pub most : s .vars ≤ mostPatternVars
   pub lists : (i : ℕ) → i < varsOf f → (1 ≤ getD (f .vars) i 0) × (getD (f .vars) i 0 < t)
   pub names : (j : ℕ) → j < length (f .predicates) → namesBelow (varsOf f) (getD (f .predicates) j (Window 1)) ≡ true
   pub ranges : (j : ℕ) → j < length (f .predicates) → InRange (kind.Condition (getD (f .predicates) j (Window 1)))
@@ -140,7 +141,7 @@ fits-made t s f h l = record { some-vars = omega arith; most-vars = omega arith;
 fits-after : (t : ℕ) (s : State) (f : Pattern) (k : Kind) → Passes t s k → Fits t s f → Fits t (after s k) (openAfter f k)
 fits-after t s f (kind.Voice list) p h = record {
   count = varsOf-after s f (kind.Voice list) (h .count);
-  most = let w : s .vars < 8 = voice-few t s list p .0 in omega arith;
+  most = let w : s .vars < mostPatternVars = voice-few t s list p .0 in omega arith;
   lists = each-snoc (λ (n : ℕ). (1 ≤ n) × (n < t)) 0 list (f .vars) (h .lists) (voice-list t s list p);
   names = λ j l. let e = length-snoc (f .vars) list in namesBelow-le (varsOf f) (length (f .vars ++ (list ∷ []))) (getD (f .predicates) j (Window 1)) (omega arith) (h .names j l);
   ranges = h .ranges;
@@ -198,13 +199,13 @@ answers-length found t s f answers (r ∷ rows) p e =
 pub record Bound (i : ℕ) (s : State) : Type 0 where
   -- a variable, an END and an operator take a row each, and the operators are as many as the patterns less the answers
   pub rows : s .total + 2 * s .patterns ≤ i + s .answers
-  -- a pattern has 1 to 8 variables
-  pub few-vars : s .total ≤ 8 * s .patterns + s .vars
+  -- a pattern has at least one variable and at most eight
+  pub few-vars : s .total ≤ mostPatternVars * s .patterns + s .vars
   pub some-vars : s .patterns + s .vars ≤ s .total
-  pub open-vars : s .vars ≤ 8
+  pub open-vars : s .vars ≤ mostPatternVars
   -- eight patterns, the open one too
-  pub few-patterns : s .patterns ≤ 8
-  pub open-patterns : (s .vars ≡ 0) ⊎ (s .patterns ≤ 7)
+  pub few-patterns : s .patterns ≤ mostPatterns
+  pub open-patterns : (s .vars ≡ 0) ⊎ (s .patterns < mostPatterns)
   -- an answer comes of a pattern
   pub few-answers : s .answers ≤ s .patterns
 
@@ -214,12 +215,12 @@ bound-initial = record { rows = omega arith; few-vars = omega arith; some-vars =
 bound-after : (t i : ℕ) (s : State) (k : Kind) → Passes t s k → Bound i s → Bound (i + 1) (after s k)
 bound-after t i s (kind.Voice list) p h =
     let w = voice-few t s list p in
-    let y : s .patterns ≤ 7 = ⊎-elim (λ (z : s .vars ≡ 0). let q : s .patterns < 8 = w .1 z in omega arith) (λ z. z) (h .open-patterns) in
+    let y : s .patterns < mostPatterns = ⊎-elim (w .1) (λ z. z) (h .open-patterns) in
     record { rows = omega arith; few-vars = omega arith; some-vars = omega arith; open-vars = omega (arith, w .0); few-patterns = omega arith; open-patterns = inr y; few-answers = omega arith }
 bound-after t i s (kind.Condition c) p h = record { rows = omega arith; few-vars = h .few-vars; some-vars = h .some-vars; open-vars = h .open-vars; few-patterns = h .few-patterns; open-patterns = h .open-patterns; few-answers = h .few-answers }
 bound-after t i s kind.End p h =
     let x : 1 ≤ s .vars = end-some t s p in
-    let y : s .patterns ≤ 7 = ⊎-elim (λ (z : s .vars ≡ 0). omega arith) (λ z. z) (h .open-patterns) in
+    let y : s .patterns < mostPatterns = ⊎-elim (λ (z : s .vars ≡ 0). omega arith) (λ z. z) (h .open-patterns) in
     record { rows = omega arith; few-vars = omega arith; some-vars = omega arith; open-vars = omega arith; few-patterns = omega arith; open-patterns = inl refl; few-answers = omega arith }
 bound-after t i s (kind.Operator o) p h =
     let x : takes o ≤ s .answers = operator-some t s o p in

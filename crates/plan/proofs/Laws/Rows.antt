@@ -1,11 +1,12 @@
 -- The laws of `specs/Rows.antt`: four words and the row that they are read as. No contract cites this file.
---     nine                         a fact of 1, .., 9 is one of each number from 1 to 9
+--     each-kind                    a fact of 1, .., 9 is one of each number from 1 to the last kind
 --     Used, formed-known           what four words of the right form are
 --     words-of, range-of           they are the words of their row, whose limit is in range
 --     reads-row                    and such words are read as their row
 --     words-at, numberOf, number-at     row i of a plan has the words there; the number of its kind
 --     form-below, form-above       the form of a row of unknown kind
---     form-a .. form-most          the form of a row of a known kind, word by word
+--     form-a .. form-pair          the form of a row of a known kind, word by word
+--     never-decides                a test that is always false
 --     formWrong-decides            the test of the form decides document 01's sentence
 --     rows-slice, words-slice      in a plan that passes every test: the rows of a slice of whole rows; it is their words
 --     plan-words                   the plan is the words of its rows
@@ -15,7 +16,7 @@ use native.Mathlib.Nat.{add-zero}
 use native.Mathlib.Numerals.{add-one, add-two, add-three}
 use native.Mathlib.Omega.{arith}
 use mathlib.Core.Path.{_≡_, refl, sym, ap, ap₂, _∙_, subst}
-use mathlib.Core.Bool.{Bool, true, false, not, _&&_, _||_}
+use mathlib.Core.Bool.{Bool, true, false, not, _&&_, _||_, true≢false}
 use mathlib.Core.Logic.{_↔_, _≢_}
 use mathlib.Core.List.{List, [], _∷_, _++_}
 use lib.ListN.{length, getD, take, drop}
@@ -33,8 +34,9 @@ use Rattle.plan.specs.declared.row.Operator.the-variants.{Both, Either, 
 use Rattle.plan.specs.declared.row.Kind.{Kind}
 use Rattle.plan.specs.declared.row.Kind.the-variants as kind
 use Rattle.plan.specs.declared.row.Row.{Row}
-use Rattle.plan.specs.Rows.{rowCount, kindAt, aAt, bAt, cAt, kindOf, rowOf, rowAt, rowsOf, usesOf, misused, formWrong, formWrongAt, wordsOf, planOf, InRange}
-use Rattle.plan.specs.Refusals.{WrongForm}
+use Rattle.plan.specs.Limits.{lastKind}
+use Rattle.plan.specs.Rows.{rowCount, kindAt, aAt, bAt, cAt, kindOf, rowOf, rowAt, rowsOf, usesOf, stray, misused, pairWrong, formWrong, formWrongAt, wordsOf, planOf, InRange}
+use Rattle.plan.specs.Refusals.{Stray, WrongPair, WrongForm}
 use Rattle.plan.proofs.Laws.Passed.{Passed}
 use Rattle.seq.proofs.Laws.Slices.{length-slice, getD-slice, slice-run}
 
@@ -42,23 +44,24 @@ use Rattle.seq.proofs.Laws.Slices.{length-slice, getD-slice, slice-run}
 abbrev pub numberOf : Kind → ℕ
 numberOf k = getD (wordsOf k) 0 0
 
-pub nine : (P : ℕ → Type 0) → P 1 → P 2 → P 3 → P 4 → P 5 → P 6 → P 7 → P 8 → P 9 → (k : ℕ) → 1 ≤ k → k ≤ 9 → P k
-nine P p1 p2 p3 p4 p5 p6 p7 p8 p9 zero l h = absurd (let z : ⊥ = omega arith in z)
-nine P p1 p2 p3 p4 p5 p6 p7 p8 p9 (suc zero) l h = p1
-nine P p1 p2 p3 p4 p5 p6 p7 p8 p9 (suc (suc zero)) l h = p2
-nine P p1 p2 p3 p4 p5 p6 p7 p8 p9 (suc (suc (suc zero))) l h = p3
-nine P p1 p2 p3 p4 p5 p6 p7 p8 p9 (suc (suc (suc (suc zero)))) l h = p4
-nine P p1 p2 p3 p4 p5 p6 p7 p8 p9 (suc (suc (suc (suc (suc zero))))) l h = p5
-nine P p1 p2 p3 p4 p5 p6 p7 p8 p9 (suc (suc (suc (suc (suc (suc zero)))))) l h = p6
-nine P p1 p2 p3 p4 p5 p6 p7 p8 p9 (suc (suc (suc (suc (suc (suc (suc zero))))))) l h = p7
-nine P p1 p2 p3 p4 p5 p6 p7 p8 p9 (suc (suc (suc (suc (suc (suc (suc (suc zero)))))))) l h = p8
-nine P p1 p2 p3 p4 p5 p6 p7 p8 p9 (suc (suc (suc (suc (suc (suc (suc (suc (suc zero))))))))) l h = p9
-nine P p1 p2 p3 p4 p5 p6 p7 p8 p9 (suc (suc (suc (suc (suc (suc (suc (suc (suc (suc k)))))))))) l h = absurd (let z : ⊥ = omega arith in z)
+pub each-kind : (P : ℕ → Type 0) → P 1 → P 2 → P 3 → P 4 → P 5 → P 6 → P 7 → P 8 → P 9 → (k : ℕ) → 1 ≤ k → k ≤ lastKind → P k
+each-kind P p1 p2 p3 p4 p5 p6 p7 p8 p9 zero l h = absurd (let z : ⊥ = omega arith in z)
+each-kind P p1 p2 p3 p4 p5 p6 p7 p8 p9 (suc zero) l h = p1
+each-kind P p1 p2 p3 p4 p5 p6 p7 p8 p9 (suc (suc zero)) l h = p2
+each-kind P p1 p2 p3 p4 p5 p6 p7 p8 p9 (suc (suc (suc zero))) l h = p3
+each-kind P p1 p2 p3 p4 p5 p6 p7 p8 p9 (suc (suc (suc (suc zero)))) l h = p4
+each-kind P p1 p2 p3 p4 p5 p6 p7 p8 p9 (suc (suc (suc (suc (suc zero))))) l h = p5
+each-kind P p1 p2 p3 p4 p5 p6 p7 p8 p9 (suc (suc (suc (suc (suc (suc zero)))))) l h = p6
+each-kind P p1 p2 p3 p4 p5 p6 p7 p8 p9 (suc (suc (suc (suc (suc (suc (suc zero))))))) l h = p7
+each-kind P p1 p2 p3 p4 p5 p6 p7 p8 p9 (suc (suc (suc (suc (suc (suc (suc (suc zero)))))))) l h = p8
+each-kind P p1 p2 p3 p4 p5 p6 p7 p8 p9 (suc (suc (suc (suc (suc (suc (suc (suc (suc zero))))))))) l h = p9
+each-kind P p1 p2 p3 p4 p5 p6 p7 p8 p9 (suc (suc (suc (suc (suc (suc (suc (suc (suc (suc k)))))))))) l h = absurd (let z : ⊥ = omega arith in z)
 
 -- words are as a kind uses them: one that is not used is 0, and c is in its range
 pub record Used (u : Uses) (a b c : ℕ) : Type 0 where
   pub a-used : u .a ≡ false → a ≡ 0
   pub b-used : u .b ≡ false → b ≡ 0
+  pub c-used : u .c ≡ false → c ≡ 0
   pub c-least : u .least ≤ c
   pub c-most : c ≤ u .most
 
@@ -67,61 +70,64 @@ unfolding misused
 used u a b c e = record {
   a-used = zero-word (u .a) a (p .0);
   b-used = zero-word (u .b) b (q .0);
-  c-least = ltb-false c (u .least) (r .0);
-  c-most = ltb-false (u .most) c (r .1);
+  c-used = zero-word (u .c) c (r .0);
+  c-least = ltb-false c (u .least) (s .0);
+  c-most = ltb-false (u .most) c (s .1);
 }
   where
-    zero-word : (t : Bool) (w : ℕ) → (not t && not (eqb w 0)) ≡ false → t ≡ false → w ≡ 0
+    zero-word : (t : Bool) (w : ℕ) → stray t w ≡ false → t ≡ false → w ≡ 0
     zero-word t w f z = eqb-true w 0 (not-false (eqb w 0) (rw z at f))
 
-    p : ((not (u .a) && not (eqb a 0)) ≡ false) × (((not (u .b) && not (eqb b 0)) || (ltb c (u .least) || ltb (u .most) c)) ≡ false)
-    p = neither (not (u .a) && not (eqb a 0)) ((not (u .b) && not (eqb b 0)) || (ltb c (u .least) || ltb (u .most) c)) e
+    p : (stray (u .a) a ≡ false) × ((stray (u .b) b || (stray (u .c) c || (ltb c (u .least) || ltb (u .most) c))) ≡ false)
+    p = neither (stray (u .a) a) (stray (u .b) b || (stray (u .c) c || (ltb c (u .least) || ltb (u .most) c))) e
 
-    q : ((not (u .b) && not (eqb b 0)) ≡ false) × ((ltb c (u .least) || ltb (u .most) c) ≡ false)
-    q = neither (not (u .b) && not (eqb b 0)) (ltb c (u .least) || ltb (u .most) c) (p .1)
+    q : (stray (u .b) b ≡ false) × ((stray (u .c) c || (ltb c (u .least) || ltb (u .most) c)) ≡ false)
+    q = neither (stray (u .b) b) (stray (u .c) c || (ltb c (u .least) || ltb (u .most) c)) (p .1)
 
-    r : (ltb c (u .least) ≡ false) × (ltb (u .most) c ≡ false)
-    r = neither (ltb c (u .least)) (ltb (u .most) c) (q .1)
+    r : (stray (u .c) c ≡ false) × ((ltb c (u .least) || ltb (u .most) c) ≡ false)
+    r = neither (stray (u .c) c) (ltb c (u .least) || ltb (u .most) c) (q .1)
 
--- four words of the right form are of kind 1 to 9 and as that kind uses them
-pub formed-known : (k a b c : ℕ) → formWrong k a b c ≡ false → (1 ≤ k) × (k ≤ 9) × (Used (usesOf (kindOf k a b c)) a b c)
+    s : (ltb c (u .least) ≡ false) × (ltb (u .most) c ≡ false)
+    s = neither (ltb c (u .least)) (ltb (u .most) c) (r .1)
+
+-- four words of the right form are of a kind that there is, as that kind uses them, and fit each other
+pub formed-known : (k a b c : ℕ) → formWrong k a b c ≡ false → (1 ≤ k) × (k ≤ lastKind) × Used (usesOf (kindOf k a b c)) a b c × (pairWrong (kindOf k a b c) ≡ false)
 unfolding formWrong
 formed-known k a b c e =
-    let p = neither (ltb k 1) (ltb 9 k || misused (usesOf (kindOf k a b c)) a b c) e in
-    let q = neither (ltb 9 k) (misused (usesOf (kindOf k a b c)) a b c) (p .1) in
-    (ltb-false k 1 (p .0), ltb-false 9 k (q .0), used (usesOf (kindOf k a b c)) a b c (q .1))
+    let u = usesOf (kindOf k a b c) in
+    let p = neither (ltb k 1) (ltb lastKind k || (misused u a b c || pairWrong (kindOf k a b c))) e in
+    let q = neither (ltb lastKind k) (misused u a b c || pairWrong (kindOf k a b c)) (p .1) in
+    let r = neither (misused u a b c) (pairWrong (kindOf k a b c)) (q .1) in
+    (ltb-false k 1 (p .0), ltb-false lastKind k (q .0), used u a b c (r .0), r .1)
 
 module _ (a b c : ℕ) where
   -- four words, by which of them are used
   words-are : (k a′ b′ c′ : ℕ) → a ≡ a′ → b ≡ b′ → c ≡ c′ → k ∷ a′ ∷ b′ ∷ c′ ∷ [] ≡ k ∷ a ∷ b ∷ c ∷ []
   words-are k a′ b′ c′ x y z = rw (x, y, z)
 
-  used-words : (k : ℕ) → 1 ≤ k → k ≤ 9 → Used (usesOf (kindOf k a b c)) a b c → wordsOf (kindOf k a b c) ≡ k ∷ a ∷ b ∷ c ∷ []
+  used-words : (k : ℕ) → 1 ≤ k → k ≤ lastKind → Used (usesOf (kindOf k a b c)) a b c → wordsOf (kindOf k a b c) ≡ k ∷ a ∷ b ∷ c ∷ []
   used-words =
-      nine (λ k. Used (usesOf (kindOf k a b c)) a b c → wordsOf (kindOf k a b c) ≡ k ∷ a ∷ b ∷ c ∷ [])
-      (λ u. words-are 1 a 0 0 refl (u .b-used refl) (none (u .c-most)))
+      each-kind (λ k. Used (usesOf (kindOf k a b c)) a b c → wordsOf (kindOf k a b c) ≡ k ∷ a ∷ b ∷ c ∷ [])
+      (λ u. words-are 1 a 0 0 refl (u .b-used refl) (u .c-used refl))
       (λ u. refl)
-      (λ u. words-are 3 a b 0 refl refl (none (u .c-most)))
-      (λ u. words-are 4 a b 0 refl refl (none (u .c-most)))
+      (λ u. words-are 3 a b 0 refl refl (u .c-used refl))
+      (λ u. words-are 4 a b 0 refl refl (u .c-used refl))
       (λ u. words-are 5 0 0 c (u .a-used refl) (u .b-used refl) refl)
-      (λ u. words-are 6 0 0 0 (u .a-used refl) (u .b-used refl) (none (u .c-most)))
-      (λ u. words-are 7 0 0 0 (u .a-used refl) (u .b-used refl) (none (u .c-most)))
-      (λ u. words-are 8 0 0 0 (u .a-used refl) (u .b-used refl) (none (u .c-most)))
-      (λ u. words-are 9 0 0 0 (u .a-used refl) (u .b-used refl) (none (u .c-most)))
-    where
-      none : c ≤ 0 → c ≡ 0
-      none h = omega arith
+      (λ u. words-are 6 0 0 0 (u .a-used refl) (u .b-used refl) (u .c-used refl))
+      (λ u. words-are 7 0 0 0 (u .a-used refl) (u .b-used refl) (u .c-used refl))
+      (λ u. words-are 8 0 0 0 (u .a-used refl) (u .b-used refl) (u .c-used refl))
+      (λ u. words-are 9 0 0 0 (u .a-used refl) (u .b-used refl) (u .c-used refl))
 
-  used-range : (k : ℕ) → 1 ≤ k → k ≤ 9 → Used (usesOf (kindOf k a b c)) a b c → InRange (kindOf k a b c)
+  used-range : (k : ℕ) → 1 ≤ k → k ≤ lastKind → Used (usesOf (kindOf k a b c)) a b c → pairWrong (kindOf k a b c) ≡ false → InRange (kindOf k a b c)
   used-range =
-      nine (λ k. Used (usesOf (kindOf k a b c)) a b c → InRange (kindOf k a b c))
-      (λ u. tt) (λ u. u .c-most) (λ u. tt) (λ u. tt) (λ u. (u .c-least, u .c-most)) (λ u. tt) (λ u. tt) (λ u. tt) (λ u. tt)
+      each-kind (λ k. Used (usesOf (kindOf k a b c)) a b c → pairWrong (kindOf k a b c) ≡ false → InRange (kindOf k a b c))
+      (λ u f. tt) (λ u f. u .c-most) (λ u f. tt) (λ u f. tt) (λ u f. (u .c-least, u .c-most)) (λ u f. tt) (λ u f. tt) (λ u f. tt) (λ u f. tt)
 
 pub words-of : (k a b c : ℕ) → formWrong k a b c ≡ false → wordsOf (kindOf k a b c) ≡ k ∷ a ∷ b ∷ c ∷ []
 words-of k a b c e = let f = formed-known k a b c e in used-words a b c k (f .0) (f .1) (f .2)
 
 pub range-of : (k a b c : ℕ) → formWrong k a b c ≡ false → InRange (kindOf k a b c)
-range-of k a b c e = let f = formed-known k a b c e in used-range a b c k (f .0) (f .1) (f .2)
+range-of k a b c e = let f = formed-known k a b c e in used-range a b c k (f .0) (f .1) (f .2) (f .3)
 
 -- words are read as a row of this kind, and have the right form
 abbrev ReadAs : Kind → List ℕ → Type 0
@@ -213,40 +219,61 @@ module _ (k a b c : ℕ) where
   unfolding formWrong
   form-below h = simp (lt-ltb k 1 h)
 
-  pub form-above : 1 ≤ k → 9 < k → formWrong k a b c ≡ true
+  pub form-above : 1 ≤ k → lastKind < k → formWrong k a b c ≡ true
   unfolding formWrong
-  form-above h l = simp (le-ltb k 1 h, lt-ltb 9 k l)
+  form-above h l = simp (le-ltb k 1 h, lt-ltb lastKind k l)
 
   -- what a known kind uses
-  module _ (u : Uses) (e : u ≡ usesOf (kindOf k a b c)) (low : 1 ≤ k) (high : k ≤ 9) where
-    form-used : formWrong k a b c ≡ misused u a b c
+  module _ (u : Uses) (e : u ≡ usesOf (kindOf k a b c)) (low : 1 ≤ k) (high : k ≤ lastKind) where
+    form-used : formWrong k a b c ≡ (misused u a b c || pairWrong (kindOf k a b c))
     unfolding formWrong
-    form-used = simp (le-ltb k 1 low, le-ltb 9 k high) (ap (λ (w : Uses). misused w a b c) (sym e))
+    form-used = simp (le-ltb k 1 low, le-ltb lastKind k high) (ap (λ (w : Uses). misused w a b c || pairWrong (kindOf k a b c)) (sym e))
 
-    pub form-a : (not (u .a) && not (eqb a 0)) ≡ true → formWrong k a b c ≡ true
+    pub form-a : stray (u .a) a ≡ true → formWrong k a b c ≡ true
     unfolding misused
     form-a x = form-used ∙ rw x
 
-    module _ (xa : (not (u .a) && not (eqb a 0)) ≡ false) where
-      pub form-b : (not (u .b) && not (eqb b 0)) ≡ true → formWrong k a b c ≡ true
+    module _ (xa : stray (u .a) a ≡ false) where
+      pub form-b : stray (u .b) b ≡ true → formWrong k a b c ≡ true
       unfolding misused
       form-b x = form-used ∙ rw (xa, x)
 
-      module _ (xb : (not (u .b) && not (eqb b 0)) ≡ false) where
-        pub form-least : c < u .least → formWrong k a b c ≡ true
+      module _ (xb : stray (u .b) b ≡ false) where
+        pub form-c : stray (u .c) c ≡ true → formWrong k a b c ≡ true
         unfolding misused
-        form-least h = form-used ∙ rw (xa, xb, lt-ltb c (u .least) h)
+        form-c x = form-used ∙ rw (xa, xb, x)
 
-        pub form-most : u .least ≤ c → formWrong k a b c ≡ ltb (u .most) c
-        unfolding misused
-        form-most h = form-used ∙ rw (xa, xb, le-ltb c (u .least) h)
+        module _ (xc : stray (u .c) c ≡ false) where
+          pub form-least : c < u .least → formWrong k a b c ≡ true
+          unfolding misused
+          form-least h = form-used ∙ rw (xa, xb, xc, lt-ltb c (u .least) h)
+
+          pub form-most : u .least ≤ c → u .most < c → formWrong k a b c ≡ true
+          unfolding misused
+          form-most h l = form-used ∙ rw (xa, xb, xc, le-ltb c (u .least) h, lt-ltb (u .most) c l)
+
+          pub form-pair : u .least ≤ c → c ≤ u .most → formWrong k a b c ≡ pairWrong (kindOf k a b c)
+          unfolding misused
+          form-pair h l = form-used ∙ rw (xa, xb, xc, le-ltb c (u .least) h, le-ltb (u .most) c l)
+
+-- a test that is always false decides what never holds
+pub never-decides : Decides false ⊥
+never-decides = record { yes = λ e. true≢false (sym e); no = λ e x. x }
 
 -- a word that is not used is not 0
-stray-decides : (used : Bool) (x : ℕ) → Decides (not used && not (eqb x 0)) ((used ≡ false) × (x ≢ 0))
+stray-decides : (used : Bool) (x : ℕ) → Decides (stray used x) (Stray used x)
 stray-decides used x = and-decides (record { yes = not-true used; no = λ e f. contrary (not-false used e) f }) (not-decides (eqb-decides x 0))
+
+pairWrong-decides : (k : Kind) → Decides (pairWrong k) (WrongPair k)
+pairWrong-decides (kind.Voice list) = never-decides
+pairWrong-decides (kind.Condition c) = never-decides
+pairWrong-decides kind.End = never-decides
+pairWrong-decides (kind.Operator o) = never-decides
 
 pub formWrong-decides : (k a b c : ℕ) → Decides (formWrong k a b c) (WrongForm k a b c)
 unfolding formWrong misused
 formWrong-decides k a b c =
     let u = usesOf (kindOf k a b c) in
-    or-decides (ltb-decides k 1) (or-decides (ltb-decides 9 k) (or-decides (stray-decides (u .a) a) (or-decides (stray-decides (u .b) b) (or-decides (ltb-decides c (u .least)) (ltb-decides (u .most) c)))))
+    let range = or-decides (ltb-decides c (u .least)) (ltb-decides (u .most) c) in
+    let words = or-decides (stray-decides (u .a) a) (or-decides (stray-decides (u .b) b) (or-decides (stray-decides (u .c) c) range)) in
+    or-decides (ltb-decides k 1) (or-decides (ltb-decides lastKind k) (or-decides words (pairWrong-decides (kindOf k a b c))))

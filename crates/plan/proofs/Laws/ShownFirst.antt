@@ -25,7 +25,7 @@ use Rattle.plan.proofs.Laws.CheckFirst.{check-sound}
 module _ (v p : List ℕ) (k : ℕ) where
   -- a refusal applies where the part is empty
   refusal-of : partOf v p k ≡ [] → (n : ℕ) × (q : ℕ) × PartApplies v p k n q
-  refusal-of e = ⊎-elim answers (λ w. (w .0, w .1, ofPlan (w .0) (w .1) (check-sound v p .first (w .0) (w .1) (w .2) .applies))) (check-sound v p .total)
+  refusal-of e = ⊎-elim answers (λ w. (w .0, w .1, ofPlan (w .0) (w .1) (check-sound v p .first (w .0) (w .1) (w .2) .applies .1))) (check-sound v p .total)
     where
       answers : Accepted v p → (n : ℕ) × (q : ℕ) × PartApplies v p k n q
       answers a =
@@ -48,9 +48,14 @@ unfolding sizes
 parted v p e = record {
   rows = λ k h. ap rowsOf (part-there v p k e h) ∙ part-rows (listCount v) p ok k h;
   words = λ k h. part-there v p k e h ∙ part-words (listCount v) p ok k h;
-  whole = parts-whole (listCount v) p ok ∙ ap (λ (xs : List (List ℕ)). joined xs ++ gap p (sizes p .patterns)) (run-ext (λ k. gap p k ++ partAt p (spanAt p k)) (λ k. gap p k ++ partOf v p k) 0 0 (sizes p .patterns) (λ k h. ap (λ (ws : List ℕ). gap p (0 + k) ++ ws) (sym (part-there v p (0 + k) e (omega arith)))));
+  whole =
+      parts-whole (listCount v) p ok
+      ∙ ap (λ (xs : List (List ℕ)). joined xs ++ gap p (sizes p .patterns)) (run-ext (λ k. gap p k ++ partAt p (spanAt p k)) (λ k. gap p k ++ partOf v p k) 0 0 (sizes p .patterns) there);
   gaps = gaps-operate (listCount v) p ok;
 }
   where
     ok : Passed (listCount v) p
     ok = verdict-passed v p (sizes p) e
+
+    there : (k : ℕ) → k < sizes p .patterns → gap p (0 + k) ++ partAt p (spanAt p (0 + k)) ≡ gap p (0 + k) ++ partOf v p (0 + k)
+    there k h = ap (λ (ws : List ℕ). gap p (0 + k) ++ ws) (sym (part-there v p (0 + k) e (omega arith)))

@@ -31,10 +31,12 @@ use Rattle.plan.specs.declared.row.Kind.the-variants as kind
 use Rattle.plan.specs.declared.row.Row.{Row}
 use Rattle.plan.specs.declared.state.State.{State}
 use Rattle.plan.specs.declared.state.Step.the-variants.{Stands, Faulty}
+use Rattle.plan.specs.Limits.{mostPatterns, mostPatternVars}
 use Rattle.plan.specs.Rows.{rowAt, formWrongAt}
 use Rattle.plan.specs.Check.{faulty}
 use Rattle.plan.specs.State.{initial, takes, after, afterAll, stateAt, namesBelow, listWrong, tooMany, orderWrong, step}
 use Rattle.plan.specs.Inner.State.{AtMost}
+use Rattle.plan.proofs.Laws.Rows.{never-decides}
 use Rattle.plan.specs.Refusals.{WrongList, Ninth, NamesMissing, WrongOrder}
 
 afterAll-append : (s : State) (xs ys : List Row) → afterAll s (xs ++ ys) ≡ afterAll (afterAll s xs) ys
@@ -137,21 +139,17 @@ module _ (t : ℕ) (s : State) (p : List ℕ) (i : ℕ) where
       go false false false true x q = absurd (not-faulty fault.Order q)
       go false false false false x q = (refl, refl, refl, refl, cc)
 
--- a test that is always false decides what never holds
-never : Decides false ⊥
-never = record { yes = λ e. true≢false (sym e); no = λ e x. x }
-
 pub listWrong-decides : (t : ℕ) (k : Kind) → Decides (listWrong t k) (WrongList t k)
 listWrong-decides t (kind.Voice list) = or-decides (eqb-decides list 0) (leb-decides t list)
-listWrong-decides t (kind.Condition c) = never
-listWrong-decides t kind.End = never
-listWrong-decides t (kind.Operator o) = never
+listWrong-decides t (kind.Condition c) = never-decides
+listWrong-decides t kind.End = never-decides
+listWrong-decides t (kind.Operator o) = never-decides
 
 pub tooMany-decides : (s : State) (k : Kind) → Decides (tooMany s k) (Ninth s k)
-tooMany-decides s (kind.Voice list) = or-decides (leb-decides 8 (s .vars)) (and-decides (eqb-decides (s .vars) 0) (leb-decides 8 (s .patterns)))
-tooMany-decides s (kind.Condition c) = never
-tooMany-decides s kind.End = never
-tooMany-decides s (kind.Operator o) = never
+tooMany-decides s (kind.Voice list) = or-decides (leb-decides mostPatternVars (s .vars)) (and-decides (eqb-decides (s .vars) 0) (leb-decides mostPatterns (s .patterns)))
+tooMany-decides s (kind.Condition c) = never-decides
+tooMany-decides s kind.End = never-decides
+tooMany-decides s (kind.Operator o) = never-decides
 
 -- one of two names is not below n
 missing : (n a b : ℕ) → Decides (not (ltb a n && ltb b n)) ((n ≤ a) ⊎ (n ≤ b))
@@ -164,7 +162,7 @@ namesBelow-decides : (n : ℕ) (c : Predicate) → Decides (not (namesBelow n c)
 namesBelow-decides n (Distance a b limit) = missing n a b
 namesBelow-decides n (Ordered a b) = missing n a b
 namesBelow-decides n (Samepara a b) = missing n a b
-namesBelow-decides n (Window limit) = never
+namesBelow-decides n (Window limit) = never-decides
 
 pub orderWrong-decides : (s : State) (k : Kind) → Decides (orderWrong s k) (WrongOrder s k)
 orderWrong-decides s (kind.Voice list) = record { yes = λ e. e; no = λ e f. contrary f e }

@@ -31,17 +31,17 @@ pub fn number<'a>(what: &str, argument: &'a OsStr) -> Result<Number<'a>, Failure
 
 /// The arguments without options, and whether help is asked for.
 pub fn split(arguments: impl Iterator<Item = OsString>) -> Result<(Vec<OsString>, bool), Failure> {
-    let mut plain = Vec::new();
-    let (mut help, mut only_plain) = (false, false);
+    let mut words = Vec::new();
+    let (mut help, mut only_words) = (false, false);
     for argument in arguments {
         match argument.to_str() {
-            Some("--") if !only_plain => only_plain = true,
-            Some("--help" | "-h") if !only_plain => help = true,
-            Some(option) if !only_plain && option.len() > 1 && option.starts_with('-') => {
+            Some("--") if !only_words => only_words = true,
+            Some("--help" | "-h") if !only_words => help = true,
+            Some(option) if !only_words && option.len() > 1 && option.starts_with('-') => {
                 return Err(Failure::Usage(format!("there is no option `{option}`")));
             }
-            _ => plain.push(argument),
+            _ => words.push(argument),
         }
     }
-    Ok((plain, help))
+    Ok((words, help))
 }

@@ -1,8 +1,9 @@
 -- `checking::check_rows` meets its contract. The loop's invariant: s is the state in front of row i, and the first row that is refused
 -- from i on is the first of all. The measure is what is left of the rows. Assumes nothing.
 use native.Mathlib.Omega.{arith}
-use Prim.Native.Nat.{_-_, _≤_}
+use Prim.Native.Nat.{ℕ, _-_, _≤_}
 use mathlib.Core.Path.{_≡_, sym, ap, _∙_}
+use mathlib.Core.List.{List}
 use denote.Ref.{now}
 use Rattle.seq.specs.Numbers.{firstFrom}
 use Rattle.seq.specs.Refusals.{answered}
@@ -10,6 +11,7 @@ use Rattle.seq.proofs.Laws.Numbers.{first-hit, first-miss, first-end}
 use Rattle.plan.specs.declared.state.State.{State}
 use Rattle.plan.specs.declared.state.Step.the-variants.{Stands, Faulty}
 use Rattle.plan.specs.Answers.{Sizes}
+use Rattle.plan.specs.Limits.{mostRows}
 use Rattle.plan.specs.Rows.{rowCount}
 use Rattle.plan.specs.State.{stateAt, step}
 use Rattle.plan.specs.Check.{rowWrong, badRow}
@@ -25,11 +27,18 @@ Inv-loop plan lists n s₀ i₀ s i = (s ≡ stateAt plan i) × (i ≤ rowCount 
 abbrev μ-loop : tie.MeasureT-loop
 μ-loop plan lists n s₀ i₀ s i = rowCount plan - i
 
--- behind the loop
-at-end : (c : tie.After-loop Inv-loop μ-loop) → (c .before .loop .s ≡ stateAt (now (c .before .before .before .args .plan)) (rowCount (now (c .before .before .before .args .plan)))) × (badRow (c .before .before .before .args .lists) (now (c .before .before .before .args .plan)) ≡ rowCount (now (c .before .before .before .args .plan)))
+-- where the function starts, seen from behind the loop
+abbrev start : tie.After-loop Inv-loop μ-loop → tie.Start Inv-loop μ-loop
+start c = c .before .before .before
+
+-- behind the loop s is the state at the end of the plan, and no row is refused
+abbrev AtEnd : List ℕ → ℕ → State → Type 0
+AtEnd p lists s = (s ≡ stateAt p (rowCount p)) × (badRow lists p ≡ rowCount p)
+
+at-end : (c : tie.After-loop Inv-loop μ-loop) → AtEnd (now (start c .args .plan)) (start c .args .lists) (c .before .loop .s)
 at-end c =
     let l = c .before .loop in
-    let a = c .before .before .before .args in
+    let a = start c .args in
     let p = now (a .plan) in
     let e : l .i ≡ rowCount p = omega arith in
     (l .inv .0 ∙ ap (stateAt p) e, sym (l .inv .2) ∙ first-end (rowWrong (a .lists) p) (l .i) (rowCount p) (c .loop-test .left) ∙ e)
@@ -49,7 +58,7 @@ row-step-requires : tie.Need-row-step-requires Inv-loop μ-loop
 row-step-requires c κs =
     let l = c .before .loop in
     let p = now (c .before .before .before .args .plan) in
-    (omega arith, rw (l .inv .0) (most-le (l .i) 63 (stateAt p (l .i)) (omega arith) (stateAt-most p (l .i))))
+    (omega arith, rw (l .inv .0) (most-le (l .i) mostRows (stateAt p (l .i)) (omega arith) (stateAt-most p (l .i))))
 
 enum-known-stepped : tie.Need-enum-known-stepped Inv-loop μ-loop
 enum-known-stepped c = omega arith

@@ -11,18 +11,28 @@ use Rattle.plan.proofs.Laws.State.{step-form, step-list, step-many, ste
 use Rattle.plan.proofs.state.row_step.Statement.{statement}
 use Rattle.plan.proofs.state.row_step.Tie as tie
 
+-- places: where the function starts, seen from where the row is read; where the row is read, seen from behind each test
+abbrev start : tie.After-row-at → tie.Start
+start c = c .before .before .before .before .before .before .before .before
+
+abbrev read2 : tie.Else2 → tie.After-row-at
+read2 c = c .before .before
+
+abbrev read3 : tie.Else3 → tie.After-row-at
+read3 c = read2 (c .before .before)
+
 -- what is known behind each test
-formed : (c : tie.After-row-at) → formWrongAt (now (c .before .before .before .before .before .before .before .before .args .plan)) (c .before .before .before .before .before .before .before .before .args .i) ≡ false
+formed : (c : tie.After-row-at) → formWrongAt (now (start c .args .plan)) (start c .args .i) ≡ false
 formed c = sym (c .before .before .form-wrong .ensures) ∙ c .before .if1 .left
 
-kind-is : (c : tie.After-row-at) → c .row-at .result .kind ≡ rowAt (now (c .before .before .before .before .before .before .before .before .args .plan)) (c .before .before .before .before .before .before .before .before .args .i) .kind
+kind-is : (c : tie.After-row-at) → c .row-at .result .kind ≡ rowAt (now (start c .args .plan)) (start c .args .i) .kind
 kind-is c = ap (λ (r : Row). r .kind) (c .row-at .ensures)
 
-listed : (c : tie.Else2) → state.listWrong (c .before .before .before .before .before .before .before .before .before .before .args .lists) (rowAt (now (c .before .before .before .before .before .before .before .before .before .before .args .plan)) (c .before .before .before .before .before .before .before .before .before .before .args .i) .kind) ≡ false
-listed c = sym (ap (state.listWrong _) (kind-is (c .before .before))) ∙ sym (c .before .list-wrong .ensures) ∙ c .if2 .left
+listed : (c : tie.Else2) → let a = start (read2 c) .args in state.listWrong (a .lists) (rowAt (now (a .plan)) (a .i) .kind) ≡ false
+listed c = sym (ap (state.listWrong _) (kind-is (read2 c))) ∙ sym (c .before .list-wrong .ensures) ∙ c .if2 .left
 
-few : (c : tie.Else3) → state.tooMany (c .before .before .before .before .before .before .before .before .before .before .before .before .args .s) (rowAt (now (c .before .before .before .before .before .before .before .before .before .before .before .before .args .plan)) (c .before .before .before .before .before .before .before .before .before .before .before .before .args .i) .kind) ≡ false
-few c = sym (ap (state.tooMany _) (kind-is (c .before .before .before .before))) ∙ sym (c .before .too-many .ensures) ∙ c .if3 .left
+few : (c : tie.Else3) → let a = start (read3 c) .args in state.tooMany (a .s) (rowAt (now (a .plan)) (a .i) .kind) ≡ false
+few c = sym (ap (state.tooMany _) (kind-is (read3 c))) ∙ sym (c .before .too-many .ensures) ∙ c .if3 .left
 
 mul-at : tie.Need-mul-at
 mul-at c = search needs
@@ -78,36 +88,46 @@ list-wrong-requires c κs = search needs
 
 returns-2 : tie.Need-returns-2
 returns-2 c =
-    let a = c .before .before .before .before .before .before .before .before .before .before .args in
-    sym (step-list (a .lists) (a .s) (now (a .plan)) (a .i) (formed (c .before .before)) (sym (ap (state.listWrong (a .lists)) (kind-is (c .before .before))) ∙ sym (c .before .list-wrong .ensures) ∙ c .if2 .taken))
+    let read = c .before .before in
+    let a = start read .args in
+    sym (step-list (a .lists) (a .s) (now (a .plan)) (a .i) (formed read)
+    (sym (ap (state.listWrong (a .lists)) (kind-is read)) ∙ sym (c .before .list-wrong .ensures) ∙ c .if2 .taken))
 
 too-many-requires : tie.Need-too-many-requires
 too-many-requires c κs = search needs
 
 returns-3 : tie.Need-returns-3
 returns-3 c =
-    let a = c .before .before .before .before .before .before .before .before .before .before .before .before .args in
-    sym (step-many (a .lists) (a .s) (now (a .plan)) (a .i) (formed (c .before .before .before .before)) (listed (c .before .before)) (sym (ap (state.tooMany (a .s)) (kind-is (c .before .before .before .before))) ∙ sym (c .before .too-many .ensures) ∙ c .if3 .taken))
+    let read = read2 (c .before .before) in
+    let a = start read .args in
+    sym (step-many (a .lists) (a .s) (now (a .plan)) (a .i) (formed read) (listed (c .before .before))
+    (sym (ap (state.tooMany (a .s)) (kind-is read)) ∙ sym (c .before .too-many .ensures) ∙ c .if3 .taken))
 
 order-wrong-requires : tie.Need-order-wrong-requires
 order-wrong-requires c κs = search needs
 
 returns-4 : tie.Need-returns-4
 returns-4 c =
-    let a = c .before .before .before .before .before .before .before .before .before .before .before .before .before .before .args in
-    sym (step-order (a .lists) (a .s) (now (a .plan)) (a .i) (formed (c .before .before .before .before .before .before)) (listed (c .before .before .before .before)) (few (c .before .before)) (sym (ap (state.orderWrong (a .s)) (kind-is (c .before .before .before .before .before .before))) ∙ sym (c .before .order-wrong .ensures) ∙ c .if4 .taken))
+    let else3 = c .before .before in
+    let read = read3 else3 in
+    let a = start read .args in
+    sym (step-order (a .lists) (a .s) (now (a .plan)) (a .i) (formed read) (listed (else3 .before .before)) (few else3)
+    (sym (ap (state.orderWrong (a .s)) (kind-is read)) ∙ sym (c .before .order-wrong .ensures) ∙ c .if4 .taken))
 
 after-requires : tie.Need-after-requires
 after-requires c κs =
-    let a = c .before .before .before .before .before .before .before .before .before .before .before .before .before .before in
-    (a .pre .1, sym (c .before .order-wrong .ensures) ∙ c .if4 .left)
+    let read = read3 (c .before .before) in
+    (start read .pre .1, sym (c .before .order-wrong .ensures) ∙ c .if4 .left)
 
 returns-5 : tie.Need-returns-5
 returns-5 c =
-    let a = c .before .before .before .before .before .before .before .before .before .before .before .before .before .before .before .args in
-    let e = kind-is (c .before .before .before .before .before .before .before) in
+    let else3 = c .before .before .before in
+    let read = read3 else3 in
+    let a = start read .args in
+    let e = kind-is read in
     ap Stands (c .after .ensures ∙ ap (state.after (a .s)) e)
-    ∙ sym (step-stands (a .lists) (a .s) (now (a .plan)) (a .i) (formed (c .before .before .before .before .before .before .before)) (listed (c .before .before .before .before .before)) (few (c .before .before .before)) (sym (ap (state.orderWrong (a .s)) e) ∙ sym (c .before .before .order-wrong .ensures) ∙ c .before .if4 .left))
+    ∙ sym (step-stands (a .lists) (a .s) (now (a .plan)) (a .i) (formed read) (listed (else3 .before .before)) (few else3)
+    (sym (ap (state.orderWrong (a .s)) e) ∙ sym (c .before .before .order-wrong .ensures) ∙ c .before .if4 .left))
 
 pub row-step-spec : {M : Type 1} → statement M
 row-step-spec =

@@ -1,0 +1,7 @@
+//! The yardsticks, which the benchmarks time the library beside: Rust as one would write it for
+//! speed, without intrinsics. `late` checks and writes volumes, `walk` searches them.
+
+#![allow(dead_code)]
+
+pub mod late;
+pub mod walk;

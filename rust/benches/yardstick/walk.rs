@@ -1,0 +1,420 @@
+//! A searcher: the volume is checked with late reduction, the lists that the plan uses are decoded
+//! into vectors, and one pass over them lists the documents.
+//!
+//! The pass: a cursor is what is left of a list. Each pattern joins the lists of its variables: its
+//! cursors leap in turn to the document that the furthest has reached, until all of them stand in
+//! one. The least of these documents over the patterns is the next to look at, since no plan is
+//! true where no pattern has all its variables. Each pattern that stands there is settled: from the
+//! first positions on, a predicate that fails moves the variable that it leaves short, and where
+//! all hold the match is the least. The pattern's cursors stay where they are meanwhile.
+
+use super::late::{self, Refused};
+
+/// The number behind the last document.
+const END: u32 = 65_536;
+const MAX_VARS: usize = 8;
+const MAX_PATTERNS: usize = 8;
+const MAX_ROWS: usize = 64;
+
+/// The answer of a listing call.
+#[derive(Clone, Copy, Debug, PartialEq, Eq)]
+pub struct Listing {
+    /// The rows written.
+    pub rows: u32,
+    /// The postings of every variable's list from the start up to `next`, or to the end.
+    pub tally: u32,
+    /// MORE's document, the least true one that is not written; `None` for DONE.
+    pub next: Option<u32>,
+}
+
+/// Lists the true documents from `start` on: a row for each at the front of `out`.
+pub fn list(volume: &[u8], plan: &[u32], start: u32, out: &mut [u32]) -> Result<Listing, Refused> {
+    late::check_volume(volume)?;
+    walk(volume, plan, start, out)
+}
+
+/// What `list` does behind the check of the volume.
+pub fn walk(volume: &[u8], plan: &[u32], start: u32, out: &mut [u32]) -> Result<Listing, Refused> {
+    let list_count = late::read_u32(&volume[8..12]);
+    let plan = Plan::read(plan, list_count)?;
+    if start >= END {
+        return Err((15, 0));
+    }
+    let width = plan.width();
+    if out.len() < width {
+        return Err((16, 0));
+    }
+
+    let used = plan.used();
+    let lists = decode(volume, list_count, &used);
+    let list = |number: u32| &lists[used.binary_search(&number).unwrap()][..];
+    let mut patterns: Vec<Joined> =
+        plan.patterns.iter().map(|pattern| Joined::new(pattern, start, list)).collect();
+    let mut starts = if plan.has_samepara() { list(0) } else { &[] };
+
+    let mut rows = 0;
+    let mut least = [[0; MAX_VARS]; MAX_PATTERNS];
+    let next = loop {
+        let doc = patterns.iter().map(|pattern| pattern.doc).min().unwrap_or(END);
+        if doc == END {
+            break None;
+        }
+        starts = seek(starts, doc << 16);
+        let mut found = 0;
+        for (i, pattern) in patterns.iter().enumerate() {
+            let here = if pattern.doc == doc { pattern.settle(starts) } else { None };
+            found |= u32::from(here.is_some()) << i;
+            least[i] = here.unwrap_or_default();
+        }
+        if plan.is_true(found) {
+            let Some(row) = out.get_mut(rows * width..(rows + 1) * width) else {
+                break Some(doc);
+            };
+            row[0] = doc;
+            let mut at = 1;
+            for (i, (pattern, least)) in patterns.iter().zip(&least).enumerate() {
+                row[at] = found >> i & 1;
+                row[at + 1..][..pattern.vars].copy_from_slice(&least[..pattern.vars]);
+                at += 1 + pattern.vars;
+            }
+            rows += 1;
+        }
+        for pattern in patterns.iter_mut().filter(|pattern| pattern.doc == doc) {
+            pattern.join(doc + 1);
+        }
+    };
+
+    let tally = plan.patterns.iter().flat_map(|pattern| &pattern.lists).map(|&number| {
+        let from = seek(list(number), start << 16);
+        let behind = next.map_or(0, |doc| seek(from, doc << 16).len());
+        from.len() - behind
+    });
+    Ok(Listing { rows: rows as u32, tally: tally.sum::<usize>() as u32, next })
+}
+
+/// What is left of a list that rises, from its first number on that is not below `bound`. Most
+/// leaps are short, and how short is hard to foretell, so that the first eight numbers are counted
+/// without a branch; then come steps that double, then halves.
+fn seek(left: &[u32], bound: u32) -> &[u32] {
+    if let Some(first) = left.first_chunk::<8>() {
+        if first[7] >= bound {
+            let below: usize = first.iter().map(|&number| usize::from(number < bound)).sum();
+            return &left[below..];
+        }
+    }
+    let mut below = 0;
+    let mut step = 8;
+    while left.get(below + step - 1).is_some_and(|&number| number < bound) {
+        below += step;
+        step *= 2;
+    }
+    let end = left.len().min(below + step - 1);
+    below += left[below..end].partition_point(|&number| number < bound);
+    &left[below..]
+}
+
+/// The lists of the given numbers, which rise.
+fn decode(volume: &[u8], list_count: u32, numbers: &[u32]) -> Vec<Vec<u32>> {
+    let mut lists = Vec::with_capacity(numbers.len());
+    let mut numbers = numbers.iter().peekable();
+    let mut start = 2 + list_count as usize;
+    for (number, count) in (0..).zip(late::words(volume, 2, start)) {
+        let end = start + count as usize;
+        if numbers.next_if_eq(&&number).is_some() {
+            let mut list = Vec::with_capacity(count as usize);
+            for range in late::ranges(start, end) {
+                list.extend(volume[range].chunks_exact(4).map(late::read_u32));
+            }
+            lists.push(list);
+        }
+        if numbers.peek().is_none() {
+            break;
+        }
+        start = end;
+    }
+    lists
+}
+
+/// A pattern (01: figure) of a plan.
+#[derive(Default)]
+struct Pattern {
+    /// The list of each variable (01: voice).
+    lists: Vec<u32>,
+    predicates: Vec<Predicate>,
+}
+
+/// A predicate on the positions of a pattern's variables (01: condition).
+#[derive(Clone, Copy)]
+enum Predicate {
+    /// The positions differ by at most `most`.
+    Distance {
+        a: usize,
+        b: usize,
+        most: u32,
+    },
+    Ordered {
+        a: usize,
+        b: usize,
+    },
+    Samepara {
+        a: usize,
+        b: usize,
+    },
+    /// The largest and the smallest position differ by at most `most`.
+    Window {
+        most: u32,
+    },
+}
+
+impl Predicate {
+    /// The variable that the predicate leaves short at these positions of a document, and the
+    /// position that it needs there at least; `None` where the predicate holds. `starts` begins
+    /// with the document's own.
+    #[inline]
+    fn short(self, doc: u32, at: &[u32], starts: &[u32]) -> Option<(usize, u32)> {
+        match self {
+            Predicate::Distance { a, b, most } => {
+                let (earlier, later) = if at[a] < at[b] { (a, b) } else { (b, a) };
+                (at[later] - at[earlier] > most).then(|| (earlier, at[later] - most))
+            }
+            Predicate::Ordered { a, b } => (at[a] >= at[b]).then(|| (b, at[a] + 1)),
+            Predicate::Samepara { a, b } => {
+                let (earlier, later) = if at[a] < at[b] { (a, b) } else { (b, a) };
+                let start = para_start(doc, at[later], starts)?;
+                (at[earlier] < start).then_some((earlier, start))
+            }
+            Predicate::Window { most } => {
+                let (mut smallest, mut largest) = (0, at[0]);
+                for (var, &pos) in at.iter().enumerate() {
+                    if pos < at[smallest] {
+                        smallest = var;
+                    }
+                    largest = largest.max(pos);
+                }
+                (largest - at[smallest] > most).then(|| (smallest, largest - most))
+            }
+        }
+    }
+}
+
+/// The greatest start of the document that is not above the position.
+fn para_start(doc: u32, pos: u32, starts: &[u32]) -> Option<u32> {
+    let posting = doc << 16 | pos;
+    let behind = posting.checked_add(1).map_or(0, |bound| seek(starts, bound).len());
+    let start = starts[..starts.len() - behind].last()?;
+    Some(start & 0xffff)
+}
+
+/// A pattern's walk from document to document.
+struct Joined<'a> {
+    predicates: &'a [Predicate],
+    vars: usize,
+    /// The cursors, those of all variables at their first posting in `doc`.
+    left: [&'a [u32]; MAX_VARS],
+    /// The next document in which every variable has a posting.
+    doc: u32,
+}
+
+impl<'a> Joined<'a> {
+    fn new(pattern: &'a Pattern, start: u32, list: impl Fn(u32) -> &'a [u32]) -> Joined<'a> {
+        let mut left: [&[u32]; MAX_VARS] = [&[]; MAX_VARS];
+        for (left, &number) in left.iter_mut().zip(&pattern.lists) {
+            *left = list(number);
+        }
+        let vars = pattern.lists.len();
+        let mut joined = Joined { predicates: &pattern.predicates, vars, left, doc: start };
+        joined.join(start);
+        joined
+    }
+
+    /// Moves the cursors to the next document, not below `from`, in which all variables have a
+    /// posting.
+    fn join(&mut self, from: u32) {
+        self.doc = if from < END { self.meet(from).unwrap_or(END) } else { END };
+    }
+
+    fn meet(&mut self, from: u32) -> Option<u32> {
+        let left = &mut self.left[..self.vars];
+        let mut doc = from;
+        // So many variables in turn have a posting in `doc`.
+        let mut standing = 0;
+        loop {
+            for left in left.iter_mut() {
+                *left = seek(left, doc << 16);
+                let reached = left.first()? >> 16;
+                standing = if reached == doc { standing + 1 } else { 1 };
+                if standing == self.vars {
+                    return Some(reached);
+                }
+                doc = reached;
+            }
+        }
+    }
+
+    /// The least match in `doc`: a position for each variable.
+    fn settle(&self, starts: &[u32]) -> Option<[u32; MAX_VARS]> {
+        let doc = self.doc;
+        // The postings that each variable has passed.
+        let mut passed = [0; MAX_VARS];
+        let mut at = [0; MAX_VARS];
+        for (at, left) in at.iter_mut().zip(&self.left[..self.vars]) {
+            *at = left[0] & 0xffff;
+        }
+        // So many predicates in turn hold.
+        let mut holding = 0;
+        for predicate in self.predicates.iter().cycle() {
+            while let Some((var, pos)) = predicate.short(doc, &at[..self.vars], starts) {
+                let left = &self.left[var][passed[var]..];
+                let moved = seek(left, (doc << 16).checked_add(pos)?);
+                let posting = moved.first()?;
+                if posting >> 16 != doc {
+                    return None;
+                }
+                passed[var] += left.len() - moved.len();
+                at[var] = posting & 0xffff;
+                holding = 0;
+            }
+            holding += 1;
+            if holding == self.predicates.len() {
+                break;
+            }
+        }
+        Some(at)
+    }
+}
+
+/// A step of the plan's answer.
+#[derive(Clone, Copy)]
+enum Step {
+    /// The next pattern's answer is stacked.
+    Pattern,
+    Both,
+    Either,
+    FirstNotSecond,
+}
+
+/// An accepted plan.
+#[derive(Default)]
+struct Plan {
+    patterns: Vec<Pattern>,
+    steps: Vec<Step>,
+}
+
+impl Plan {
+    /// Reads a plan over a volume of so many lists.
+    fn read(words: &[u32], list_count: u32) -> Result<Plan, Refused> {
+        let rows = words.chunks_exact(4);
+        if !rows.remainder().is_empty() || !(1..=MAX_ROWS).contains(&rows.len()) {
+            return Err((9, 0));
+        }
+        let mut plan = Plan::default();
+        let mut open: Option<Pattern> = None;
+        let mut answers = 0;
+        for (row, words) in (0..).zip(rows) {
+            let [kind, a, b, c] = words.try_into().unwrap();
+            let in_range = match kind {
+                1 => b == 0 && c == 0,
+                2 => c < 65_536,
+                3 | 4 => c == 0,
+                5 => a == 0 && b == 0 && (1..=65_536).contains(&c),
+                6..=9 => a == 0 && b == 0 && c == 0,
+                _ => false,
+            };
+            if !in_range {
+                return Err((10, row));
+            }
+            if kind == 1 {
+                if !(1..list_count).contains(&a) {
+                    return Err((11, row));
+                }
+                let full = match &open {
+                    Some(pattern) => pattern.lists.len() == MAX_VARS,
+                    None => plan.patterns.len() == MAX_PATTERNS,
+                };
+                if full {
+                    return Err((12, row));
+                }
+                let pattern = open.get_or_insert_with(Pattern::default);
+                if !pattern.predicates.is_empty() {
+                    return Err((13, row));
+                }
+                pattern.lists.push(a);
+            } else if kind <= 6 {
+                let Some(pattern) = &mut open else {
+                    return Err((13, row));
+                };
+                let (a, b) = (a as usize, b as usize);
+                if a.max(b) >= pattern.lists.len() {
+                    return Err((13, row));
+                }
+                match kind {
+                    2 => pattern.predicates.push(Predicate::Distance { a, b, most: c + 1 }),
+                    3 => pattern.predicates.push(Predicate::Ordered { a, b }),
+                    4 => pattern.predicates.push(Predicate::Samepara { a, b }),
+                    5 => pattern.predicates.push(Predicate::Window { most: c - 1 }),
+                    _ => {
+                        plan.patterns.extend(open.take());
+                        plan.steps.push(Step::Pattern);
+                        answers += 1;
+                    }
+                }
+            } else {
+                if open.is_some() || answers < 2 {
+                    return Err((13, row));
+                }
+                plan.steps.push(match kind {
+                    7 => Step::Both,
+                    8 => Step::Either,
+                    _ => Step::FirstNotSecond,
+                });
+                answers -= 1;
+            }
+        }
+        if open.is_some() || answers != 1 {
+            return Err((14, 0));
+        }
+        Ok(plan)
+    }
+
+    /// The words of a row of the listing.
+    fn width(&self) -> usize {
+        1 + self.patterns.iter().map(|pattern| 1 + pattern.lists.len()).sum::<usize>()
+    }
+
+    fn has_samepara(&self) -> bool {
+        let mut predicates = self.patterns.iter().flat_map(|pattern| &pattern.predicates);
+        predicates.any(|predicate| matches!(predicate, Predicate::Samepara { .. }))
+    }
+
+    /// The lists that the plan uses, each once, rising.
+    fn used(&self) -> Vec<u32> {
+        let mut used: Vec<u32> =
+            self.patterns.iter().flat_map(|pattern| &pattern.lists).copied().collect();
+        if self.has_samepara() {
+            used.push(0);
+        }
+        used.sort_unstable();
+        used.dedup();
+        used
+    }
+
+    /// The one answer left, where bit i of `found` is the answer of pattern i.
+    fn is_true(&self, mut found: u32) -> bool {
+        // The answers as bits, the top one the lowest.
+        let mut stack = 0u32;
+        for step in &self.steps {
+            let (first, second) = (stack >> 1 & 1, stack & 1);
+            stack = match step {
+                Step::Pattern => {
+                    let answer = found & 1;
+                    found >>= 1;
+                    stack << 1 | answer
+                }
+                Step::Both => stack >> 2 << 1 | first & second,
+                Step::Either => stack >> 2 << 1 | first | second,
+                Step::FirstNotSecond => stack >> 2 << 1 | first & !second,
+            };
+        }
+        stack == 1
+    }
+}

@@ -1,0 +1,160 @@
+//! The C header: C programs that include it link the library and get document 01's answers.
+
+use crate::support::cc::compile;
+use std::process::Command;
+
+/// What the program `tests/c/NAME.c` prints.
+fn printed(name: &str) -> String {
+    let program = compile(&format!("rust/tests/c/{name}.c"), name, &[])
+        .unwrap_or_else(|told| panic!("{told}"));
+    let ran = Command::new(program).output().expect("the program runs");
+    assert!(ran.status.success());
+    String::from_utf8_lossy(&ran.stdout).into_owned()
+}
+
+#[test]
+fn volumes() {
+    let expected = "\
+limits 512 126 8192 4194304 1032192 1024
+write 18 0 0
+write 20 0 0
+out 7 7
+write 0 0 1
+out 0 1 64 7
+check 0 0 3 8
+check 2 1 0 0
+read 0 0 2: 65536 65542 7 7
+read 0 0 3: 65541 65543 131081 7
+read 16 0 0: 7 7 7 7
+read 17 0 0: 7 7 7 7
+read 2 0 0: 7 7 7 7
+";
+    assert_eq!(printed("volume"), expected);
+}
+
+#[test]
+fn plans() {
+    let expected = "\
+check answer 16: 0 4 8 12
+rows answer 8: 0 4
+limits 4 64 256 8 8
+kinds 1 2 3 4 5 6 7 8 9
+no row: 9 0 0 0
+open: 14 0 0 0
+rows of 0: 0 0
+sample: 0 0 1 2
+a word less: 9 0 0 0
+rows of 0: 0 20
+rows of 1: 0 0
+rows of 4294967295: 0 0
+two answers: 14 0 0 0
+two patterns: 0 0 2 3
+rows of 0: 0 20
+rows of 1: 20 16
+rows of 2: 0 0
+c of NEAR: 10 6 0 0
+rows of 1: 0 0
+list: 11 5 0 0
+variable: 13 6 0 0
+two patterns: 0 0 2 3
+BOTH: 0 0 2 3
+EITHER: 0 0 2 3
+checksum: 3 0 0 0
+checksum, no row: 3 0 0 0
+rows of 0: 0 0
+nine variables: 12 8 0 0
+65 rows: 9 0 0 0
+";
+    assert_eq!(printed("plan"), expected);
+}
+
+#[test]
+fn searches() {
+    let expected = "\
+test answer 12: 0 4 8
+list answer 20: 0 4 8 12 16
+DONE 65536
+list 9 0 0 0 0
+test 9 0 0
+list 14 0 0 0 0
+sample, 4 words
+list 0 0 1 4 2: 1 1 2 5
+list 0 0 1 2 65536: 2 1 4 9
+done 2 6
+sample, 7 words
+list 0 0 1 4 2: 1 1 2 5
+list 0 0 1 2 65536: 2 1 4 9
+done 2 6
+sample, 8 words
+list 0 0 2 6 65536: 1 1 2 5: 2 1 4 9
+done 2 6
+sample, 3 words
+list 16 0 0 0 0
+list 0 0 1 2 65536: 2 1 4 9
+list 0 0 0 0 65536
+list 0 0 0 0 65536
+list 15 0 0 0 0
+list 15 0 0 0 0
+test 0 0 1
+test 0 0 0
+test 0 0 1
+test 0 0 0
+test 17 0 0
+test 17 0 0
+test 17 0 0
+test 17 0 0
+FIRST NOT SECOND, 7 words
+list 0 0 1 12 65536: 2 1 4 9 0 0 0
+done 1 12
+EITHER, 7 words
+list 0 0 1 8 2: 1 1 2 5 1 7 8
+list 0 0 1 4 65536: 2 1 4 9 0 0 0
+done 2 12
+test 0 0 1
+list 10 9 0 0 0
+list 3 0 0 0 0
+test 3 0 0
+";
+    assert_eq!(printed("search"), expected);
+}
+
+/// Each name of a refusal is the number that its cause has, and the longest row is reached.
+#[test]
+fn refusals() {
+    let expected = "\
+LHZ_REFUSED_LENGTH 1: 1 0
+LHZ_REFUSED_LENGTH 1: 1 0
+LHZ_REFUSED_BLOCK_NUMBER 2: 2 1
+LHZ_REFUSED_CHECKSUM 3: 3 1
+LHZ_REFUSED_VERSION 4: 4 0
+LHZ_REFUSED_LIST_COUNT 5: 5 0
+LHZ_REFUSED_BLOCK_COUNT 6: 6 0
+LHZ_REFUSED_LIST_ORDER 7: 7 1
+LHZ_REFUSED_PADDING 8: 8 134
+LHZ_REFUSED_PLAN_LENGTH 9: 9 0
+LHZ_REFUSED_PLAN_LENGTH 9: 9 0
+LHZ_REFUSED_UNFINISHED 14: 14 0
+LHZ_REFUSED_ROW_FORM 10: 10 1
+LHZ_REFUSED_ROW_LIST 11: 11 0
+LHZ_REFUSED_ROW_TOO_MANY 12: 12 8
+LHZ_REFUSED_ROW_ORDER 13: 13 1
+longest row 59: 7 51
+LHZ_REFUSED_START 15: 15 0
+LHZ_REFUSED_SHORT_BUFFER 16: 16 0
+LHZ_REFUSED_SHORT_BUFFER 16: 16 0
+LHZ_REFUSED_OUT_OF_RANGE 17: 17 0
+LHZ_REFUSED_OUT_OF_RANGE 17: 17 0
+LHZ_REFUSED_COUNT_SUM 18: 18 0
+LHZ_REFUSED_SHORT_OUTPUT 20: 20 0
+LHZ_REFUSED_TOO_LARGE 19: 19 0
+";
+    assert_eq!(printed("refusals"), expected);
+}
+
+/// The library calls memcpy and memset and no other function.
+#[test]
+fn nothing_else_has_to_be_linked() {
+    let flags = ["-nostdlib", "-static", "-fno-stack-protector", "-Wl,-e,main"];
+    let linked = compile("rust/tests/c/freestanding.c", "freestanding", &flags);
+    linked.unwrap_or_else(|told| panic!("{told}"));
+}

@@ -1,0 +1,175 @@
+//! What document 01 itself says of listings: its table of cases, starred and not, the sample
+//! listing, and the traps it names.
+
+use crate::plain::search::Listed;
+use crate::support::plans::*;
+use crate::support::searches::*;
+use crate::support::*;
+
+/// The sample's two variables with other predicates.
+fn two(predicates: &[Row]) -> Vec<Row> {
+    [&[voice(1), voice(2)], predicates, &[END]].concat()
+}
+
+/// A plan over the sample volume.
+fn over_sample(rows: &[Row]) -> Subject {
+    Subject::new(&sample().volume(), &rows.concat())
+}
+
+#[test]
+fn the_sample_listing() {
+    let mut trial = Trial::default();
+    let subject = over_sample(&SAMPLE);
+    let (words, Listed { rows, tally, more }) = trial.list_rows(&subject, 0, 4_000).unwrap();
+    assert_eq!((rows, more), (2, None));
+    let mut printed = String::new();
+    for row in words.chunks(4) {
+        let words: Vec<String> = row.iter().map(u32::to_string).collect();
+        printed += &format!("scene {}\n", words.join(" "));
+    }
+    printed += &format!("done {tally}\n");
+    assert_eq!(printed, "scene 1 1 2 5\nscene 2 1 4 9\ndone 6\n");
+}
+
+/// The plans of the table, each with the words of its rows and its tally. A buffer of every length
+/// gives them, in as many calls as it takes.
+#[test]
+fn the_table_of_cases() {
+    let before_not_near = [two(&[before(0, 1)]), two(&[near(0, 1, 0)]), vec![FIRST_NOT_SECOND]];
+    let rows: &[(&str, Vec<Row>, &[u32], u32)] = &[
+        ("the listing", SAMPLE.to_vec(), &[1, 1, 2, 5, 2, 1, 4, 9], 6),
+        ("NEAR 0 1, c = 0", two(&[near(0, 1, 0)]), &[1, 1, 8, 7], 6),
+        ("NEAR 0 1, c = 3", two(&[near(0, 1, 3)]), &[1, 1, 2, 5], 6),
+        ("NEAR 0 1, c = 4", two(&[near(0, 1, 4)]), &[1, 1, 2, 5, 2, 1, 4, 9], 6),
+        ("SPAN 4", two(&[span(4)]), &[1, 1, 2, 5], 6),
+        ("SPAN 3", two(&[span(3)]), &[1, 1, 8, 7], 6),
+        ("BEFORE 1 0, SAME TITLE 0 1", two(&[before(1, 0), same_title(0, 1)]), &[1, 1, 8, 7], 6),
+        ("both voices on list 1", vec![voice(1), voice(1), END], &[1, 1, 2, 2, 2, 1, 4, 4], 6),
+        ("BEFORE 0 0", vec![voice(1), before(0, 0), END], &[], 3),
+        (
+            "BEFORE 0 1 FIRST NOT SECOND NEAR c = 0",
+            before_not_near.concat(),
+            &[2, 1, 4, 9, 0, 0, 0],
+            12,
+        ),
+    ];
+    let mut trial = Trial::default();
+    for (name, plan, words, tally) in rows {
+        trial.case = name.to_string();
+        let subject = over_sample(plan);
+        let width = subject.searcher().width();
+        for room in width..=3 * width {
+            assert_eq!(trial.search(&subject, room), (words.to_vec(), *tally), "{name}, {room}");
+        }
+        for room in 0..width {
+            assert_eq!(trial.list_rows(&subject, 0, room), Err((16, 0)), "{name}, {room}");
+        }
+    }
+}
+
+#[test]
+fn the_sample_in_two_calls() {
+    let mut trial = Trial::default();
+    let subject = over_sample(&SAMPLE);
+    let first = Listed { rows: 1, tally: 4, more: Some(2) };
+    assert_eq!(trial.list_rows(&subject, 0, 4), Ok((vec![1, 1, 2, 5], first)));
+    let second = Listed { rows: 1, tally: 2, more: None };
+    assert_eq!(trial.list_rows(&subject, 2, 4), Ok((vec![2, 1, 4, 9], second)));
+    assert_eq!(trial.list_rows(&subject, 0, 3), Err((16, 0)));
+    assert_eq!(trial.list_rows(&subject, 2, 3), Err((16, 0)));
+}
+
+/// The sample from every document near its own, and from the ends.
+#[test]
+fn starts_of_the_sample() {
+    let mut trial = Trial::default();
+    let subject = over_sample(&SAMPLE);
+    let rows = [1, 1, 2, 5, 2, 1, 4, 9];
+    for (start, words, tally) in [
+        (0, &rows[..], 6),
+        (1, &rows, 6),
+        (2, &rows[4..], 2),
+        (3, &[], 0),
+        (4, &[], 0),
+        (65_534, &[], 0),
+        (65_535, &[], 0),
+    ] {
+        let listed = Listed { rows: words.len() as u32 / 4, tally, more: None };
+        assert_eq!(trial.list_rows(&subject, start, 8), Ok((words.to_vec(), listed)), "{start}");
+    }
+    for start in [65_536, 65_537, 65_538, 131_072, 1 << 31, u32::MAX] {
+        for room in [0, 3, 4, 8] {
+            assert_eq!(trial.list_rows(&subject, start, room), Err((15, 0)), "{start}");
+        }
+    }
+}
+
+/// The listing of a plan over lists that are told by document and position.
+#[track_caller]
+fn listing(lists: &[&[(u32, u32)]], rows: &[Row]) -> (Vec<u32>, u32) {
+    Trial::default().listing(&Subject::over(lists, rows))
+}
+
+/// Trap: 1:65,535 and 2:0 are neighbours as numbers and not in any document.
+#[test]
+fn neighbours_across_a_documents_edge() {
+    for predicate in [near(0, 1, 0), near(0, 1, 65_535), span(2), span(65_536), before(0, 1)] {
+        let (words, tally) = listing(&[&[], &[(1, 65_535)], &[(2, 0)]], &two(&[predicate]));
+        assert_eq!((words, tally), (vec![], 2), "{predicate:?}");
+        let both = [&[(1, 65_535), (3, 7)][..], &[(2, 0), (3, 8)]];
+        let (words, tally) = listing(&[&[], both[0], both[1]], &two(&[predicate]));
+        assert_eq!((words, tally), (vec![3, 1, 7, 8], 4), "{predicate:?}");
+    }
+    assert_eq!(listing(&[&[], &[(1, 65_535)], &[(2, 0)]], &two(&[])), (vec![], 2));
+    // A variable that has passed its last position in document 1 does not take one of document 2.
+    let lists: [&[(u32, u32)]; 3] = [&[], &[(1, 3), (2, 9)], &[(1, 9), (2, 3)]];
+    assert_eq!(listing(&lists, &two(&[near(0, 1, 0)])), (vec![], 4));
+    assert_eq!(listing(&lists, &two(&[before(1, 0)])), (vec![2, 1, 9, 3], 4));
+    // Nor does a title start of another document part or join two positions.
+    let starts: &[(u32, u32)] = &[(0, 5), (2, 5)];
+    let lists = [starts, &[(0, 4), (1, 4), (2, 4)], &[(0, 6), (1, 6), (2, 6)]];
+    assert_eq!(listing(&lists, &two(&[same_title(0, 1)])), (vec![1, 1, 4, 6], 6));
+}
+
+/// Trap: on a failed NEAR the earlier variable moves, and never the later one.
+#[test]
+fn a_failed_near_moves_the_earlier_variable() {
+    let lists: [&[(u32, u32)]; 3] = [&[], &[(4, 1), (4, 9)], &[(4, 10), (4, 90)]];
+    assert_eq!(listing(&lists, &two(&[near(0, 1, 0)])).0, [4, 1, 9, 10]);
+    assert_eq!(listing(&lists, &two(&[near(1, 0, 0)])).0, [4, 1, 9, 10]);
+    let lists: [&[(u32, u32)]; 3] = [&[], &[(4, 10), (4, 90)], &[(4, 1), (4, 9)]];
+    assert_eq!(listing(&lists, &two(&[near(0, 1, 0)])).0, [4, 1, 10, 9]);
+    assert_eq!(listing(&lists, &two(&[near(1, 0, 0)])).0, [4, 1, 10, 9]);
+}
+
+/// Trap: an EITHER goes on when one list has run out.
+#[test]
+fn either_goes_on_when_one_list_runs_out() {
+    let either = [voice(1), END, voice(2), END, EITHER];
+    let (early, late): ([(u32, u32); 1], _) = ([(1, 5)], [(2, 6), (9, 7)]);
+    let (words, tally) = listing(&[&[], &early, &late], &either);
+    assert_eq!(words, [1, 1, 5, 0, 0, 2, 0, 0, 1, 6, 9, 0, 0, 1, 7]);
+    assert_eq!(tally, 3);
+    let (words, _) = listing(&[&[], &late, &early], &either);
+    assert_eq!(words, [1, 0, 0, 1, 5, 2, 1, 6, 0, 0, 9, 1, 7, 0, 0]);
+    let (words, _) = listing(&[&[], &[], &late], &either);
+    assert_eq!(words, [2, 0, 0, 1, 6, 9, 0, 0, 1, 7]);
+    let (words, _) = listing(&[&[], &late, &[]], &either);
+    assert_eq!(words, [2, 1, 6, 0, 0, 9, 1, 7, 0, 0]);
+}
+
+/// Trap: FIRST NOT SECOND drops whole documents, and not positions that both sides have.
+#[test]
+fn first_not_second_drops_documents() {
+    let not = [voice(1), END, voice(2), END, FIRST_NOT_SECOND];
+    // Document 1 shares a position, document 2 has other ones, document 3 has the first alone.
+    let first = [(1, 4), (1, 5), (2, 4), (3, 4), (3, 5)];
+    let second = [(1, 4), (2, 8), (4, 4)];
+    let (words, tally) = listing(&[&[], &first, &second], &not);
+    assert_eq!((&words[..], tally), (&[3, 1, 4, 0, 0][..], 8));
+    let (words, _) = listing(&[&[], &second, &first], &not);
+    assert_eq!(words, [4, 1, 4, 0, 0]);
+    assert_eq!(listing(&[&[], &first, &first], &not).0, []);
+    assert_eq!(listing(&[&[], &first, &[]], &not).0.len(), 3 * 5);
+    assert_eq!(listing(&[&[], &[], &first], &not).0, []);
+}
