@@ -1,7 +1,7 @@
 -- The start of a position's paragraph. No contract cites this file.
 --     ParaAt                       r is the greatest start not above p, or 65,536 where there is none
 --     para-told, para-is           `paraStart` is so, and nothing else is
---     para-unparted                no start parts two positions where the later one's paragraph starts at or in front of the other
+--     para-unparted                no start separates two positions where the later one's paragraph starts at or in front of the other
 --     para-in                      a paragraph that starts at or in front of the position starts at a start
 --     stands-stretch               the postings of list 0 from a cursor on
 --     past-from, past-within       the first of them behind position p of document d

@@ -1,4 +1,4 @@
--- A pattern that stands in a document, from its table and cursors to what is shown of it. No contract cites this file.
+-- A pattern that stands in a document, from its cursors to what is shown of it. No contract cites this file.
 --     ready-posed                  what it asks
 --     ready-stands                 where its cursors stand
 --     ready-standing, ready-least  copies of them; the least match from there on is the least of all
