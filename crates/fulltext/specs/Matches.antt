@@ -5,7 +5,7 @@ use mathlib.Core.Bool.{Bool, true, false, not, _&&_}
 use mathlib.Core.List.{List, [], _∷_, _++_, map}
 use mathlib.Core.Option.{Option}
 use lib.ListN.{length}
-use lib.Dec.{leb, ltb}
+use lib.Dec.{eqb, leb, ltb}
 use Rattle.seq.specs.Lists.{keep, all, elem, first}
 use Rattle.plan.specs.declared.row.Predicate.{Predicate}
 use Rattle.plan.specs.declared.row.Predicate.the-variants.{Distance, Ordered, Samepara, Window}
@@ -87,15 +87,34 @@ varsIn lists d vars = map (λ l. positionsIn d (listOf lists l)) vars
 abbrev pub matchesAt : List (List ℕ) → ℕ → Pattern → List ℕ → Bool
 matchesAt lists d f ps = isMatch (startsIn lists d) (varsIn lists d (f .vars)) (f .predicates) ps
 
+-- every match of a pattern in document d, in that order
+unfoldable pub matchesIn : List (List ℕ) → ℕ → Pattern → List (List ℕ)
+unfolding positionsIn matches
+matchesIn lists d f = matches (startsIn lists d) (varsIn lists d (f .vars)) (f .predicates)
+
 -- the least match (01: earliest places) of a pattern in document d
 unfoldable pub leastIn : List (List ℕ) → ℕ → Pattern → Option (List ℕ)
-unfolding positionsIn matches
-leastIn lists d f = first (matches (startsIn lists d) (varsIn lists d (f .vars)) (f .predicates))
+unfolding matchesIn
+leastIn lists d f = first (matchesIn lists d f)
 
 -- each variable of ps at most as far as in qs
 infix 40 _⊑_
 abbrev pub _⊑_ : List ℕ → List ℕ → Type 0
 ps ⊑ qs = (x : ℕ) → at ps x ≤ at qs x
+
+-- the same as a test
+unfoldable pub reaches : List ℕ → List ℕ → Bool
+reaches [] qs = true
+reaches (p ∷ ps) [] = eqb p 0 && reaches ps []
+reaches (p ∷ ps) (q ∷ qs) = leb p q && reaches ps qs
+
+-- a match that stands in each variable at bs or behind, and the least such match
+abbrev pub MatchFrom : List (List ℕ) → ℕ → Pattern → List ℕ → List ℕ → Type 0
+MatchFrom lists d f bs qs = (matchesAt lists d f qs ≡ true) × (bs ⊑ qs)
+
+unfoldable pub leastFrom : List (List ℕ) → ℕ → Pattern → List ℕ → Option (List ℕ)
+unfolding keep reaches matchesIn
+leastFrom lists d f bs = first (keep (reaches bs) (matchesIn lists d f))
 
 -- ps is the least match: it matches, and every match has in each variable a position at least as large
 pub record Least (lists : List (List ℕ)) (d : ℕ) (f : Pattern) (ps : List ℕ) : Type 0 where

@@ -5,7 +5,7 @@ pub mod Paragraphs
 pub mod Shortfall
 pub mod Placed
 pub mod Settling
-pub mod Matching
+pub mod Tried
 pub mod Settled
 pub mod Testing
 pub mod TestFirst

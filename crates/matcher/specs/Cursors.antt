@@ -7,6 +7,7 @@ use Rattle.seq.specs.Lists.{keep}
 use Rattle.seq.specs.Numbers.{firstFrom}
 use Rattle.volume.specs.Layout.{streamLength, word, count, start}
 use Rattle.matcher.specs.declared.cursor.Cursor.{Cursor}
+use Rattle.matcher.specs.declared.cursor.Document.{Document}
 use Rattle.fulltext.specs.Positions.{limit}
 use Rattle.fulltext.specs.Matches.{largest}
 
@@ -43,3 +44,9 @@ pub record Stands (v : List ℕ) (l d i : ℕ) : Type 0 where
   pub from : start v l ≤ i
   pub to : i ≤ listEnd v l
   pub behind : (j : ℕ) → start v l ≤ j → j < i → word v j < d * 65536
+
+-- a document, and a cursor on list 0 that has not passed it
+pub record AtDocument (v : List ℕ) (c : Document) : Type 0 where
+  pub small : c .doc ≤ 65535
+  pub starts-at : Stands v 0 (c .doc) (c .starts .at)
+  pub starts-end : c .starts .end ≡ listEnd v 0

@@ -12,11 +12,12 @@ use Rattle.plan.specs.Patterns.{Pattern}
 use Rattle.plan.specs.Check.{Accepted, sizes}
 use Rattle.plan.specs.Accepted.{patternAt}
 use Rattle.fulltext.specs.Calculus.{at}
-use Rattle.fulltext.specs.Matches.{matchesAt}
-use Rattle.matcher.specs.declared.cursor.Cursor.{Cursor}
-use Rattle.matcher.specs.Cursors.{seekFrom, listEnd, Stands}
+use Rattle.fulltext.specs.Matches.{MatchFrom}
+use Rattle.matcher.specs.declared.cursor.Document.{Document}
+use Rattle.matcher.specs.Cursors.{seekFrom, listEnd, Stands, AtDocument}
 use Rattle.matcher.specs.Shortfall.{InDocument}
-use Rattle.plan.specs.Inner.Outline.{varsBefore, Entry, Tabled}
+use Rattle.plan.specs.declared.outline.Outline.{Outline}
+use Rattle.plan.specs.Inner.Outline.{varsBefore, Entry}
 use Rattle.matcher.specs.Tables.{varAt}
 use Rattle.fulltext.specs.Positions.{limit}
 use Rattle.fulltext.specs.Documents.{found}
@@ -51,47 +52,45 @@ Jumped v d e b x here ps false here′ ps′ =
     ((e ≤ seekFrom v (d * 65536 + b) (getD here x 0) e) ⊎ ((seekFrom v (d * 65536 + b) (getD here x 0) e < e) × (docOf (word v (seekFrom v (d * 65536 + b) (getD here x 0) e)) ≢ d)))
     × ((here′ ≡ here) × (ps′ ≡ ps))
 
--- the variables of a pattern stand at positions of document d that no match is in front of
-pub record Low (v : List ℕ) (d : ℕ) (f : Pattern) (here ps : List ℕ) : Type 0 where
+-- the variables of a pattern stand at positions of document d
+pub record Standing (v : List ℕ) (d : ℕ) (f : Pattern) (here ps : List ℕ) : Type 0 where
+  pub each : (x : ℕ) → x < length (f .vars) → AtPos v (getD (f .vars) x 0) d (getD here x 0) (getD ps x 0)
+
+-- they stand at bs or behind, and no match from bs on is in front of them
+pub record Low (v : List ℕ) (d : ℕ) (f : Pattern) (bs here ps : List ℕ) : Type 0 where
   pub standing : (x : ℕ) → x < length (f .vars) → AtPos v (getD (f .vars) x 0) d (getD here x 0) (getD ps x 0)
-  pub low : (qs : List ℕ) → matchesAt (listsOf v) d f qs ≡ true → (x : ℕ) → x < length (f .vars) → getD ps x 0 ≤ at qs x
+  pub above : (x : ℕ) → x < length (f .vars) → at bs x ≤ getD ps x 0
+  pub low : (qs : List ℕ) → MatchFrom (listsOf v) d f bs qs → (x : ℕ) → x < length (f .vars) → getD ps x 0 ≤ at qs x
 
 -- these positions, or nothing
 abbrev pub givenIf : Bool → List ℕ → Option (List ℕ)
 givenIf true ps = some ps
 givenIf false ps = none
 
--- what pattern k, given by its entry in the table, asks in document d: the ends of its variables' lists, and a cursor on list 0 that has not
--- passed the document
-pub record Posed (v p ends : List ℕ) (k first n condition last d : ℕ) (starts : Cursor) : Type 0 where
+-- what a pattern, given by its outline, asks in a document: the ends of its variables' lists
+pub record Posed (v p : List ℕ) (o : Outline) (doc : Document) (ends : List ℕ) : Type 0 where
   pub accepted : Accepted v p
-  pub pattern : k < sizes p .patterns
-  pub entry : Entry p (record { pattern = k; first = first; vars = n; condition = condition; last = last })
-  pub starts-at : Stands v 0 d (starts .at)
-  pub starts-end : starts .end ≡ listEnd v 0
-  pub doc : d ≤ 65535
-  pub room : first + n ≤ length ends
-  pub ends-are : (x : ℕ) → x < n → getD ends (first + x) 0 ≡ listEnd v (getD (patternAt p k .vars) x 0)
+  pub pattern : o .pattern < sizes p .patterns
+  pub entry : Entry p o
+  pub document : AtDocument v doc
+  pub room : o .vars ≤ length ends
+  pub ends-are : (x : ℕ) → x < o .vars → getD ends x 0 ≡ listEnd v (getD (patternAt p (o .pattern) .vars) x 0)
 
--- pattern k, given by its table and its cursors, can be found next in document r, which is document d or a later one
-pub record Ready (v p table ats ends : List ℕ) (k d r : ℕ) (starts : Cursor) : Type 0 where
+-- a pattern, given by its outline and the cursors of all variables, can be found next in document r, which is this one or a later one
+pub record Ready (v p : List ℕ) (o : Outline) (doc : Document) (ats ends : List ℕ) (r : ℕ) : Type 0 where
   pub accepted : Accepted v p
-  pub pattern : k < sizes p .patterns
-  pub tabled : Tabled p table
-  pub table-room : 4 * sizes p .patterns ≤ length table
+  pub pattern : o .pattern < sizes p .patterns
+  pub entry : Entry p o
+  pub document : AtDocument v doc
   pub ats-room : sizes p .vars ≤ length ats
   pub ends-room : sizes p .vars ≤ length ends
-  pub starts-at : Stands v 0 d (starts .at)
-  pub starts-end : starts .end ≡ listEnd v 0
-  pub doc : d ≤ 65535
-  pub candidate : Candidate v p ats ends k d r
+  pub candidate : Candidate v p ats ends (o .pattern) (doc .doc) r
 
--- positions for the variables of pattern k of an accepted plan, in document d; `table` is the plan's
-pub record Asked (v p table : List ℕ) (k d : ℕ) (ps : List ℕ) : Type 0 where
+-- positions for the variables of a pattern of an accepted plan, in document d
+pub record Asked (v p : List ℕ) (o : Outline) (d : ℕ) (ps : List ℕ) : Type 0 where
   pub accepted : Accepted v p
-  pub there : k < sizes p .patterns
-  pub tabled : Tabled p table
-  pub room : 4 * sizes p .patterns ≤ length table
-  pub number : length ps ≡ length (patternAt p k .vars)
+  pub pattern : o .pattern < sizes p .patterns
+  pub entry : Entry p o
+  pub number : length ps ≡ length (patternAt p (o .pattern) .vars)
   pub doc-small : d ≤ 65535
   pub small : InDocument ps

@@ -12,6 +12,12 @@ pub struct Cursor {
     pub end: usize,
 }
 
+// A document, and a cursor on list 0 that has not passed it.
+pub struct Document {
+    pub doc: u32,
+    pub starts: Cursor,
+}
+
 // The first stream index from `from` up to `end` whose word is not below target; `end` where there
 // is none. The words rise; the range is halved each turn.
 fn lower_bound(volume: &[u8], from: usize, end: usize, target: u64) -> usize
@@ -51,7 +57,7 @@ fn leap(volume: &[u8], from: usize, end: usize, first: usize, target: u64) -> us
 
 // The same. Where the next eight words are of the list and of one block, the first is tried, and
 // then those below target are counted without a branch: most moves are short.
-pub fn gallop(volume: &[u8], from: usize, end: usize, target: u64) -> usize
+fn gallop(volume: &[u8], from: usize, end: usize, target: u64) -> usize
     requires { ⌜ Stretch (now volume) from end ⌝ }
     ensures { λ r. ⌜ r ≡ seekFrom (now (volume .entry)) target from end ⌝ }
 {

@@ -6,13 +6,15 @@ ghost use lib.ListN.{length, getD, take, drop, replicate};
 ghost use Rattle.volume.specs.Posting.{posOf};
 ghost use Rattle.volume.specs.Layout.{word, streamLength, listsOf};
 ghost use Rattle.plan.specs.Accepted.{patternAt};
-ghost use Rattle.fulltext.specs.Matches.{leastIn};
+ghost use Rattle.fulltext.specs.Matches.{leastFrom};
 ghost use Rattle.fulltext.specs.Documents.{found, shownIn};
 ghost use Rattle.matcher.specs.Cursors.{Stretch};
-ghost use Rattle.matcher.specs.Settling.{Jumped, Low, givenIf, Posed, Ready};
+ghost use Rattle.matcher.specs.Settling.{Jumped, Standing, givenIf, Posed, Ready};
 use super::cursor::Cursor;
+use super::cursor::Document;
 use super::predicates::Shortfall;
 use super::predicates::falls_short;
+use plan::Outline;
 use plan::predicate_at;
 
 // Copies n cursors, from cursor `first` on, and the positions at which they stand.
@@ -36,7 +38,8 @@ fn stand(
     while x < n {
         let at = ats[first + x];
         here[x] = at;
-        positions[x] = volume::word_at(volume, at) % 65536;
+        let posting = volume::posting_at(volume, at);
+        positions[x] = posting.pos();
         x += 1;
     }
 }
@@ -64,117 +67,109 @@ fn jump(
     if end <= at {
         return false;
     }
-    let word = volume::word_at(volume, at);
-    if word / 65536 != doc {
+    let posting = volume::posting_at(volume, at);
+    if posting.doc() != doc {
         return false;
     }
     here[x] = at;
-    positions[x] = word % 65536;
+    positions[x] = posting.pos();
     true
 }
 
-// Moves the cursors of pattern k, which stand in a document with no match in front of them, to its
-// least match there: each time a predicate fails, the variable that it leaves short jumps to the
-// first position that it needs at least. Whether there is one.
+// Moves the cursors of a pattern from where they stand in a document to its least match there that
+// is not in front of them: each time a predicate fails, the variable that it leaves short jumps to
+// the first position that it needs at least. `ends` has the ends of the pattern's lists. Whether
+// there is such a match.
 fn match_from(
     volume: &[u8],
     plan: &[u32],
-    k: usize,
-    starts: Cursor,
-    doc: u32,
+    outline: Outline,
+    document: Document,
     ends: &[usize],
-    first: usize,
-    n: usize,
-    condition: usize,
-    last: usize,
     here: &mut [usize],
     positions: &mut [u32],
 ) -> bool
-    requires { ⌜ Posed (now volume) (now plan) (now ends) k first n condition last doc starts ⌝ }
-    requires { ⌜ n ≤ length (now here) ⌝ }
-    requires { ⌜ n ≤ length (now positions) ⌝ }
-    requires { ⌜ Low (now volume) doc (patternAt (now plan) k) (now here) (now positions) ⌝ }
-    ensures { λ r. ⌜ leastIn (listsOf (now (volume .entry))) doc (patternAt (now (plan .entry)) k) ≡ givenIf r (take n (now (positions .exit))) ⌝ }
+    requires { ⌜ Posed (now volume) (now plan) outline document (now ends) ⌝ }
+    requires { ⌜ outline .vars ≤ length (now here) ⌝ }
+    requires { ⌜ outline .vars ≤ length (now positions) ⌝ }
+    requires { ⌜ Standing (now volume) (document .doc) (patternAt (now plan) (outline .pattern)) (now here) (now positions) ⌝ }
+    ensures { λ r. ⌜ leastFrom (listsOf (now (volume .entry))) (document .doc) (patternAt (now (plan .entry)) (outline .pattern))
+        (take (outline .vars) (now (positions .entry)))
+        ≡ givenIf r (take (outline .vars) (now (positions .exit))) ⌝ }
     ensures { λ r. ⌜ length (now (positions .exit)) ≡ length (now (positions .entry)) ⌝ }
 {
-    let mut row = condition;
-    while row < last {
+    let mut row = outline.condition;
+    while row < outline.last {
         let predicate = predicate_at(plan, row);
-        let told = falls_short(volume, starts, doc, predicate, positions, n);
+        let told = falls_short(volume, document, predicate, positions, outline.vars);
         match told {
             Shortfall::Holds => {
                 row += 1;
             }
             Shortfall::Short(x, need) => {
-                let end = ends[first + x];
-                if !jump(volume, doc, end, x, need, here, positions) {
+                let end = ends[x];
+                if !jump(volume, document.doc, end, x, need, here, positions) {
                     return false;
                 }
-                row = condition;
+                row = outline.condition;
             }
         }
     }
     true
 }
 
-// Stores a flag and the first n positions in a row from `to` on.
-pub fn show(flag: u32, positions: &[u32], n: usize, row: &mut [u32], to: usize)
-    requires { ⌜ (n ≤ length (now positions)) × (to + (1 + n) ≤ length (now row)) ⌝ }
-    ensures { λ _. ⌜ now (row .exit) ≡ take to (now (row .entry)) ++ ((flag ∷ take n (now (positions .entry))) ++ drop (to + (1 + n)) (now (row .entry))) ⌝ }
+// Stores a flag and the first n positions at the front of a row.
+pub fn show(flag: u32, positions: &[u32], n: usize, row: &mut [u32])
+    requires { ⌜ n ≤ length (now positions) ⌝ }
+    requires { ⌜ 1 + n ≤ length (now row) ⌝ }
+    ensures { λ _. ⌜ now (row .exit) ≡ (flag ∷ take n (now (positions .entry))) ++ drop (1 + n) (now (row .entry)) ⌝ }
 {
-    row[to] = flag;
+    row[0] = flag;
     let mut x: usize = 0;
     while x < n {
-        row[to + 1 + x] = positions[x];
+        row[1 + x] = positions[x];
         x += 1;
     }
 }
 
-// Pattern k in a document at which its cursors stand: 1 and its least match, or 0 and zeros, in a row
-// from `to` on. Whether it is found.
+// A pattern in a document at which its cursors stand: 1 and its least match, or 0 and zeros, at the
+// front of a row. `ats` and `ends` have the cursors of all variables of the plan. Whether it is
+// found.
 pub fn settle(
     volume: &[u8],
     plan: &[u32],
-    table: &[usize],
-    k: usize,
-    starts: Cursor,
-    doc: u32,
+    outline: Outline,
+    document: Document,
     ats: &[usize],
     ends: &[usize],
     row: &mut [u32],
-    to: usize,
 ) -> bool
-    requires { ⌜ Ready (now volume) (now plan) (now table) (now ats) (now ends) k doc doc starts ⌝ }
-    requires { ⌜ to + (1 + length (patternAt (now plan) k .vars)) ≤ length (now row) ⌝ }
-    ensures { λ r. ⌜ r ≡ found (listsOf (now (volume .entry))) doc (patternAt (now (plan .entry)) k) ⌝ }
-    ensures { λ r. ⌜ now (row .exit) ≡ take to (now (row .entry)) ++ (shownIn (listsOf (now (volume .entry))) doc (patternAt (now (plan .entry)) k) ++ drop (to + (1 + length (patternAt (now (plan .entry)) k .vars))) (now (row .entry))) ⌝ }
+    requires { ⌜ Ready (now volume) (now plan) outline document (now ats) (now ends) (document .doc) ⌝ }
+    requires { ⌜ 1 + outline .vars ≤ length (now row) ⌝ }
+    ensures { λ r. ⌜ r ≡ found (listsOf (now (volume .entry))) (document .doc) (patternAt (now (plan .entry)) (outline .pattern)) ⌝ }
+    ensures { λ r. ⌜ now (row .exit)
+        ≡ shownIn (listsOf (now (volume .entry))) (document .doc) (patternAt (now (plan .entry)) (outline .pattern))
+        ++ drop (1 + outline .vars) (now (row .entry)) ⌝ }
 {
-    let first = table[4 * k];
-    let n = table[4 * k + 1];
-    let condition = table[4 * k + 2];
-    let last = table[4 * k + 3];
+    let first = outline.first;
+    let n = outline.vars;
     let mut here: [usize; 8] = [0; 8];
     let mut positions: [u32; 8] = [0; 8];
     stand(volume, ats, first, n, &mut here, &mut positions);
     let matches = match_from(
         volume,
         plan,
-        k,
-        starts,
-        doc,
-        ends,
-        first,
-        n,
-        condition,
-        last,
+        outline,
+        document,
+        &ends[first..],
         &mut here,
         &mut positions,
     );
     if matches {
-        show(1, &positions, n, row, to);
+        show(1, &positions, n, row);
         return true;
     }
     let zeros: [u32; 8] = [0; 8];
-    show(0, &zeros, n, row, to);
+    show(0, &zeros, n, row);
     false
 }

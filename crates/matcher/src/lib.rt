@@ -8,6 +8,7 @@ mod testing;
 
 pub use answers::Tested;
 pub use cursor::Cursor;
+pub use cursor::Document;
 pub use cursor::starts_of;
 pub use least::settle;
 pub use least::show;

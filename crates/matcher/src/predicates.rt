@@ -12,9 +12,8 @@ ghost use Rattle.plan.specs.declared.row.Predicate.the-variants.{Distance, Orde
 ghost use Rattle.plan.specs.declared.row.Kind.the-variants as kind;
 ghost use Rattle.fulltext.specs.Matches.{startsIn, paraStart};
 ghost use Rattle.matcher.specs.Shortfall.{InDocument, Told};
-ghost use Rattle.matcher.specs.Cursors.{listEnd, Stands};
-use super::cursor::Cursor;
-use super::cursor::gallop;
+ghost use Rattle.matcher.specs.Cursors.{AtDocument};
+use super::cursor::Document;
 use plan::Predicate;
 
 // What a predicate says of some positions: that it holds, or a variable that stands before a position
@@ -25,29 +24,25 @@ pub enum Shortfall {
 }
 
 // The start of the paragraph of a position: the greatest start in the document that is not above
-// it; 65,536 where there is none. `starts` is a cursor on list 0 that has not passed the document.
-pub fn para_start(volume: &[u8], starts: Cursor, doc: u32, pos: u32) -> u32
+// it; 65,536 where there is none.
+fn para_start(volume: &[u8], document: Document, pos: u32) -> u32
     requires { ⌜ Accepted (now volume) ⌝ }
-    requires { ⌜ Stands (now volume) 0 doc (starts .at) ⌝ }
-    requires { ⌜ starts .end ≡ listEnd (now volume) 0 ⌝ }
-    requires { ⌜ doc ≤ 65535 ⌝ }
+    requires { ⌜ AtDocument (now volume) document ⌝ }
     requires { ⌜ pos ≤ 65535 ⌝ }
-    ensures { λ r. ⌜ r ≡ paraStart (startsIn (listsOf (now (volume .entry))) doc) pos ⌝ }
+    ensures { λ r. ⌜ r ≡ paraStart (startsIn (listsOf (now (volume .entry))) (document .doc)) pos ⌝ }
 {
-    let at = gallop(
-        volume,
-        starts.at,
-        starts.end,
-        doc as u64 * 65536 + pos as u64 + 1,
-    );
+    let doc = document.doc;
+    let starts = document.starts;
+    let past = starts.advance_past(volume, doc, pos);
+    let at = past.at;
     if at == starts.at {
         return 65536;
     }
-    let last = volume::word_at(volume, at - 1);
-    if last / 65536 != doc {
+    let last = volume::posting_at(volume, at - 1);
+    if last.doc() != doc {
         return 65536;
     }
-    last % 65536
+    last.pos()
 }
 
 // NEAR: whether at most `limit` positions lie between a and b; if not, the earlier one is left short.
@@ -82,34 +77,25 @@ fn ordered(positions: &[u32], a: usize, b: usize) -> Shortfall
 }
 
 // SAME TITLE: whether a and b stand in one paragraph; if not, the earlier one is left short.
-fn samepara(
-    volume: &[u8],
-    starts: Cursor,
-    doc: u32,
-    positions: &[u32],
-    a: usize,
-    b: usize,
-) -> Shortfall
+fn samepara(volume: &[u8], document: Document, positions: &[u32], a: usize, b: usize) -> Shortfall
     requires { ⌜ Accepted (now volume) ⌝ }
-    requires { ⌜ Stands (now volume) 0 doc (starts .at) ⌝ }
-    requires { ⌜ starts .end ≡ listEnd (now volume) 0 ⌝ }
-    requires { ⌜ doc ≤ 65535 ⌝ }
+    requires { ⌜ AtDocument (now volume) document ⌝ }
     requires { ⌜ InDocument (now positions) ⌝ }
     requires { ⌜ a < length (now positions) ⌝ }
     requires { ⌜ b < length (now positions) ⌝ }
-    ensures { λ r. ⌜ Told (startsIn (listsOf (now (volume .entry))) doc) (Samepara a b) (now (positions .entry)) r ⌝ }
+    ensures { λ r. ⌜ Told (startsIn (listsOf (now (volume .entry))) (document .doc)) (Samepara a b) (now (positions .entry)) r ⌝ }
 {
     let first = positions[a];
     let second = positions[b];
     if first < second {
-        let start = para_start(volume, starts, doc, second);
+        let start = para_start(volume, document, second);
         if first < start && start <= second {
             return Shortfall::Short(a, start);
         }
         return Shortfall::Holds;
     }
     if second < first {
-        let start = para_start(volume, starts, doc, first);
+        let start = para_start(volume, document, first);
         if second < start && start <= first {
             return Shortfall::Short(b, start);
         }
@@ -147,35 +133,25 @@ fn window(positions: &[u32], limit: u32) -> Shortfall
 // Whether a predicate holds of the first n positions; if not, a variable that it leaves short.
 pub fn falls_short(
     volume: &[u8],
-    starts: Cursor,
-    doc: u32,
+    document: Document,
     predicate: Predicate,
     positions: &[u32],
     n: usize,
 ) -> Shortfall
     requires { ⌜ Accepted (now volume) ⌝ }
-    requires { ⌜ Stands (now volume) 0 doc (starts .at) ⌝ }
-    requires { ⌜ starts .end ≡ listEnd (now volume) 0 ⌝ }
-    requires { ⌜ doc ≤ 65535 ⌝ }
+    requires { ⌜ AtDocument (now volume) document ⌝ }
     requires { ⌜ 1 ≤ n ⌝ }
     requires { ⌜ n ≤ length (now positions) ⌝ }
     requires { ⌜ ((x : ℕ) → x < n → getD (now positions) x 0 ≤ 65535) ⌝ }
     requires { ⌜ namesBelow n predicate ≡ true ⌝ }
     requires { ⌜ InRange (kind.Condition predicate) ⌝ }
-    ensures { λ r. ⌜ Told (startsIn (listsOf (now (volume .entry))) doc) predicate (take n (now (positions .entry))) r ⌝ }
+    ensures { λ r. ⌜ Told (startsIn (listsOf (now (volume .entry))) (document .doc)) predicate (take n (now (positions .entry))) r ⌝ }
 {
     let tuple = &positions[..n];
     match predicate {
         Predicate::Distance { a, b, limit } => distance(tuple, a as usize, b as usize, limit),
         Predicate::Ordered { a, b } => ordered(tuple, a as usize, b as usize),
-        Predicate::Samepara { a, b } => samepara(
-            volume,
-            starts,
-            doc,
-            tuple,
-            a as usize,
-            b as usize,
-        ),
+        Predicate::Samepara { a, b } => samepara(volume, document, tuple, a as usize, b as usize),
         Predicate::Window { limit } => window(tuple, limit),
     }
 }

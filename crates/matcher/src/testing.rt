@@ -15,20 +15,23 @@ ghost use Rattle.plan.specs.Accepted.{patternAt};
 ghost use Rattle.fulltext.specs.Positions.{listOf, positionsIn};
 ghost use Rattle.fulltext.specs.Matches.{holds, allHold, fits, startsIn, varsIn, matchesAt};
 ghost use Rattle.matcher.specs.Shortfall.{InDocument};
-ghost use Rattle.matcher.specs.Cursors.{listEnd, Stands};
+ghost use Rattle.matcher.specs.Cursors.{AtDocument};
 ghost use Rattle.matcher.specs.Answers.{saidTested};
 ghost use Rattle.matcher.specs.Testing.{testAnswer};
 ghost use Rattle.matcher.specs.Settling.{Asked};
 use super::answers::Tested;
 use super::cursor::Cursor;
-use super::cursor::gallop;
+use super::cursor::Document;
 use super::cursor::starts_of;
 use super::predicates::Shortfall;
 use super::predicates::falls_short;
 use plan::Checked;
-use plan::Kind;
+use plan::Outline;
 use plan::Predicate;
 use plan::lay_out;
+use plan::outline_at;
+use plan::predicate_at;
+use volume::Posting;
 
 // Whether no position is over 65,535.
 fn in_document(positions: &[u32]) -> bool
@@ -37,7 +40,7 @@ fn in_document(positions: &[u32]) -> bool
     let n = positions.len();
     let mut x: usize = 0;
     while x < n {
-        if 65535 < positions[x] {
+        if Posting::LAST_POS < positions[x] {
             return false;
         }
         x += 1;
@@ -52,31 +55,30 @@ fn list_holds(volume: &[u8], list: usize, doc: u32, pos: u32) -> bool
 {
     let span = volume::list_span(volume, list);
     let end = span.start + span.count;
-    let posting = doc * 65536 + pos;
-    let at = gallop(volume, span.start, end, posting as u64);
-    if at == end {
+    let first = Cursor {
+        at: span.start,
+        end,
+    };
+    let past = first.advance_past(volume, doc, pos);
+    let at = past.at;
+    if at == span.start {
         return false;
     }
-    volume::word_at(volume, at) == posting
+    let last = volume::posting_at(volume, at - 1);
+    let sought = Posting::new(doc as u16, pos as u16);
+    last.bits == sought.bits
 }
 
 // Whether the list of each variable of a pattern holds its position.
-fn all_listed(
-    volume: &[u8],
-    plan: &[u32],
-    table: &[usize],
-    pattern: usize,
-    doc: u32,
-    positions: &[u32],
-) -> bool
-    requires { ⌜ Asked (now volume) (now plan) (now table) pattern doc (now positions) ⌝ }
-    ensures { λ r. ⌜ r ≡ fits (varsIn (listsOf (now (volume .entry))) doc (patternAt (now (plan .entry)) pattern .vars)) (now (positions .entry)) ⌝ }
+fn all_listed(volume: &[u8], plan: &[u32], outline: Outline, doc: u32, positions: &[u32]) -> bool
+    requires { ⌜ Asked (now volume) (now plan) outline doc (now positions) ⌝ }
+    ensures { λ r. ⌜ r ≡ fits (varsIn (listsOf (now (volume .entry))) doc (patternAt (now (plan .entry)) (outline .pattern) .vars)) (now (positions .entry)) ⌝ }
 {
-    let row = table[4 * pattern + 2] - table[4 * pattern + 1];
     let n = positions.len();
     let mut x: usize = 0;
     while x < n {
-        let list = plan[4 * (row + x) + 1] as usize;
+        let row = outline.condition - outline.vars + x;
+        let list = plan[4 * row + 1] as usize;
         if !list_holds(volume, list, doc, positions[x]) {
             return false;
         }
@@ -88,23 +90,20 @@ fn all_listed(
 // Whether a predicate holds of some positions.
 fn predicate_holds(
     volume: &[u8],
-    starts: Cursor,
-    doc: u32,
+    document: Document,
     predicate: Predicate,
     positions: &[u32],
 ) -> bool
     requires { ⌜ Accepted (now volume) ⌝ }
-    requires { ⌜ Stands (now volume) 0 doc (starts .at) ⌝ }
-    requires { ⌜ starts .end ≡ listEnd (now volume) 0 ⌝ }
-    requires { ⌜ doc ≤ 65535 ⌝ }
+    requires { ⌜ AtDocument (now volume) document ⌝ }
     requires { ⌜ 1 ≤ length (now positions) ⌝ }
     requires { ⌜ InDocument (now positions) ⌝ }
     requires { ⌜ namesBelow (length (now positions)) predicate ≡ true ⌝ }
     requires { ⌜ InRange (kind.Condition predicate) ⌝ }
-    ensures { λ r. ⌜ r ≡ holds (startsIn (listsOf (now (volume .entry))) doc) predicate (now (positions .entry)) ⌝ }
+    ensures { λ r. ⌜ r ≡ holds (startsIn (listsOf (now (volume .entry))) (document .doc)) predicate (now (positions .entry)) ⌝ }
 {
     let n = positions.len();
-    let told = falls_short(volume, starts, doc, predicate, positions, n);
+    let told = falls_short(volume, document, predicate, positions, n);
     match told {
         Shortfall::Holds => true,
         Shortfall::Short(_, _) => false,
@@ -112,27 +111,16 @@ fn predicate_holds(
 }
 
 // Whether each predicate of a pattern holds.
-fn all_hold(
-    volume: &[u8],
-    plan: &[u32],
-    table: &[usize],
-    pattern: usize,
-    doc: u32,
-    positions: &[u32],
-) -> bool
-    requires { ⌜ Asked (now volume) (now plan) (now table) pattern doc (now positions) ⌝ }
-    ensures { λ r. ⌜ r ≡ allHold (startsIn (listsOf (now (volume .entry))) doc) (patternAt (now (plan .entry)) pattern .predicates) (now (positions .entry)) ⌝ }
+fn all_hold(volume: &[u8], plan: &[u32], outline: Outline, doc: u32, positions: &[u32]) -> bool
+    requires { ⌜ Asked (now volume) (now plan) outline doc (now positions) ⌝ }
+    ensures { λ r. ⌜ r ≡ allHold (startsIn (listsOf (now (volume .entry))) doc) (patternAt (now (plan .entry)) (outline .pattern) .predicates) (now (positions .entry)) ⌝ }
 {
     let starts = starts_of(volume);
-    let mut row = table[4 * pattern + 2];
-    let last = table[4 * pattern + 3];
-    while row < last {
-        let read = plan::row_at(plan, row);
-        let kind = read.kind;
-        let Kind::Condition(predicate) = kind else {
-            return false;
-        };
-        if !predicate_holds(volume, starts, doc, predicate, positions) {
+    let document = Document { doc, starts };
+    let mut row = outline.condition;
+    while row < outline.last {
+        let predicate = predicate_at(plan, row);
+        if !predicate_holds(volume, document, predicate, positions) {
             return false;
         }
         row += 1;
@@ -141,21 +129,14 @@ fn all_hold(
 }
 
 // Whether positions match a pattern in a document.
-fn is_match(
-    volume: &[u8],
-    plan: &[u32],
-    table: &[usize],
-    pattern: usize,
-    doc: u32,
-    positions: &[u32],
-) -> bool
-    requires { ⌜ Asked (now volume) (now plan) (now table) pattern doc (now positions) ⌝ }
-    ensures { λ r. ⌜ r ≡ matchesAt (listsOf (now (volume .entry))) doc (patternAt (now (plan .entry)) pattern) (now (positions .entry)) ⌝ }
+fn is_match(volume: &[u8], plan: &[u32], outline: Outline, doc: u32, positions: &[u32]) -> bool
+    requires { ⌜ Asked (now volume) (now plan) outline doc (now positions) ⌝ }
+    ensures { λ r. ⌜ r ≡ matchesAt (listsOf (now (volume .entry))) doc (patternAt (now (plan .entry)) (outline .pattern)) (now (positions .entry)) ⌝ }
 {
-    if !all_listed(volume, plan, table, pattern, doc, positions) {
+    if !all_listed(volume, plan, outline, doc, positions) {
         return false;
     }
-    all_hold(volume, plan, table, pattern, doc, positions)
+    all_hold(volume, plan, outline, doc, positions)
 }
 
 // The same for any positions, where the volume and the plan are accepted and the pattern is there.
@@ -174,17 +155,18 @@ fn test_pattern(
 {
     let mut table: [usize; 32] = [0; 32];
     lay_out(plan, patterns, &mut table);
-    let vars = table[4 * pattern + 1];
+    let outline = outline_at(&table, pattern);
+    let vars = outline.vars;
     if positions.len() != vars {
         return Tested::OutOfRange;
     }
-    if 65535 < doc {
+    if Posting::LAST_DOC < doc {
         return Tested::OutOfRange;
     }
     if !in_document(positions) {
         return Tested::OutOfRange;
     }
-    let matched = is_match(volume, plan, &table, pattern, doc, positions);
+    let matched = is_match(volume, plan, outline, doc, positions);
     Tested::Answer(matched)
 }
 

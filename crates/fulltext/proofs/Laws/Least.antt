@@ -9,13 +9,17 @@
 --     vars-rise                    the positions of a pattern's variables rise
 --     fits-iff                     a tuple fits a pattern's variables exactly if their lists hold its positions
 --     least-iff, unfound-iff, found-iff     the least match of a pattern in a document, and whether it is found
+--     reaches-decides              a test of `⊑`
+--     leastFrom-iff, unfoundFrom-iff        the least match that stands at bounds or behind, and whether there is one
+--     leastFrom-all                where every match stands there, it is the least of all
+--     leastFrom-same               bounds that every match from others on is at or behind serve as well as those
 -- The proof of `best` is an induction on the variables. The first tuple that passes has the least first position x that any has. The meet of it
 -- and another one that passes has x in front too, so what stands behind x in the first tuple is at most what stands there in the meet.
 -- Assumes nothing.
 use Prim.Native.Nat.{ℕ, zero, suc, _+_, min, _<_, _≤_}
 use native.Mathlib.Omega.{arith}
 use mathlib.Core.Path.{_≡_, refl, sym, ap, _∙_, subst}
-use mathlib.Core.Bool.{Bool, true, false, true≢false}
+use mathlib.Core.Bool.{Bool, true, false, _&&_, true≢false}
 use mathlib.Core.Logic.{_⊎_, ⊎-elim, _↔_}
 use mathlib.Core.List.{List, [], _∷_, _++_, map}
 use mathlib.Core.Option.{Option, none, some}
@@ -24,7 +28,7 @@ use lib.Seq.{ext-getD}
 use Rattle.seq.specs.Lists.{consIf, keep, elem, first, rises}
 use Rattle.seq.proofs.Laws.Tests.{both, both-true, contrary, below-or}
 use Rattle.seq.proofs.Laws.Decides as decides
-use Rattle.seq.proofs.Laws.Decides.{Decides, and-decides, same-decides}
+use Rattle.seq.proofs.Laws.Decides.{Decides, eqb-decides, leb-decides, and-decides, same-decides}
 use Rattle.seq.proofs.Laws.Lists.{all-each}
 use Rattle.seq.proofs.Laws.Rising.{rises-tail}
 use Rattle.plan.specs.declared.row.Predicate.{Predicate}
@@ -32,7 +36,7 @@ use Rattle.plan.specs.declared.row.Predicate.the-variants.{Window}
 use Rattle.plan.specs.Patterns.{Pattern}
 use Rattle.fulltext.specs.Positions.{listOf}
 use Rattle.fulltext.specs.Calculus.{at, In, Holds}
-use Rattle.fulltext.specs.Matches.{holds, allHold, fits, isMatch, withEach, tuples, matches, startsIn, varsIn, matchesAt, leastIn, _⊑_, Least}
+use Rattle.fulltext.specs.Matches.{holds, allHold, fits, isMatch, withEach, tuples, matches, startsIn, varsIn, matchesAt, leastIn, _⊑_, reaches, matchesIn, MatchFrom, leastFrom, Least}
 use Rattle.fulltext.specs.Documents.{present, found}
 use Rattle.fulltext.proofs.Laws.Positions.{elem-decides, in-cons, in-later, in-here, rises-least, positions-hold, positions-rise}
 use Rattle.fulltext.proofs.Laws.Needs.{meet, meet-at, holds-meet}
@@ -228,6 +232,79 @@ module _ (ss : List ℕ) (vs : List (List ℕ)) (cs : List Predicate) (up : Rise
       go none e = e
       go (some qs) e = absurd (n qs (least-is qs e .0))
 
+-- a test of `⊑`
+pub reaches-decides : (bs qs : List ℕ) → Decides (reaches bs qs) (bs ⊑ qs)
+unfolding reaches
+reaches-decides [] qs = record { yes = λ e x. omega arith; no = λ e h. true≢false e }
+reaches-decides (b ∷ bs) [] = same-decides (and-decides (eqb-decides b 0) (reaches-decides bs [])) (λ h. each (h .0) (h .1)) (λ h. (omega (arith, h 0), λ x. h (suc x)))
+  where
+    each : b ≡ 0 → bs ⊑ [] → (b ∷ bs) ⊑ []
+    each e h zero = omega arith
+    each e h (suc x) = h x
+reaches-decides (b ∷ bs) (q ∷ qs) = same-decides (and-decides (leb-decides b q) (reaches-decides bs qs)) (λ h. each (h .0) (h .1)) (λ h. (h 0, λ x. h (suc x)))
+  where
+    each : b ≤ q → bs ⊑ qs → (b ∷ bs) ⊑ (q ∷ qs)
+    each e h zero = e
+    each e h (suc x) = h x
+
+reaches-meet : (bs : List ℕ) → Closed (reaches bs)
+reaches-meet bs ps qs a b = decides.holds (reaches-decides bs (meet ps qs)) (λ x. let l = reaches-decides bs ps .yes a x in let r = reaches-decides bs qs .yes b x in let e = meet-at ps qs x in omega arith)
+
+-- a test of two tests
+keep-keep : (s t : List ℕ → Bool) (xs : List (List ℕ)) → keep t (keep s xs) ≡ keep (λ x. s x && t x) xs
+unfolding keep
+keep-keep s t [] = refl
+keep-keep s t (x ∷ xs) = go (s x) (keep-keep s t xs)
+  where
+    go : (b : Bool) → keep t (keep s xs) ≡ keep (λ y. s y && t y) xs → keep t (consIf b x (keep s xs)) ≡ consIf (b && t x) x (keep (λ y. s y && t y) xs)
+    go true e = ap (consIf (t x) x) e
+    go false e = e
+
+-- among the matches that stand at bs or behind the first is least
+module _ (ss : List ℕ) (vs : List (List ℕ)) (cs : List Predicate) (up : Rise vs) (bs : List ℕ) where
+  abbrev both-test : List ℕ → Bool
+  both-test ps = allHold ss cs ps && reaches bs ps
+
+  both-meet : Closed both-test
+  both-meet ps qs a b =
+      let v = both (allHold ss cs ps) (reaches bs ps) a in
+      let w = both (allHold ss cs qs) (reaches bs qs) b in
+      both-true (allHold ss cs (meet ps qs)) (reaches bs (meet ps qs)) (allHold-meet ss cs ps qs (v .0) (w .0)) (reaches-meet bs ps qs (v .1) (w .1))
+
+  best-from : (o : Option (List ℕ)) → first (keep (reaches bs) (matches ss vs cs)) ≡ o → Best both-test vs o
+  unfolding matches
+  best-from o e = subst (Best both-test vs) (sym (ap first (keep-keep (λ ps. allHold ss cs ps) (reaches bs) (tuples vs))) ∙ e) (best both-test both-meet vs up)
+
+  pub from-least : (ps : List ℕ) → first (keep (reaches bs) (matches ss vs cs)) ≡ some ps → ((isMatch ss vs cs ps ≡ true) × (bs ⊑ ps)) × ((qs : List ℕ) → (isMatch ss vs cs qs ≡ true) × (bs ⊑ qs) → ps ⊑ qs)
+  from-least ps e =
+      let b = best-from (some ps) e in
+      let t = both (allHold ss cs ps) (reaches bs ps) (b .0 .1) in (
+        (both-true (fits vs ps) (allHold ss cs ps) (b .0 .0) (t .0), reaches-decides bs ps .yes (t .1)),
+        λ qs m. let w = both (fits vs qs) (allHold ss cs qs) (m .0) in b .1 qs (w .0) (both-true (allHold ss cs qs) (reaches bs qs) (w .1) (decides.holds (reaches-decides bs qs) (m .1))),
+      )
+
+  pub from-none : first (keep (reaches bs) (matches ss vs cs)) ≡ none → (qs : List ℕ) → (isMatch ss vs cs qs ≡ true) × (bs ⊑ qs) → ⊥
+  from-none e qs m =
+      let w = both (fits vs qs) (allHold ss cs qs) (m .0) in
+      best-from none e qs (w .0) (both-true (allHold ss cs qs) (reaches bs qs) (w .1) (decides.holds (reaches-decides bs qs) (m .1)))
+
+  pub from-least-unique : (ps : List ℕ) → (isMatch ss vs cs ps ≡ true) × (bs ⊑ ps) → ((qs : List ℕ) → (isMatch ss vs cs qs ≡ true) × (bs ⊑ qs) → ps ⊑ qs) → first (keep (reaches bs) (matches ss vs cs)) ≡ some ps
+  from-least-unique ps m le = go (first (keep (reaches bs) (matches ss vs cs))) refl
+    where
+      go : (o : Option (List ℕ)) → first (keep (reaches bs) (matches ss vs cs)) ≡ o → first (keep (reaches bs) (matches ss vs cs)) ≡ some ps
+      go none e = absurd (from-none e ps m)
+      go (some qs) e =
+          let w = from-least qs e in
+          let n : length qs ≡ length ps = match-length ss vs cs qs (w .0 .0) ∙ sym (match-length ss vs cs ps (m .0)) in
+          e ∙ ap some (ext-getD 0 qs ps n (λ x l. omega (arith, w .1 ps m x, le qs (w .0) x)))
+
+  pub from-none-unique : ((qs : List ℕ) → (isMatch ss vs cs qs ≡ true) × (bs ⊑ qs) → ⊥) → first (keep (reaches bs) (matches ss vs cs)) ≡ none
+  from-none-unique n = go (first (keep (reaches bs) (matches ss vs cs))) refl
+    where
+      go : (o : Option (List ℕ)) → first (keep (reaches bs) (matches ss vs cs)) ≡ o → first (keep (reaches bs) (matches ss vs cs)) ≡ none
+      go none e = e
+      go (some qs) e = absurd (n qs (from-least qs e .0))
+
 -- of a volume's lists and a pattern's variables
 module _ (lists : List (List ℕ)) (d : ℕ) where
   pub vars-rise : ((l : ℕ) → rises (listOf lists l) ≡ true) → (vars : List ℕ) → Rise (varsIn lists d vars)
@@ -286,3 +363,40 @@ module _ (lists : List (List ℕ)) (up : (l : ℕ) → rises (listOf lists l) �
       go : (o : Option (List ℕ)) → leastIn lists d f ≡ o → (present o ≡ true) ↔ ((ps : List ℕ) × (matchesAt lists d f ps ≡ true))
       go none e = (λ t. absurd (true≢false (sym t)), λ w. absurd (unfound-iff .0 e (w .0) (w .1)))
       go (some ps) e = (λ t. (ps, least-iff ps .0 e .matching), λ w. refl)
+
+  -- the least match at bs or behind
+  module _ (bs : List ℕ) where
+    pub leastFrom-iff : (ps : List ℕ) → (leastFrom lists d f bs ≡ some ps) ↔ (MatchFrom lists d f bs ps × ((qs : List ℕ) → MatchFrom lists d f bs qs → ps ⊑ qs))
+    unfolding leastFrom
+    leastFrom-iff ps =
+        let rise = vars-rise lists d up (f .vars) in
+        let ss = startsIn lists d in
+        let vs = varsIn lists d (f .vars) in
+        (from-least ss vs (f .predicates) rise bs ps, λ h. from-least-unique ss vs (f .predicates) rise bs ps (h .0) (h .1))
+
+    pub unfoundFrom-iff : (leastFrom lists d f bs ≡ none) ↔ ((qs : List ℕ) → MatchFrom lists d f bs qs → ⊥)
+    unfolding leastFrom
+    unfoundFrom-iff =
+        let rise = vars-rise lists d up (f .vars) in
+        let ss = startsIn lists d in
+        let vs = varsIn lists d (f .vars) in
+        (from-none ss vs (f .predicates) rise bs, from-none-unique ss vs (f .predicates) rise bs)
+
+    -- where every match stands at bs or behind, it is the least of all
+    pub leastFrom-all : ((qs : List ℕ) → matchesAt lists d f qs ≡ true → bs ⊑ qs) → leastFrom lists d f bs ≡ leastIn lists d f
+    leastFrom-all low = go (leastFrom lists d f bs) refl
+      where
+        go : (o : Option (List ℕ)) → leastFrom lists d f bs ≡ o → leastFrom lists d f bs ≡ leastIn lists d f
+        go none e = e ∙ sym (unfound-iff .1 (λ qs m. unfoundFrom-iff .0 e qs (m, low qs m)))
+        go (some ps) e = let w = leastFrom-iff ps .0 e in e ∙ sym (least-iff ps .1 (record { matching = w .0 .0; least = λ qs m. w .1 qs (m, low qs m) }))
+
+  -- bounds that every match from bs on is at or behind serve as well as bs
+  pub leastFrom-same : (bs cs : List ℕ) → bs ⊑ cs → ((qs : List ℕ) → MatchFrom lists d f bs qs → cs ⊑ qs) → leastFrom lists d f bs ≡ leastFrom lists d f cs
+  leastFrom-same bs cs le low = go (leastFrom lists d f bs) refl
+    where
+      back : (qs : List ℕ) → MatchFrom lists d f cs qs → MatchFrom lists d f bs qs
+      back qs m = (m .0, λ x. let a = le x in let b = m .1 x in omega arith)
+
+      go : (o : Option (List ℕ)) → leastFrom lists d f bs ≡ o → leastFrom lists d f bs ≡ leastFrom lists d f cs
+      go none e = e ∙ sym (unfoundFrom-iff cs .1 (λ qs m. unfoundFrom-iff bs .0 e qs (back qs m)))
+      go (some ps) e = let w = leastFrom-iff bs ps .0 e in e ∙ sym (leastFrom-iff cs ps .1 ((w .0 .0, low ps (w .0)), λ qs m. w .1 qs (back qs m)))

@@ -24,7 +24,9 @@ use Rattle.volume.proofs.Laws.Check.{good}
 use Rattle.fulltext.specs.Positions.{limit, listOf, positionsIn}
 use Rattle.fulltext.specs.Calculus.{at, In, Holds}
 use Rattle.fulltext.specs.Matches.{largest, startsIn, greatest, paraStart}
-use Rattle.matcher.specs.Cursors.{seekFrom, Stretch, listEnd, Stands}
+use Rattle.matcher.specs.declared.cursor.Cursor.{Cursor}
+use Rattle.matcher.specs.declared.cursor.Document.{Document}
+use Rattle.matcher.specs.Cursors.{seekFrom, Stretch, sought, listEnd, Stands, AtDocument}
 use Rattle.fulltext.proofs.Laws.Positions.{in-none, in-here, in-later, in-cons, elem-decides, positions-hold}
 use Rattle.fulltext.proofs.Laws.Needs.{at-largest}
 use Rattle.matcher.proofs.Laws.Cursors.{seek-ge, seek-le, seek-at, seek-below, stretch-within}
@@ -96,19 +98,28 @@ module _ (d s : ℕ) (l : List ℕ) where
   positions-in : In s (positionsIn d l) → Holds d s l
   positions-in i = positions-hold d s l .yes (decides.holds (elem-decides s (positionsIn d l)) i)
 
--- what `para_start` requires: a cursor at i on list 0 has not passed document d
-abbrev Ready : List ℕ → ℕ → ℕ → ℕ → ℕ → Type 0
-Ready v d p i end = Accepted v × (Stands v 0 d i × ((end ≡ listEnd v 0) × ((d ≤ 65535) × (p ≤ 65535))))
+-- what `para_start` requires
+abbrev Asked : List ℕ → Document → ℕ → Type 0
+Asked v doc p = Accepted v × (AtDocument v doc × (p ≤ 65535))
 
-module _ {v : List ℕ} {d p i end : ℕ} (ready : Ready v d p i end) where
+module _ {v : List ℕ} {doc : Document} {p : ℕ} (asked : Asked v doc p) where
   ok : Accepted v
-  ok = ready .0
+  ok = asked .0
 
-  st : Stands v 0 d i
-  st = ready .1 .0
+  abbrev d : ℕ
+  d = doc .doc
+
+  abbrev i : ℕ
+  i = doc .starts .at
+
+  abbrev end : ℕ
+  end = doc .starts .end
+
+  st : Stands v 0 (doc .doc) (doc .starts .at)
+  st = asked .1 .0 .starts-at
 
   small : p ≤ 65535
-  small = ready .1 .1 .1 .1
+  small = asked .1 .1
 
   some : 0 < listCount v
   some = good v ok .lists-some
@@ -120,7 +131,7 @@ module _ {v : List ℕ} {d p i end : ℕ} (ready : Ready v d p i end) where
   rest = stretch-within v (start v 0) (listEnd v 0) i (listEnd v 0) whole (st .from) (st .to) (omega arith)
 
   pub stands-stretch : Stretch v i end
-  stands-stretch = rw (ready .1 .1 .0) rest
+  stands-stretch = rw (asked .1 .0 .starts-end) rest
 
   -- the first index behind position p of the document
   abbrev past : ℕ
@@ -163,23 +174,26 @@ module _ {v : List ℕ} {d p i end : ℕ} (ready : Ready v d p i end) where
       before : j < past
       before = ⊎-elim (λ k. k) (λ (k : past ≤ j). absurd (beyond k (let t = to in omega arith))) (below-or j past)
 
-  -- that index, as a call of `gallop` gives it
-  module _ {at : ℕ} (found : at ≡ seekFrom v (d * 65536 + p + 1) i end) where
-    at-past : at ≡ past
-    at-past = found ∙ ap (seekFrom v (d * 65536 + p + 1) i) (ready .1 .1 .0)
+  -- that index, as a cursor is advanced to it
+  module _ {moved : Cursor} (found : moved ≡ sought v (d * 65536 + p + 1) (doc .starts)) where
+    abbrev stop : ℕ
+    stop = moved .at
 
-    pub past-from : i ≤ at
+    at-past : stop ≡ past
+    at-past = ap (λ (r : Cursor). r .at) found ∙ ap (seekFrom v (d * 65536 + p + 1) i) (asked .1 .0 .starts-end)
+
+    pub past-from : i ≤ stop
     past-from = let q = at-past in let g = past-ge in omega arith
 
-    pub past-within : at ≤ streamLength v
+    pub past-within : stop ≤ streamLength v
     past-within = let q = at-past in let a = past-le in let b = whole .within in omega arith
 
     -- nothing stands between
-    pub para-first : at ≡ i → 65536 ≡ paraStart (startsIn (listsOf v) d) p
+    pub para-first : stop ≡ i → 65536 ≡ paraStart (startsIn (listsOf v) d) p
     para-first h = let q = at-past in para-is (startsIn (listsOf v) d) p 65536 (inl (refl, λ s m l. let k = passed s m l in let a : i ≤ k .0 = k .1 .0 in let b : k .0 < past = k .1 .1 .0 in omega arith))
 
     -- w is the last word that was passed
-    module _ {w : ℕ} (more : at ≢ i) (x : w ≡ word v (at - 1)) where
+    module _ {w : ℕ} (more : stop ≢ i) (x : w ≡ word v (stop - 1)) where
       last : w ≡ word v (past - 1)
       last = x ∙ ap (λ (n : ℕ). word v (n - 1)) at-past
 

@@ -1,5 +1,6 @@
 -- How the variables of a pattern come to its least match in a document. No contract cites this file.
---     low-first       at the first postings of the document
+--     first-low       where they stand at the first postings not below bounds, every match from the bounds on is at them or behind
+--     low-first       no match from where they stand on is in front of them
 --     low-jump        a variable that a predicate leaves short jumps to the first position that it needs at least
 --     low-out         where there is none, nothing matches
 --     low-done        where all predicates hold, the match is least
@@ -24,12 +25,12 @@ use Rattle.plan.specs.declared.row.Predicate.the-variants.{Window}
 use Rattle.plan.specs.Patterns.{Pattern}
 use Rattle.fulltext.specs.Positions.{limit, listOf}
 use Rattle.fulltext.specs.Calculus.{at, Holds}
-use Rattle.fulltext.specs.Matches.{holds, allHold, fits, startsIn, varsIn, matchesAt, leastIn, _⊑_}
+use Rattle.fulltext.specs.Matches.{holds, allHold, fits, startsIn, varsIn, matchesAt, _⊑_, MatchFrom, leastFrom}
 use Rattle.matcher.specs.Shortfall.{LeftShort}
 use Rattle.matcher.specs.Cursors.{seekFrom, Stretch, listEnd, Stands}
-use Rattle.matcher.specs.Settling.{AtPos, Low}
+use Rattle.matcher.specs.Settling.{AtPos, Standing, Low}
 use Rattle.fulltext.proofs.Laws.Positions.{lists-rise}
-use Rattle.fulltext.proofs.Laws.Least.{fits-iff, allHold-iff, least-iff, unfound-iff}
+use Rattle.fulltext.proofs.Laws.Least.{fits-iff, allHold-iff, leastFrom-iff, unfoundFrom-iff}
 use Rattle.matcher.proofs.Laws.Volume.{list-stretch, held, holds-at}
 use Rattle.matcher.proofs.Laws.Cursors.{seek-ge, seek-at, seek-below}
 
@@ -42,7 +43,7 @@ module _ (v : List ℕ) (ok : Accepted v) (d : ℕ) (f : Pattern) (there : (x : 
       (fits-iff (listsOf v) d (f .vars) qs .0 (w .0), w .1)
 
   -- a match stands at an index of each variable's list
-  index : (qs : List ℕ) → matchesAt (listsOf v) d f qs ≡ true → (x : ℕ) → x < length (f .vars)
+  pub index : (qs : List ℕ) → matchesAt (listsOf v) d f qs ≡ true → (x : ℕ) → x < length (f .vars)
       → (at qs x < limit) × ((j : ℕ) × ((start v (getD (f .vars) x 0) ≤ j) × ((j < listEnd v (getD (f .vars) x 0)) × (word v j ≡ d * 65536 + at qs x))))
   index qs m x h = held v ok (getD (f .vars) x 0) (there x h) d (at qs x) (match-parts qs m .0 .1 x h)
 
@@ -59,22 +60,33 @@ module _ (v : List ℕ) (ok : Accepted v) (d : ℕ) (f : Pattern) (there : (x : 
       (λ (k : i ≤ j). ⊎-elim (λ (g : i < j). let r = s .rising i j a g (w .1 .1 .0) in omega arith) (λ (g : j ≤ i). let q : i ≡ j = omega arith in rw q (omega arith)) (below-or i j))
       (below-or j i)
 
-  pub low-first : (here ps : List ℕ)
-      → ((x : ℕ) → x < length (f .vars) → Stands v (getD (f .vars) x 0) d (getD here x 0) × ((getD here x 0 < listEnd v (getD (f .vars) x 0)) × ((docOf (word v (getD here x 0)) ≡ d) × (getD ps x 0 ≡ posOf (word v (getD here x 0))))))
-      → Low v d f here ps
-  low-first here ps first = record {
-    standing = λ x h. let w = first x h in let a = w .1 .1 .0 in let b = w .1 .1 .1 in record { from = w .0 .from; inside = w .1 .0; small = omega arith; word-is = omega arith };
-    low = λ qs m x h.
-        let w = first x h in
-        let a = w .1 .1 .0 in
-        let b = w .1 .1 .1 in
-        let r = behind qs m x h (getD here x 0) (w .0 .from) (w .1 .0) (λ j c e. let l = w .0 .behind j c e in omega arith) in
-        omega arith;
+  -- the variables stand at the first postings of the document that are not below bs: every match from bs on is at them or behind
+  pub first-low : (bs here ps : List ℕ) → length (f .vars) ≤ length ps → Standing v d f here ps
+      → ((x : ℕ) → x < length (f .vars) → (j : ℕ) → start v (getD (f .vars) x 0) ≤ j → j < getD here x 0 → word v j < d * 65536 + at bs x)
+      → (qs : List ℕ) → MatchFrom (listsOf v) d f bs qs → take (length (f .vars)) ps ⊑ qs
+  first-low bs here ps room standing behind-low qs m x =
+      ⊎-elim
+      (λ (h : x < length (f .vars)).
+      let s = standing .each x h in
+      let w = s .word-is in
+      let e = getD-take (length (f .vars)) ps x 0 h in
+      let g = m .1 x in
+      let r = behind qs (m .0) x h (getD here x 0) (s .from) (s .inside) (λ j c l. let k = behind-low x h j c l in omega arith) in
+      omega arith)
+      (λ (h : length (f .vars) ≤ x). let e = length-take-le (length (f .vars)) ps room in let o : at (take (length (f .vars)) ps) x ≡ 0 = List·getD-eq-default (take (length (f .vars)) ps) 0 (omega arith) in omega arith)
+      (below-or x (length (f .vars)))
+
+  -- no match from where they stand on is in front of them
+  pub low-first : (here ps : List ℕ) → length (f .vars) ≤ length ps → Standing v d f here ps → Low v d f (take (length (f .vars)) ps) here ps
+  low-first here ps room standing = record {
+    standing = standing .each;
+    above = λ x h. let e = getD-take (length (f .vars)) ps x 0 h in omega arith;
+    low = λ qs m x h. let e = getD-take (length (f .vars)) ps x 0 h in let k = m .1 x in omega arith;
   }
 
-  pub low-done : (here ps : List ℕ) → length (f .vars) ≤ length ps → Low v d f here ps → ((j : ℕ) → j < length (f .predicates) → holds (startsIn (listsOf v) d) (getD (f .predicates) j (Window 1)) (take (length (f .vars)) ps) ≡ true)
-      → leastIn (listsOf v) d f ≡ some (take (length (f .vars)) ps)
-  low-done here ps room l true-all = least-iff (listsOf v) (lists-rise v ok) d f (take (length (f .vars)) ps) .1 (record { matching = matching; least = least })
+  pub low-done : (bs here ps : List ℕ) → length bs ≡ length (f .vars) → length (f .vars) ≤ length ps → Low v d f bs here ps → ((j : ℕ) → j < length (f .predicates) → holds (startsIn (listsOf v) d) (getD (f .predicates) j (Window 1)) (take (length (f .vars)) ps) ≡ true)
+      → leastFrom (listsOf v) d f bs ≡ some (take (length (f .vars)) ps)
+  low-done bs here ps bound room l true-all = leastFrom-iff (listsOf v) (lists-rise v ok) d f bs (take (length (f .vars)) ps) .1 ((matching, from), least)
     where
       size : length (take (length (f .vars)) ps) ≡ length (f .vars)
       size = length-take-le (length (f .vars)) ps room
@@ -93,10 +105,13 @@ module _ (v : List ℕ) (ok : Accepted v) (d : ℕ) (f : Pattern) (there : (x : 
       matching : matchesAt (listsOf v) d f (take (length (f .vars)) ps) ≡ true
       matching = both-true (fits (varsIn (listsOf v) d (f .vars)) (take (length (f .vars)) ps)) (allHold (startsIn (listsOf v) d) (f .predicates) (take (length (f .vars)) ps)) (fits-iff (listsOf v) d (f .vars) (take (length (f .vars)) ps) .1 (size, holding)) (allHold-iff (startsIn (listsOf v) d) (f .predicates) (take (length (f .vars)) ps) .1 true-all)
 
-      least : (qs : List ℕ) → matchesAt (listsOf v) d f qs ≡ true → take (length (f .vars)) ps ⊑ qs
+      from : bs ⊑ take (length (f .vars)) ps
+      from x = ⊎-elim (λ (h : x < length (f .vars)). let e = value x h in let k = l .above x h in omega arith) (λ (h : length (f .vars) ≤ x). let o : at bs x ≡ 0 = List·getD-eq-default bs 0 (omega arith) in omega arith) (below-or x (length (f .vars)))
+
+      least : (qs : List ℕ) → MatchFrom (listsOf v) d f bs qs → take (length (f .vars)) ps ⊑ qs
       least qs m x = ⊎-elim (λ (h : x < length (f .vars)). let e = value x h in let k = l .low qs m x h in omega arith) (λ (h : length (f .vars) ≤ x). let e = size in let o : at (take (length (f .vars)) ps) x ≡ 0 = List·getD-eq-default (take (length (f .vars)) ps) 0 (omega arith) in omega arith) (below-or x (length (f .vars)))
 
-  module _ (here ps : List ℕ) (room : length (f .vars) ≤ length ps) (room-here : length (f .vars) ≤ length here) (l : Low v d f here ps) (j : ℕ) (inside : j < length (f .predicates)) (x b : ℕ) (short : LeftShort (startsIn (listsOf v) d) (getD (f .predicates) j (Window 1)) (take (length (f .vars)) ps) x b) where
+  module _ (bs here ps : List ℕ) (room : length (f .vars) ≤ length ps) (room-here : length (f .vars) ≤ length here) (l : Low v d f bs here ps) (j : ℕ) (inside : j < length (f .predicates)) (x b : ℕ) (short : LeftShort (startsIn (listsOf v) d) (getD (f .predicates) j (Window 1)) (take (length (f .vars)) ps) x b) where
     size : length (take (length (f .vars)) ps) ≡ length (f .vars)
     size = length-take-le (length (f .vars)) ps room
 
@@ -107,9 +122,9 @@ module _ (v : List ℕ) (ok : Accepted v) (d : ℕ) (f : Pattern) (there : (x : 
     low-before = let e = getD-take (length (f .vars)) ps x 0 low-var in let s = short .before in omega arith
 
     -- each match has variable x at b or behind
-    needed : (qs : List ℕ) → matchesAt (listsOf v) d f qs ≡ true → b ≤ at qs x
+    needed : (qs : List ℕ) → MatchFrom (listsOf v) d f bs qs → b ≤ at qs x
     needed qs m =
-        let w = match-parts qs m in
+        let w = match-parts qs (m .0) in
         short .needs qs (w .0 .0 ∙ sym size) above (allHold-iff (startsIn (listsOf v) d) (f .predicates) qs .0 (w .1) j inside)
       where
         above : take (length (f .vars)) ps ⊑ qs
@@ -123,7 +138,7 @@ module _ (v : List ℕ) (ok : Accepted v) (d : ℕ) (f : Pattern) (there : (x : 
           record { order = let k = a .inside in omega arith; within = s .within; rising = λ y z p q r. let k = a .from in s .rising y z (omega arith) q r }
 
       -- the words in front of the index are below what is needed
-      passed : (qs : List ℕ) → matchesAt (listsOf v) d f qs ≡ true → (y : ℕ) → start v (getD (f .vars) x 0) ≤ y → y < i → word v y < d * 65536 + at qs x
+      passed : (qs : List ℕ) → MatchFrom (listsOf v) d f bs qs → (y : ℕ) → start v (getD (f .vars) x 0) ≤ y → y < i → word v y < d * 65536 + at qs x
       passed qs m y p q =
           let k = needed qs m in
           let a = l .standing x low-var in
@@ -135,8 +150,8 @@ module _ (v : List ℕ) (ok : Accepted v) (d : ℕ) (f : Pattern) (there : (x : 
           (λ (h : getD here x 0 ≤ y). let r = seek-below v (d * 65536 + b) (getD here x 0) (listEnd v (getD (f .vars) x 0)) y h (omega arith) in omega arith)
           (below-or y (getD here x 0))
 
-      pub low-end : listEnd v (getD (f .vars) x 0) ≤ i → leastIn (listsOf v) d f ≡ none
-      low-end out = unfound-iff (listsOf v) (lists-rise v ok) d f .1 (λ qs m. let w = index qs m x low-var .1 in let e : word v (w .0) ≡ d * 65536 + at qs x = w .1 .1 .1 in let r : word v (w .0) < d * 65536 + at qs x = passed qs m (w .0) (w .1 .0) (let k = w .1 .1 .0 in omega arith) in omega arith)
+      pub low-end : listEnd v (getD (f .vars) x 0) ≤ i → leastFrom (listsOf v) d f bs ≡ none
+      low-end out = unfoundFrom-iff (listsOf v) (lists-rise v ok) d f bs .1 (λ qs m. let w = index qs (m .0) x low-var .1 in let e : word v (w .0) ≡ d * 65536 + at qs x = w .1 .1 .1 in let r : word v (w .0) < d * 65536 + at qs x = passed qs m (w .0) (w .1 .0) (let k = w .1 .1 .0 in omega arith) in omega arith)
 
       module _ (in-list : i < listEnd v (getD (f .vars) x 0)) where
         start-le : start v (getD (f .vars) x 0) ≤ i
@@ -145,14 +160,14 @@ module _ (v : List ℕ) (ok : Accepted v) (d : ℕ) (f : Pattern) (there : (x : 
         reached : d * 65536 + b ≤ word v i
         reached = let s = low-stretch .order in let w = seek-at v (d * 65536 + b) (getD here x 0) (listEnd v (getD (f .vars) x 0)) s (omega arith) in let e = ap (word v) is in omega arith
 
-        pub low-out : docOf (word v i) ≢ d → leastIn (listsOf v) d f ≡ none
-        low-out away = unfound-iff (listsOf v) (lists-rise v ok) d f .1 (λ qs m. let r = behind qs m x low-var i start-le in-list (passed qs m) in let q = index qs m x low-var .0 in let k = reached in away (omega arith))
+        pub low-out : docOf (word v i) ≢ d → leastFrom (listsOf v) d f bs ≡ none
+        low-out away = unfoundFrom-iff (listsOf v) (lists-rise v ok) d f bs .1 (λ qs m. let r = behind qs (m .0) x low-var i start-le in-list (passed qs m) in let q = index qs (m .0) x low-var .0 in let k = reached in away (omega arith))
 
         pub low-later : docOf (word v i) ≡ d → getD ps x 0 < posOf (word v i)
         low-later same = let k = reached in let g = low-before in omega arith
 
-        pub low-jump : docOf (word v i) ≡ d → Low v d f (set here x i) (set ps x (posOf (word v i)))
-        low-jump same = record { standing = standing; low = low }
+        pub low-jump : docOf (word v i) ≡ d → Low v d f bs (set here x i) (set ps x (posOf (word v i)))
+        low-jump same = record { standing = standing; above = above; low = low }
           where
             standing : (y : ℕ) → y < length (f .vars) → AtPos v (getD (f .vars) y 0) d (getD (set here x i) y 0) (getD (set ps x (posOf (word v i))) y 0)
             standing y h =
@@ -161,10 +176,17 @@ module _ (v : List ℕ) (ok : Accepted v) (d : ℕ) (f : Pattern) (there : (x : 
                 (λ (q : y ≢ x). rw (getD-set-other here x y i 0 q, getD-set-other ps x y (posOf (word v i)) 0 q) (l .standing y h))
                 (decided (eqb-decides y x))
 
-            low : (qs : List ℕ) → matchesAt (listsOf v) d f qs ≡ true → (y : ℕ) → y < length (f .vars) → getD (set ps x (posOf (word v i))) y 0 ≤ at qs y
+            above : (y : ℕ) → y < length (f .vars) → at bs y ≤ getD (set ps x (posOf (word v i))) y 0
+            above y h =
+                ⊎-elim
+                (λ (q : y ≡ x). rw (q, getD-set-same ps x (posOf (word v i)) 0 (let k = low-var in omega arith)) (let k = l .above x low-var in let g = low-later same in omega arith))
+                (λ (q : y ≢ x). rw (getD-set-other ps x y (posOf (word v i)) 0 q) (l .above y h))
+                (decided (eqb-decides y x))
+
+            low : (qs : List ℕ) → MatchFrom (listsOf v) d f bs qs → (y : ℕ) → y < length (f .vars) → getD (set ps x (posOf (word v i))) y 0 ≤ at qs y
             low qs m y h =
                 ⊎-elim
-                (λ (q : y ≡ x). rw (q, getD-set-same ps x (posOf (word v i)) 0 (let k = low-var in omega arith)) (let r = behind qs m x low-var i start-le in-list (passed qs m) in omega arith))
+                (λ (q : y ≡ x). rw (q, getD-set-same ps x (posOf (word v i)) 0 (let k = low-var in omega arith)) (let r = behind qs (m .0) x low-var i start-le in-list (passed qs m) in omega arith))
                 (λ (q : y ≢ x). rw (getD-set-other ps x y (posOf (word v i)) 0 q) (l .low qs m y h))
                 (decided (eqb-decides y x))
 
@@ -210,19 +232,6 @@ shown-next xs row₀ i row x s h room = record {
     size = length-append (take i row₀) (take x xs) ∙ let a = length-take-le i row₀ (omega arith) in let b = length-take-le x xs (omega arith) in omega arith
 
 -- behind a flag that was stored in front of them
-pub shown-done : (xs d : List ℕ) (to flag : ℕ) (row : List ℕ) (x : ℕ) → to < length d → Shown xs (set d to flag) (to + 1) row x → row ≡ take to d ++ ((flag ∷ take x xs) ++ drop (to + (1 + x)) d)
-shown-done xs d to flag row x h s =
-    s .stored
-    ∙ ap (λ (l : List ℕ). (l ++ take x xs) ++ drop (to + 1 + x) (set d to flag)) front
-    ∙ ap (λ (l : List ℕ). ((take to d ++ (flag ∷ [])) ++ take x xs) ++ l) (drop-set-lt (to + 1 + x) d to flag (omega arith) ∙ ap (λ (j : ℕ). drop j d) (let e : to + 1 + x ≡ to + (1 + x) = omega arith in e))
-    ∙ ap (λ (l : List ℕ). l ++ drop (to + (1 + x)) d) (append-assoc (take to d) (flag ∷ []) (take x xs))
-    ∙ append-assoc (take to d) (flag ∷ take x xs) (drop (to + (1 + x)) d)
-  where
-    size : length (take to d) ≡ to
-    size = length-take-le to d (omega arith)
-
-    stored : set d to flag ≡ (take to d ++ (flag ∷ [])) ++ drop (to + 1) d
-    stored = ap (λ (l : List ℕ). set l to flag) (sym (take-append-drop to d)) ∙ put-next (take to d) d to flag size h
-
-    front : take (to + 1) (set d to flag) ≡ take to d ++ (flag ∷ [])
-    front = ap (take (to + 1)) stored ∙ take-at (take to d ++ (flag ∷ [])) (drop (to + 1) d) (to + 1) (length-append (take to d) (flag ∷ []) ∙ let e = size in omega arith)
+pub shown-done : (xs d : List ℕ) (flag : ℕ) (row : List ℕ) (x : ℕ) → 1 ≤ length d → Shown xs (set d 0 flag) 1 row x → row ≡ (flag ∷ take x xs) ++ drop (1 + x) d
+shown-done xs [] flag row x h s = absurd (let z : ⊥ = omega arith in z)
+shown-done xs (w ∷ ws) flag row x h s = s .stored ∙ let e : 1 + x ≡ suc x = omega arith in rw e refl

@@ -27,7 +27,8 @@ use Rattle.plan.specs.State.{namesBelow}
 use Rattle.fulltext.specs.Calculus.{at}
 use Rattle.fulltext.specs.Matches.{holds, paraStart}
 use Rattle.matcher.specs.Shortfall.{InDocument, LeftShort}
-use Rattle.matcher.specs.Cursors.{listEnd, Stands}
+use Rattle.matcher.specs.declared.cursor.Document.{Document}
+use Rattle.matcher.specs.Cursors.{AtDocument}
 use Rattle.fulltext.proofs.Laws.Needs.{distance-needs-first, distance-needs-second, ordered-needs, samepara-holds, samepara-needs-first, samepara-needs-second, window-holds, window-needs}
 use Rattle.matcher.proofs.Laws.Paragraphs.{para-unparted, para-in}
 
@@ -141,12 +142,12 @@ module _ (ps : List ℕ) where
     window-kept ss c h = window-holds ss ps c (λ y z a b. let p = s .below y (omega arith) in let q = s .above z (omega arith) in omega arith)
 
 -- what `falls_short` requires of a predicate on the first n positions, and what it hands on
-abbrev Asked : List ℕ → ℕ → ℕ → ℕ → List ℕ → ℕ → Predicate → Type 0
-Asked v d i end ps n p = Accepted v × (Stands v 0 d i × ((end ≡ listEnd v 0) × ((d ≤ 65535) × ((1 ≤ n) × ((n ≤ length ps) × (((x : ℕ) → x < n → getD ps x 0 ≤ 65535) × ((namesBelow n p ≡ true) × InRange (kind.Condition p))))))))
+abbrev Asked : List ℕ → Document → List ℕ → ℕ → Predicate → Type 0
+Asked v doc ps n p = Accepted v × (AtDocument v doc × ((1 ≤ n) × ((n ≤ length ps) × (((x : ℕ) → x < n → getD ps x 0 ≤ 65535) × ((namesBelow n p ≡ true) × InRange (kind.Condition p))))))
 
-module _ {v : List ℕ} {d i end n : ℕ} (ps : List ℕ) (p : Predicate) (asked : Asked v d i end ps n p) where
+module _ {v : List ℕ} {doc : Document} {n : ℕ} (ps : List ℕ) (p : Predicate) (asked : Asked v doc ps n p) where
   room : n ≤ length ps
-  room = asked .1 .1 .1 .1 .1 .0
+  room = asked .1 .1 .1 .0
 
   size : length (take n ps) ≡ n
   size = length-take-le n ps room
@@ -155,7 +156,7 @@ module _ {v : List ℕ} {d i end n : ℕ} (ps : List ℕ) (p : Predicate) (asked
   in-document x h =
       let e = size in
       let q = getD-take n ps x 0 (omega arith) in
-      let m = asked .1 .1 .1 .1 .1 .1 .0 x (omega arith) in
+      let m = asked .1 .1 .1 .1 .0 x (omega arith) in
       omega arith
 
   named : (a b : ℕ) → (ltb a n && ltb b n) ≡ true → (a < length (take n ps)) × (b < length (take n ps))
@@ -167,10 +168,10 @@ module _ {v : List ℕ} {d i end n : ℕ} (ps : List ℕ) (p : Predicate) (asked
       (omega arith, omega arith)
 
   names : (q : Predicate) → p ≡ q → namesBelow n q ≡ true
-  names q e = rw e at (asked .1 .1 .1 .1 .1 .1 .1 .0)
+  names q e = rw e at (asked .1 .1 .1 .1 .1 .0)
 
   range : (q : Predicate) → p ≡ q → InRange (kind.Condition q)
-  range q e = rw e at (asked .1 .1 .1 .1 .1 .1 .1 .1)
+  range q e = rw e at (asked .1 .1 .1 .1 .1 .1)
 
   pub distance-asked : {a b c : ℕ} → p ≡ Distance a b c → InDocument (take n ps) × ((a < length (take n ps)) × ((b < length (take n ps)) × (c ≤ 65535)))
   distance-asked {a} {b} {c} e = let w = named a b (names (Distance a b c) e) in (in-document, (w .0, (w .1, range (Distance a b c) e)))
@@ -178,8 +179,8 @@ module _ {v : List ℕ} {d i end n : ℕ} (ps : List ℕ) (p : Predicate) (asked
   pub ordered-asked : {a b : ℕ} → p ≡ Ordered a b → InDocument (take n ps) × ((a < length (take n ps)) × (b < length (take n ps)))
   ordered-asked {a} {b} e = let w = named a b (names (Ordered a b) e) in (in-document, (w .0, w .1))
 
-  pub samepara-asked : {a b : ℕ} → p ≡ Samepara a b → Accepted v × (Stands v 0 d i × ((end ≡ listEnd v 0) × ((d ≤ 65535) × (InDocument (take n ps) × ((a < length (take n ps)) × (b < length (take n ps)))))))
-  samepara-asked {a} {b} e = let w = named a b (names (Samepara a b) e) in (asked .0, (asked .1 .0, (asked .1 .1 .0, (asked .1 .1 .1 .0, (in-document, (w .0, w .1))))))
+  pub samepara-asked : {a b : ℕ} → p ≡ Samepara a b → Accepted v × (AtDocument v doc × (InDocument (take n ps) × ((a < length (take n ps)) × (b < length (take n ps)))))
+  samepara-asked {a} {b} e = let w = named a b (names (Samepara a b) e) in (asked .0, (asked .1 .0, (in-document, (w .0, w .1))))
 
   pub window-asked : {c : ℕ} → p ≡ Window c → InDocument (take n ps) × ((1 ≤ length (take n ps)) × ((1 ≤ c) × (c ≤ 65536)))
-  window-asked {c} e = let q = size in let h = asked .1 .1 .1 .1 .0 in (in-document, (omega arith, range (Window c) e))
+  window-asked {c} e = let q = size in let h = asked .1 .1 .0 in (in-document, (omega arith, range (Window c) e))

@@ -1,12 +1,13 @@
 -- What `src/testing.rt` finds. No contract cites this file.
 --     small-decides                       no position is over 65,535
 --     span-stretch, span-small            where a list lies
---     list-reach, list-without, list-with     whether a list holds a position, by the first posting not below it
+--     list-passed, list-without, list-with     whether a list holds a position, by the posting in front of the first one behind it
 --     told-short                          a predicate that leaves a variable short does not hold
 --     posed-given, vars-order, condition-order     what is posed of a pattern
+--     LaidOut, laid                       the outline of a pattern, from a table
 --     Voice, voice-of                     the VOICE row of a variable
 --     Listed, listed-next, listed-all, listed-not     the variables whose lists hold their positions
---     Stated, stated, predicate-asked     the row of a predicate
+--     Stated, stated, stated-asks, predicate-asked     the row of a predicate
 --     Kept, kept-next, kept-all, kept-not     the predicates that hold
 --     match-not, match-rest               a match, by its two parts
 --     test-refused, test-missing, test-number, test-doc, test-small, test-answer     the answer, by the verdict and the first test that fails
@@ -37,15 +38,18 @@ use Rattle.plan.specs.Rows.{rowCount, aAt, rowAt, formWrongAt, InRange}
 use Rattle.plan.specs.State.{namesBelow}
 use Rattle.plan.specs.Patterns.{Pattern}
 use Rattle.plan.specs.Answers.{Sizes}
-use Rattle.plan.specs.Check.{verdict, Accepted}
+use Rattle.plan.specs.Check.{verdict, sizes, Accepted}
 use Rattle.plan.specs.Accepted.{patternAt, Given}
+use Rattle.plan.specs.declared.outline.Outline.{Outline}
+use Rattle.plan.specs.Inner.Outline.{Entry, outlineAt, Tabled}
 use Rattle.plan.proofs.Laws.Accepted.{given}
 use Rattle.matcher.specs.declared.cursor.Cursor.{Cursor}
+use Rattle.matcher.specs.declared.cursor.Document.{Document}
 use Rattle.fulltext.specs.Positions.{limit, listOf, positionsIn}
 use Rattle.fulltext.specs.Calculus.{at, Holds}
 use Rattle.fulltext.specs.Matches.{holds, allHold, fits, startsIn, varsIn, matchesAt}
 use Rattle.matcher.specs.Shortfall.{InDocument, LeftShort}
-use Rattle.matcher.specs.Cursors.{seekFrom, Stretch, listEnd, listCursor, Stands}
+use Rattle.matcher.specs.Cursors.{seekFrom, Stretch, sought, listEnd, listCursor, Stands, AtDocument}
 use Rattle.matcher.specs.Tables.{varAt}
 use Rattle.matcher.specs.Testing.{outOfRange, testBy, testAnswer}
 use Rattle.matcher.specs.Settling.{Asked}
@@ -53,7 +57,6 @@ use Rattle.fulltext.proofs.Laws.Positions.{positions-hold}
 use Rattle.fulltext.proofs.Laws.Least.{fits-iff, allHold-iff}
 use Rattle.matcher.proofs.Laws.Cursors.{seek-ge, seek-le, seek-at, seek-below}
 use Rattle.matcher.proofs.Laws.Volume.{list-stretch, held, holds-at}
-use Rattle.plan.proofs.Laws.Outline.{EntryAt}
 use Rattle.matcher.proofs.Laws.Placed.{varAt-is, voiced}
 
 pub small-decides : (ps : List ℕ) → Decides (all (λ q. leb q 65535) ps) (InDocument ps)
@@ -73,24 +76,27 @@ module _ (v : List ℕ) (ok : volume.Accepted v) (l : ℕ) (h : l < listCount v)
   pub span-small : s .start + s .count ≤ 1032192
   span-small = let w = span-stretch .within in let m = good v ok .blocks-most in omega arith
 
-  -- `at` is its first posting that is not below position p of document d
-  module _ (d p at : ℕ) (small : p ≤ 65535) (found : at ≡ seekFrom v (d * 65536 + p) (s .start) (s .start + s .count)) where
-    at-is : at ≡ seekFrom v (d * 65536 + p) (start v l) (listEnd v l)
-    at-is = found ∙ rw e refl
+  -- a cursor on it is advanced past position p of document d
+  module _ (d p : ℕ) (moved : Cursor) (small : p ≤ 65535) (found : moved ≡ sought v (d * 65536 + p + 1) (record { at = s .start; end = s .start + s .count })) where
+    abbrev past : ℕ
+    past = moved .at
 
-    end-is : s .start + s .count ≡ listEnd v l
-    end-is = rw e refl
+    past-is : past ≡ seekFrom v (d * 65536 + p + 1) (start v l) (listEnd v l)
+    past-is = ap (λ (r : Cursor). r .at) found ∙ rw e refl
 
-    within : (start v l ≤ at) × (at ≤ listEnd v l)
+    start-is : s .start ≡ start v l
+    start-is = rw e refl
+
+    within : (start v l ≤ past) × (past ≤ listEnd v l)
     within =
-        let q = at-is in
-        let a = seek-ge v (d * 65536 + p) (start v l) (listEnd v l) in
-        let b = seek-le v (d * 65536 + p) (start v l) (listEnd v l) (omega arith) in
+        let q = past-is in
+        let a = seek-ge v (d * 65536 + p + 1) (start v l) (listEnd v l) in
+        let b = seek-le v (d * 65536 + p + 1) (start v l) (listEnd v l) (omega arith) in
         omega arith
 
-    -- a posting of the position stands there
-    there : Holds d p (listOf (listsOf v) l) → (at < listEnd v l) × (word v at ≡ d * 65536 + p)
-    there w = (let a = front in let b = to in omega arith, rw (← same) (ap (word v) here))
+    -- a posting of the position stands right in front of it
+    there : Holds d p (listOf (listsOf v) l) → (start v l < past) × (word v (past - 1) ≡ d * 65536 + p)
+    there w = (let a = front in let b = from in omega arith, let a = not-above in let b = not-below in omega arith)
       where
         k : (p < limit) × ((j : ℕ) × ((start v l ≤ j) × ((j < listEnd v l) × (word v j ≡ d * 65536 + p))))
         k = held v ok l h d p w
@@ -107,34 +113,54 @@ module _ (v : List ℕ) (ok : volume.Accepted v) (l : ℕ) (h : l < listCount v)
         same : word v j ≡ d * 65536 + p
         same = k .1 .1 .1 .1
 
-        front : at ≤ j
-        front = ⊎-elim (λ (m : j < at). let q = at-is in let b = seek-below v (d * 65536 + p) (start v l) (listEnd v l) j from (omega arith) in let x = same in absurd (let z : ⊥ = omega arith in z)) (λ m. m) (below-or j at)
-
-        not-below : d * 65536 + p ≤ word v at
-        not-below =
-            let q = at-is in
-            let a = front in
+        beyond : past ≤ j → ⊥
+        beyond m =
+            let q = past-is in
             let b = to in
-            let r = seek-at v (d * 65536 + p) (start v l) (listEnd v l) (omega arith) (omega arith) in
-            let x = ap (word v) q in
+            let x = same in
+            let r = seek-at v (d * 65536 + p + 1) (start v l) (listEnd v l) (omega arith) (omega arith) in
+            let y = ap (word v) q in
+            ⊎-elim
+            (λ (c : past < j). let o = list-stretch v ok l h .rising past j (within .0) c b in omega arith)
+            (λ (c : j ≤ past). let f : past ≡ j = omega arith in let g = ap (word v) f in omega arith)
+            (below-or past j)
+
+        front : j < past
+        front = ⊎-elim (λ m. m) (λ (m : past ≤ j). absurd (beyond m)) (below-or j past)
+
+        not-above : word v (past - 1) ≤ d * 65536 + p
+        not-above =
+            let q = past-is in
+            let a = front in
+            let b = from in
+            let r = seek-below v (d * 65536 + p + 1) (start v l) (listEnd v l) (past - 1) (omega arith) (omega arith) in
             omega arith
 
-        here : at ≡ j
-        here = ⊎-elim (λ (m : at < j). let x = same in let y = not-below in let r = list-stretch v ok l h .rising at j (within .0) m to in absurd (let z : ⊥ = omega arith in z)) (λ (m : j ≤ at). let a = front in omega arith) (below-or at j)
+        not-below : d * 65536 + p ≤ word v (past - 1)
+        not-below =
+            let a = front in
+            let b = from in
+            let x = same in
+            let m = within .1 in
+            ⊎-elim
+            (λ (c : j < past - 1). let o = list-stretch v ok l h .rising j (past - 1) b c (omega arith) in omega arith)
+            (λ (c : past - 1 ≤ j). let f : past - 1 ≡ j = omega arith in let g = ap (word v) f in omega arith)
+            (below-or j (past - 1))
 
-    pub list-reach : at ≢ s .start + s .count → at < streamLength v
-    list-reach n = let a = within in let b = end-is in let c = list-stretch v ok l h .within in omega arith
+    -- where it has moved there is a posting in front of it
+    pub list-passed : past ≢ s .start → (1 ≤ past) × (past - 1 < streamLength v)
+    list-passed n = let a = within in let b = start-is in let c = list-stretch v ok l h .within in (omega arith, omega arith)
 
-    pub list-without : at ≡ s .start + s .count → false ≡ elem p (positionsIn d (listOf (listsOf v) l))
-    list-without q = let b = end-is in sym (decides.fails (positions-hold d p (listOf (listsOf v) l)) (λ w. let t = there w .0 in omega arith))
+    pub list-without : past ≡ s .start → false ≡ elem p (positionsIn d (listOf (listsOf v) l))
+    list-without q = let b = start-is in sym (decides.fails (positions-hold d p (listOf (listsOf v) l)) (λ w. let t = there w .0 in omega arith))
 
-    pub list-with : (w : ℕ) → w ≡ word v at → at ≢ s .start + s .count → eqb w (d * 65536 + p) ≡ elem p (positionsIn d (listOf (listsOf v) l))
+    pub list-with : (w : ℕ) → w ≡ word v (past - 1) → past ≢ s .start → eqb w (d * 65536 + p) ≡ elem p (positionsIn d (listOf (listsOf v) l))
     list-with w x n =
         ⊎-elim
         (λ (y : w ≡ d * 65536 + p).
         let a = within in
-        let b = end-is in
-        eq-eqb w (d * 65536 + p) y ∙ sym (decides.holds (positions-hold d p (listOf (listsOf v) l)) (holds-at v ok l h d p at (omega arith) (a .0) (omega arith) (sym x ∙ y))))
+        let b = start-is in
+        eq-eqb w (d * 65536 + p) y ∙ sym (decides.holds (positions-hold d p (listOf (listsOf v) l)) (holds-at v ok l h d p (past - 1) (omega arith) (omega arith) (omega arith) (sym x ∙ y))))
         (λ (y : w ≢ d * 65536 + p). ne-eqb w (d * 65536 + p) y ∙ sym (decides.fails (positions-hold d p (listOf (listsOf v) l)) (λ t. y (x ∙ there t .1))))
         (decides.decided (eqb-decides w (d * 65536 + p)))
 
@@ -147,6 +173,15 @@ told-short ss c ps x b s =
 
 starts-stand : (v : List ℕ) (d : ℕ) → Stands v 0 d (start v 0)
 starts-stand v d = record { from = omega arith; to = omega arith; behind = λ j a b. absurd (let z : ⊥ = omega arith in z) }
+
+-- the outline of pattern k, from a table
+pub record LaidOut (p : List ℕ) (k : ℕ) (o : Outline) : Type 0 where
+  pub entry : Entry p o
+  pub pattern-is : o .pattern ≡ k
+  pub vars-are : o .vars ≡ length (patternAt p k .vars)
+
+pub laid : {p : List ℕ} (table : List ℕ) → Tabled p table → (k : ℕ) → k < sizes p .patterns → {o : Outline} → o ≡ outlineAt table k → LaidOut p k o
+laid table t k h e = record { entry = rw e (t k h); pattern-is = ap (λ (o : Outline). o .pattern) e; vars-are = ap (λ (o : Outline). o .vars) e ∙ t k h .vars-are }
 
 -- the VOICE row of a variable over `list`
 pub record Voice (v p : List ℕ) (row list : ℕ) : Type 0 where
@@ -173,13 +208,13 @@ Listed v p k d ps x = (y : ℕ) → y < x → Holds d (at ps y) (listOf (listsOf
 abbrev pub Kept : List ℕ → List ℕ → ℕ → ℕ → List ℕ → ℕ → Type 0
 Kept v p k d ps m = (j : ℕ) → j < m → holds (startsIn (listsOf v) d) (getD (patternAt p k .predicates) j (Window 1)) ps ≡ true
 
--- positions ps for the variables of pattern k, in document d
-module _ {v p table : List ℕ} {k d : ℕ} {ps : List ℕ} (posed : Asked v p table k d ps) where
+-- positions ps for the variables of a pattern, in document d
+module _ {v p : List ℕ} {o : Outline} {d : ℕ} {ps : List ℕ} (posed : Asked v p o d ps) where
   pub posed-given : Given v p
   posed-given = given v p (posed .accepted)
 
-  posed-entry : EntryAt p table k
-  posed-entry = posed .tabled k (posed .there)
+  abbrev k : ℕ
+  k = o .pattern
 
   abbrev vars : List ℕ
   vars = patternAt p k .vars
@@ -189,29 +224,29 @@ module _ {v p table : List ℕ} {k d : ℕ} {ps : List ℕ} (posed : Asked v p t
 
   -- the rows of its first variable, of its first predicate, and of its END
   abbrev firstVar : ℕ
-  firstVar = getD table (4 * k + 2) 0 - getD table (4 * k + 1) 0
+  firstVar = o .condition - o .vars
 
   abbrev condition : ℕ
-  condition = getD table (4 * k + 2) 0
+  condition = o .condition
 
   abbrev last : ℕ
-  last = getD table (4 * k + 3) 0
+  last = o .last
 
-  pub vars-order : getD table (4 * k + 1) 0 ≤ condition
-  vars-order = posed-entry .room
+  pub vars-order : o .vars ≤ condition
+  vars-order = posed .entry .room
 
   pub voice-of : (x : ℕ) → x < length ps → Voice v p (firstVar + x) (getD vars x 0)
   voice-of x h =
-      let e = posed-entry in
+      let e = posed .entry in
       let n = posed .number in
       let m = e .vars-are in
-      let w = voiced v p (posed .accepted) k (posed .there) (getD table (4 * k) 0) (getD table (4 * k + 1) 0) condition last e x (omega arith) in
+      let w = voiced v p (posed .accepted) k (posed .pattern) (o .first) (o .vars) condition last e x (omega arith) in
       let g = posed-given in
       let i = w .inside in
       let t = w .there in
       let r = g .most-rows in
       let b = good v (g .volume-accepted) .lists-most in
-      record { inside = i; few = omega arith; there = t; small = omega arith; list-is = w .list-is ∙ ap (λ (y : ℕ). varAt p (y + x)) (e .first-is) ∙ varAt-is p k x (posed .there) (omega arith) }
+      record { inside = i; few = omega arith; there = t; small = omega arith; list-is = w .list-is ∙ ap (λ (y : ℕ). varAt p (y + x)) (e .first-is) ∙ varAt-is p k x (posed .pattern) (omega arith) }
 
   module _ (x : ℕ) (h : x < length ps) (t : Bool) (e : t ≡ elem (at ps x) (positionsIn d (listOf (listsOf v) (aAt p (firstVar + x))))) where
     variable : t ≡ elem (at ps x) (positionsIn d (listOf (listsOf v) (getD vars x 0)))
@@ -235,17 +270,17 @@ module _ {v p table : List ℕ} {k d : ℕ} {ps : List ℕ} (posed : Asked v p t
   listed-all x h l = let n = posed .number in sym (fits-iff (listsOf v) d vars ps .1 (n, λ y m. l y (omega arith)))
 
   pub condition-order : condition ≤ last
-  condition-order = let e = posed-entry .last-is in omega arith
+  condition-order = let e = posed .entry .last-is in omega arith
 
   module _ (row : ℕ) (from : condition ≤ row) (to : row < last) where
     pub stated : Stated p row (length ps) (getD predicates (row - condition) (Window 1))
     stated =
-        let e = posed-entry in
+        let e = posed .entry in
         let l = e .last-is in
         let i = e .inside in
         let j : row - condition < length predicates = omega arith in
         let g = posed-given in
-        let w = g .well-made k (posed .there) in
+        let w = g .well-made k (posed .pattern) in
         let q : condition + (row - condition) ≡ row = omega arith in
         record {
           inside = omega arith;
@@ -256,6 +291,10 @@ module _ {v p table : List ℕ} {k d : ℕ} {ps : List ℕ} (posed : Asked v p t
           range = w .ranges (row - condition) j;
         }
 
+    -- what `predicate_at` requires
+    pub stated-asks : (row < rowCount p) × ((formWrongAt p row ≡ false) × ((c : Predicate) × (rowAt p row .kind ≡ kind.Condition c)))
+    stated-asks = let w = stated in (w .inside, (w .formed, (getD predicates (row - condition) (Window 1), w .kind-is)))
+
     -- the predicate that the row states
     stated-as : (c : Predicate) → rowAt p row .kind ≡ kind.Condition c → getD predicates (row - condition) (Window 1) ≡ c
     stated-as c e = let q : kind.Condition (getD predicates (row - condition) (Window 1)) ≡ kind.Condition c = sym (stated .kind-is) ∙ e in cc
@@ -264,13 +303,14 @@ module _ {v p table : List ℕ} {k d : ℕ} {ps : List ℕ} (posed : Asked v p t
     stated-of c e = rw (stated-as c e) at stated
 
     -- what `predicate_holds` requires, with a cursor at the first posting of list 0
-    pub predicate-asked : (c : Predicate) → rowAt p row .kind ≡ kind.Condition c → (s : Cursor) → s ≡ listCursor v 0 → volume.Accepted v × (Stands v 0 d (s .at) × ((s .end ≡ listEnd v 0) × ((d ≤ 65535) × ((1 ≤ length ps) × (InDocument ps × ((namesBelow (length ps) c ≡ true) × InRange (kind.Condition c)))))))
+    pub predicate-asked : (c : Predicate) → rowAt p row .kind ≡ kind.Condition c → (s : Cursor) → s ≡ listCursor v 0
+        → volume.Accepted v × (AtDocument v (record { doc = d; starts = s }) × ((1 ≤ length ps) × (InDocument ps × ((namesBelow (length ps) c ≡ true) × InRange (kind.Condition c)))))
     predicate-asked c e s q =
         let w = stated-of c e in
         let g = posed-given in
-        let m = g .well-made k (posed .there) .some-vars in
+        let m = g .well-made k (posed .pattern) .some-vars in
         let n = posed .number in
-        rw q (g .volume-accepted, (starts-stand v d, (refl, (posed .doc-small, (omega arith, (posed .small, (w .names, w .range)))))))
+        rw q (g .volume-accepted, (record { small = posed .doc-small; starts-at = starts-stand v d; starts-end = refl }, (omega arith, (posed .small, (w .names, w .range)))))
 
   module _ (row : ℕ) (from : condition ≤ row) (to : row < last) (c : Predicate) (e : rowAt p row .kind ≡ kind.Condition c) (t : Bool) (f : t ≡ holds (startsIn (listsOf v) d) c ps) where
     predicate : t ≡ holds (startsIn (listsOf v) d) (getD predicates (row - condition) (Window 1)) ps
@@ -284,14 +324,14 @@ module _ {v p table : List ℕ} {k d : ℕ} {ps : List ℕ} (posed : Asked v p t
 
     pub kept-not : t ≡ false → false ≡ allHold (startsIn (listsOf v) d) predicates ps
     kept-not q =
-        let l = posed-entry .last-is in
+        let l = posed .entry .last-is in
         ⊎-elim
         (λ (g : allHold (startsIn (listsOf v) d) predicates ps ≡ true). absurd (contrary (allHold-iff (startsIn (listsOf v) d) predicates ps .0 g (row - condition) (omega arith)) (sym predicate ∙ q)))
         (λ (g : allHold (startsIn (listsOf v) d) predicates ps ≡ false). sym g)
         (true-or (allHold (startsIn (listsOf v) d) predicates ps))
 
   pub kept-all : (row : ℕ) → last ≤ row → Kept v p k d ps (row - condition) → true ≡ allHold (startsIn (listsOf v) d) predicates ps
-  kept-all row h l = let e = posed-entry .last-is in sym (allHold-iff (startsIn (listsOf v) d) predicates ps .1 (λ j m. l j (omega arith)))
+  kept-all row h l = let e = posed .entry .last-is in sym (allHold-iff (startsIn (listsOf v) d) predicates ps .1 (λ j m. l j (omega arith)))
 
 -- a match, by its two parts
 module _ (lists : List (List ℕ)) (d : ℕ) (f : Pattern) (ps : List ℕ) where

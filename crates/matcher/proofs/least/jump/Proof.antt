@@ -3,10 +3,14 @@ use Rattle.matcher.proofs.least.jump.Statement.{statement}
 use Rattle.matcher.proofs.least.jump.Tie as tie
 use Prim.Native.Nat.{ℕ, _+_, _-_, _*_}
 use native.Mathlib.Omega.{arith}
-use mathlib.Core.Path.{_≡_, refl, ap, _∙_}
+use borrow.Author.Needs.{needs}
+use mathlib.Core.Path.{_≡_, refl, sym, ap, _∙_}
 use mathlib.Core.Logic.{inl, inr}
-use lib.ListN.{getD, length-set}
+use lib.ListN.{getD, set, length-set}
 use denote.Ref.{now}
+use Rattle.volume.specs.declared.posting.Posting.{Posting}
+use Rattle.volume.specs.Posting.{docOf, posOf}
+use Rattle.volume.specs.Layout.{word}
 use Rattle.matcher.specs.declared.cursor.Cursor.{Cursor}
 use Rattle.matcher.specs.Cursors.{seekFrom}
 
@@ -34,17 +38,27 @@ advance-past-requires c κs = c .before .before .before .before .pre .1 .1 .1
 returns : tie.Need-returns
 returns c = (inl (rw (← at-is (c .before)) (c .if1 .taken)), (refl, refl))
 
-word-at-requires : tie.Need-word-at-requires
-word-at-requires c κs = omega arith
+posting-at-requires : tie.Need-posting-at-requires
+posting-at-requires c κs = omega arith
+
+doc-requires : tie.Need-doc-requires
+doc-requires c κs = search needs
+
+-- the document of the posting there
+doc-is : (c : tie.After-doc) → c .doc .result ≡ docOf (word (now (c .before .before .before .before .before .before .before .before .args .volume)) (c .before .before .before .advance-past .result .at))
+doc-is c = c .doc .ensures ∙ ap (λ (r : Posting). docOf (r .bits)) (c .before .posting-at .ensures)
 
 returns-2 : tie.Need-returns-2
-returns-2 c = (inr (rw (← at-is (c .before .before .before)) (omega arith, λ e. c .if2 .taken (rw (c .before .word-at .ensures) e))), (refl, refl))
+returns-2 c = (inr (rw (← at-is (c .before .before .before .before)) (omega arith, λ e. c .if2 .taken (doc-is (c .before) ∙ e))), (refl, refl))
 
 mul-here : tie.Need-mul-here
 mul-here c = omega arith
 
 slice-write-here : tie.Need-slice-write-here
 slice-write-here c = omega arith
+
+pos-requires : tie.Need-pos-requires
+pos-requires c κs = search needs
 
 mul-positions-2 : tie.Need-mul-positions-2
 mul-positions-2 c = omega arith
@@ -53,13 +67,16 @@ slice-write-positions : tie.Need-slice-write-positions
 slice-write-positions c = omega arith
 
 same-length : tie.Need-same-length
-same-length c = length-set (now (c .before .before .before .before .before .before .before .before .args .here)) _ _
+same-length c = length-set (now (c .before .before .before .before .before .before .before .before .before .before .args .here)) _ _
 
 same-length-2 : tie.Need-same-length-2
-same-length-2 c = length-set (now (c .before .before .before .before .before .before .before .before .args .positions)) _ _
+same-length-2 c = length-set (now (c .before .before .before .before .before .before .before .before .before .before .args .positions)) _ _
 
 returns-3 : tie.Need-returns-3
-returns-3 c = rw (← at-is (c .before .before .before)) (omega arith, (rw (← c .before .word-at .ensures) (c .if2 .left), (refl, rw (c .before .word-at .ensures) refl)))
+returns-3 c =
+    let a = c .before .before .before .before .before .before .before .before .before .before .args in
+    let p = c .pos .ensures ∙ ap (λ (r : Posting). posOf (r .bits)) (c .before .before .before .posting-at .ensures) in
+    rw (← at-is (c .before .before .before .before .before)) (omega arith, (sym (doc-is (c .before .before)) ∙ c .before .if2 .left, (refl, ap (λ (q : ℕ). set (now (a .positions)) (a .x) q) p)))
 
 pub jump-spec : {M : Type 1} → statement M
 jump-spec =
@@ -70,10 +87,12 @@ jump-spec =
     sub-advance-past
     advance-past-requires
     returns
-    word-at-requires
+    posting-at-requires
+    doc-requires
     returns-2
     mul-here
     slice-write-here
+    pos-requires
     mul-positions-2
     slice-write-positions
     same-length

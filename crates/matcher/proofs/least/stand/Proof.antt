@@ -3,6 +3,10 @@ use Rattle.matcher.proofs.least.stand.Statement.{statement}
 use Rattle.matcher.proofs.least.stand.Tie as tie
 use Prim.Native.Nat.{_-_, _≤_}
 use native.Mathlib.Omega.{arith}
+use borrow.Author.Needs.{needs}
+use mathlib.Core.Path.{ap, _∙_}
+use Rattle.volume.specs.declared.posting.Posting.{Posting}
+use Rattle.volume.specs.Posting.{posOf}
 use Rattle.matcher.proofs.Laws.Settling.{Copied, copied-first, copied-next}
 
 abbrev Inv-loop : tie.InvT-loop
@@ -29,14 +33,17 @@ mul-here c = omega arith
 slice-write-here : tie.Need-slice-write-here Inv-loop μ-loop
 slice-write-here c = let i = c .before .before .loop .inv .0 .here-length in let p = c .before .before .before .before .before .before .before .pre in omega arith
 
-word-at-requires : tie.Need-word-at-requires Inv-loop μ-loop
-word-at-requires c κs = c .before .before .before .before .before .before .before .pre .1 .1 .1 (c .before .before .loop .x) (c .before .loop-test .taken)
+posting-at-requires : tie.Need-posting-at-requires Inv-loop μ-loop
+posting-at-requires c κs = c .before .before .before .before .before .before .before .pre .1 .1 .1 (c .before .before .loop .x) (c .before .loop-test .taken)
+
+pos-requires : tie.Need-pos-requires Inv-loop μ-loop
+pos-requires c κs = search needs
 
 mul-positions : tie.Need-mul-positions Inv-loop μ-loop
 mul-positions c = omega arith
 
 slice-write-positions : tie.Need-slice-write-positions Inv-loop μ-loop
-slice-write-positions c = let i = c .before .before .before .loop .inv .0 .ps-length in omega arith
+slice-write-positions c = let i = c .before .before .before .before .loop .inv .0 .ps-length in omega arith
 
 add-x : tie.Need-add-x Inv-loop μ-loop
 add-x c = omega arith
@@ -45,9 +52,10 @@ loop-less : tie.Need-loop-less Inv-loop μ-loop
 loop-less c = omega arith
 
 loop-again : tie.Need-loop-again Inv-loop μ-loop
-loop-again c = let l = c .before .before .before .loop in
-    let e = c .word-at .ensures in
-    (copied-next _ _ _ _ _ (l .here) (l .positions) (l .x) _ (l .inv .0) (omega arith) (omega arith) (omega arith), omega arith)
+loop-again c =
+    let l = c .before .before .before .before .loop in
+    let e = c .pos .ensures ∙ ap (λ (r : Posting). posOf (r .bits)) (c .before .posting-at .ensures) in
+    (copied-next _ _ _ _ _ (l .here) (l .positions) (l .x) _ (l .inv .0) (omega arith) (omega arith) e, omega arith)
 
 same-length : tie.Need-same-length Inv-loop μ-loop
 same-length c = c .before .loop .inv .0 .here-length
@@ -70,7 +78,8 @@ stand-spec =
     shared-slice-read-at
     mul-here
     slice-write-here
-    word-at-requires
+    posting-at-requires
+    pos-requires
     mul-positions
     slice-write-positions
     add-x

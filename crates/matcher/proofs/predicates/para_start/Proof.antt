@@ -1,53 +1,56 @@
 -- `predicates::para_start` meets its contract: the posting in front of the first one behind the position is the paragraph's start, if the cursor
 -- has passed it and it is of the document. Assumes nothing.
+use borrow.Author.Needs.{needs}
 use native.Mathlib.Omega.{arith}
+use mathlib.Core.Path.{sym, ap, _∙_}
+use Rattle.volume.specs.declared.posting.Posting.{Posting}
 use Rattle.matcher.proofs.Laws.Paragraphs.{past-from, past-within, stands-stretch, para-first, para-other, para-last}
 use Rattle.matcher.proofs.predicates.para_start.Statement.{statement}
 use Rattle.matcher.proofs.predicates.para_start.Tie as tie
 
-mul-gallop : tie.Need-mul-gallop
-mul-gallop c = omega arith
-
-add-gallop : tie.Need-add-gallop
-add-gallop c = omega arith
-
-add-gallop-2 : tie.Need-add-gallop-2
-add-gallop-2 c = omega arith
-
-gallop-requires : tie.Need-gallop-requires
-gallop-requires c κs = stands-stretch (c .before .pre)
+advance-past-requires : tie.Need-advance-past-requires
+advance-past-requires c κs = stands-stretch (c .before .before .pre)
 
 returns : tie.Need-returns
-returns c = para-first (c .before .before .before .before .pre) (c .before .before .gallop .ensures) (c .if1 .taken)
+returns c = para-first (c .before .before .before .before .before .pre) (c .before .before .advance-past .ensures .0) (c .if1 .taken)
 
-sub-word-at : tie.Need-sub-word-at
-sub-word-at c = let f = past-from (c .before .before .before .before .pre) (c .before .before .gallop .ensures) in omega arith
+sub-posting-at : tie.Need-sub-posting-at
+sub-posting-at c = let f = past-from (c .before .before .before .before .before .pre) (c .before .before .advance-past .ensures .0) in omega arith
 
-word-at-requires : tie.Need-word-at-requires
-word-at-requires c κs = let p = c .before .before .before .before .pre in
-    let g = c .before .before .gallop .ensures in
+posting-at-requires : tie.Need-posting-at-requires
+posting-at-requires c κs =
+    let p = c .before .before .before .before .before .pre in
+    let g = c .before .before .advance-past .ensures .0 in
     let f = past-from p g in
     let w = past-within p g in
     omega arith
 
+doc-requires : tie.Need-doc-requires
+doc-requires c κs = search needs
+
 returns-2 : tie.Need-returns-2
-returns-2 c = let s = c .before .before .before .before .before .before in
-    para-other (s .pre) (c .before .before .before .before .gallop .ensures) (c .before .before .if1 .left) (c .before .word-at .ensures) (c .if2 .taken)
+returns-2 c =
+    para-other (c .before .before .before .before .before .before .before .before .pre) (c .before .before .before .before .before .advance-past .ensures .0) (c .before .before .before .if1 .left) (ap (λ (r : Posting). r .bits) (c .before .before .posting-at .ensures))
+    (λ e. c .if2 .taken (c .before .doc .ensures ∙ e))
+
+pos-requires : tie.Need-pos-requires
+pos-requires c κs = search needs
 
 returns-3 : tie.Need-returns-3
-returns-3 c = let s = c .before .before .before .before .before .before in
-    para-last (s .pre) (c .before .before .before .before .gallop .ensures) (c .before .before .if1 .left) (c .before .word-at .ensures) (c .if2 .left)
+returns-3 c =
+    c .pos .ensures
+    ∙ para-last (c .before .before .before .before .before .before .before .before .before .pre) (c .before .before .before .before .before .before .advance-past .ensures .0) (c .before .before .before .before .if1 .left) (ap (λ (r : Posting). r .bits) (c .before .before .before .posting-at .ensures))
+    (sym (c .before .before .doc .ensures) ∙ c .before .if2 .left)
 
 pub para-start-spec : {M : Type 1} → statement M
 para-start-spec =
     tie.close
     (tie.spec
-    mul-gallop
-    add-gallop
-    add-gallop-2
-    gallop-requires
+    advance-past-requires
     returns
-    sub-word-at
-    word-at-requires
+    sub-posting-at
+    posting-at-requires
+    doc-requires
     returns-2
+    pos-requires
     returns-3)

@@ -23,31 +23,31 @@ shared-slice-read-second : tie.Need-shared-slice-read-second
 shared-slice-read-second c = omega arith
 
 para-start-requires : tie.Need-para-start-requires
-para-start-requires c κs = let s = c .before .before .before .before .before in let p = s .pre in (p .0, (p .1 .0, (p .1 .1 .0, (p .1 .1 .1 .0, p .1 .1 .1 .1 .0 (s .args .b) (p .1 .1 .1 .1 .1 .1)))))
+para-start-requires c κs = let s = c .before .before .before .before .before in let p = s .pre in (p .0, (p .1 .0, p .1 .1 .0 (s .args .b) (p .1 .1 .1 .1)))
 
 returns : tie.Need-returns
-returns c = let s = c .before .before .before .before .before .before .before .before in let a = s .args in let p = s .pre .1 .1 .1 .1 in
-    samepara-first (startsIn (listsOf (now (a .volume))) (a .doc)) (now (a .positions)) (p .0) (a .a) (a .b) (p .1 .0) (p .1 .1) (c .before .before .before .if1 .taken) _ (c .before .before .para-start .ensures) (c .before .if2 .taken) (leb-true _ _ (c .if3 .taken))
+returns c = let s = c .before .before .before .before .before .before .before .before in let a = s .args in let p = s .pre .1 .1 in
+    samepara-first (startsIn (listsOf (now (a .volume))) (a .document .doc)) (now (a .positions)) (p .0) (a .a) (a .b) (p .1 .0) (p .1 .1) (c .before .before .before .if1 .taken) _ (c .before .before .para-start .ensures) (c .before .if2 .taken) (leb-true _ _ (c .if3 .taken))
 
 returns-2 : tie.Need-returns-2
-returns-2 c = let s = c .before .before .before .before .before .before .before in let a = s .args in let p = s .pre .1 .1 .1 .1 in
-    samepara-other (startsIn (listsOf (now (a .volume))) (a .doc)) (now (a .positions)) (p .0) (a .a) (a .b) (p .1 .0) (p .1 .1) (c .before .before .if1 .taken) _ (c .before .para-start .ensures)
+returns-2 c = let s = c .before .before .before .before .before .before .before in let a = s .args in let p = s .pre .1 .1 in
+    samepara-other (startsIn (listsOf (now (a .volume))) (a .document .doc)) (now (a .positions)) (p .0) (a .a) (a .b) (p .1 .0) (p .1 .1) (c .before .before .if1 .taken) _ (c .before .para-start .ensures)
     (λ f g. ⊎-elim (λ x. let l = leb-false (c .before .para-start .result) (getD (now (a .positions)) (a .b) 0) (x .1 .left) in omega arith) (λ x. let l = x .left in omega arith) (c .if2 .came))
 
 para-start-requires-2 : tie.Need-para-start-requires-2
-para-start-requires-2 c κs = let s = c .before .before .before .before .before .before in let p = s .pre in (p .0, (p .1 .0, (p .1 .1 .0, (p .1 .1 .1 .0, p .1 .1 .1 .1 .0 (s .args .a) (p .1 .1 .1 .1 .1 .0)))))
+para-start-requires-2 c κs = let s = c .before .before .before .before .before .before in let p = s .pre in (p .0, (p .1 .0, p .1 .1 .0 (s .args .a) (p .1 .1 .1 .0)))
 
 returns-3 : tie.Need-returns-3
-returns-3 c = let s = c .before .before .before .before .before .before .before .before .before in let a = s .args in let p = s .pre .1 .1 .1 .1 in
-    samepara-second (startsIn (listsOf (now (a .volume))) (a .doc)) (now (a .positions)) (p .0) (a .a) (a .b) (p .1 .0) (p .1 .1) (c .before .before .before .if4 .taken) _ (c .before .before .para-start2 .ensures) (c .before .if5 .taken) (leb-true _ _ (c .if6 .taken))
+returns-3 c = let s = c .before .before .before .before .before .before .before .before .before in let a = s .args in let p = s .pre .1 .1 in
+    samepara-second (startsIn (listsOf (now (a .volume))) (a .document .doc)) (now (a .positions)) (p .0) (a .a) (a .b) (p .1 .0) (p .1 .1) (c .before .before .before .if4 .taken) _ (c .before .before .para-start2 .ensures) (c .before .if5 .taken) (leb-true _ _ (c .if6 .taken))
 
 returns-4 : tie.Need-returns-4
-returns-4 c = let s = c .before .before .before .before .before .before .before .before in let a = s .args in let p = s .pre .1 .1 .1 .1 in
-    samepara-one (startsIn (listsOf (now (a .volume))) (a .doc)) (now (a .positions)) (p .0) (a .a) (a .b) (p .1 .0) (p .1 .1) (c .before .before .if4 .taken) _ (c .before .para-start2 .ensures)
+returns-4 c = let s = c .before .before .before .before .before .before .before .before in let a = s .args in let p = s .pre .1 .1 in
+    samepara-one (startsIn (listsOf (now (a .volume))) (a .document .doc)) (now (a .positions)) (p .0) (a .a) (a .b) (p .1 .0) (p .1 .1) (c .before .before .if4 .taken) _ (c .before .para-start2 .ensures)
     (λ f g. ⊎-elim (λ x. let l = leb-false (c .before .para-start2 .result) (getD (now (a .positions)) (a .a) 0) (x .1 .left) in omega arith) (λ x. let l = x .left in omega arith) (c .if5 .came))
 
 returns-5 : tie.Need-returns-5
-returns-5 c = let a = c .before .before .before .before .before .before .args in samepara-same (startsIn (listsOf (now (a .volume))) (a .doc)) (now (a .positions)) (a .a) (a .b) (c .before .if1 .left) (c .if4 .left)
+returns-5 c = let a = c .before .before .before .before .before .before .args in samepara-same (startsIn (listsOf (now (a .volume))) (a .document .doc)) (now (a .positions)) (a .a) (a .b) (c .before .if1 .left) (c .if4 .left)
 
 pub samepara-spec : {M : Type 1} → statement M
 samepara-spec =

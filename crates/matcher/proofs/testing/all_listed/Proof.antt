@@ -9,58 +9,34 @@ use Rattle.matcher.proofs.testing.all_listed.Statement.{statement}
 use Rattle.matcher.proofs.testing.all_listed.Tie as tie
 
 abbrev Inv-loop : tie.InvT-loop
-Inv-loop volume plan table pattern doc positions row n x₀ x = Listed volume plan pattern doc positions x × (x ≤ length positions)
+Inv-loop volume plan outline doc positions n x₀ x = Listed volume plan (outline .pattern) doc positions x × (x ≤ length positions)
 
 abbrev μ-loop : tie.MeasureT-loop
-μ-loop volume plan table pattern doc positions row n x₀ x = length positions - x
-
-mul-row : tie.Need-mul-row Inv-loop μ-loop
-mul-row c = omega arith
-
-add-row : tie.Need-add-row Inv-loop μ-loop
-add-row c = omega arith
-
-mul-row-2 : tie.Need-mul-row-2 Inv-loop μ-loop
-mul-row-2 c = omega arith
-
-shared-slice-read-row : tie.Need-shared-slice-read-row Inv-loop μ-loop
-shared-slice-read-row c = omega arith
-
-mul-row-3 : tie.Need-mul-row-3 Inv-loop μ-loop
-mul-row-3 c = omega arith
-
-add-row-2 : tie.Need-add-row-2 Inv-loop μ-loop
-add-row-2 c = omega arith
-
-mul-row-4 : tie.Need-mul-row-4 Inv-loop μ-loop
-mul-row-4 c = omega arith
-
-shared-slice-read-row-2 : tie.Need-shared-slice-read-row-2 Inv-loop μ-loop
-shared-slice-read-row-2 c = omega arith
-
-sub-row : tie.Need-sub-row Inv-loop μ-loop
-sub-row c = vars-order (c .before .before .before .before .before .before .pre)
+μ-loop volume plan outline doc positions n x₀ x = length positions - x
 
 loop-holds : tie.Need-loop-holds Inv-loop μ-loop
 loop-holds c = (λ y h. absurd (let z : ⊥ = omega arith in z), omega arith)
 
-add-list : tie.Need-add-list Inv-loop μ-loop
-add-list c = let w = voice-of (c .before .before .before .before .before .before .before .before .pre) (c .before .loop .x) (omega arith) in omega arith
+sub-row : tie.Need-sub-row Inv-loop μ-loop
+sub-row c = vars-order (c .before .before .before .before .before .before .pre)
+
+add-row : tie.Need-add-row Inv-loop μ-loop
+add-row c = let w = voice-of (c .before .before .before .before .before .before .pre) (c .before .before .loop .x) (omega arith) in omega arith
 
 mul-list : tie.Need-mul-list Inv-loop μ-loop
-mul-list c = let w = voice-of (c .before .before .before .before .before .before .before .before .pre) (c .before .loop .x) (omega arith) in omega arith
+mul-list c = let w = voice-of (c .before .before .before .before .before .before .pre) (c .before .before .loop .x) (omega arith) in omega arith
 
-add-list-2 : tie.Need-add-list-2 Inv-loop μ-loop
-add-list-2 c = let w = voice-of (c .before .before .before .before .before .before .before .before .pre) (c .before .loop .x) (omega arith) in omega arith
+add-list : tie.Need-add-list Inv-loop μ-loop
+add-list c = let w = voice-of (c .before .before .before .before .before .before .pre) (c .before .before .loop .x) (omega arith) in omega arith
 
 mul-list-2 : tie.Need-mul-list-2 Inv-loop μ-loop
-mul-list-2 c = let w = voice-of (c .before .before .before .before .before .before .before .before .pre) (c .before .loop .x) (omega arith) in omega arith
+mul-list-2 c = let w = voice-of (c .before .before .before .before .before .before .pre) (c .before .before .loop .x) (omega arith) in omega arith
 
 shared-slice-read-list : tie.Need-shared-slice-read-list Inv-loop μ-loop
-shared-slice-read-list c = let w = voice-of (c .before .before .before .before .before .before .before .before .before .pre) (c .before .before .loop .x) (omega arith) in omega arith
+shared-slice-read-list c = let w = voice-of (c .before .before .before .before .before .before .before .pre) (c .before .before .before .loop .x) (omega arith) in omega arith
 
 cast-list : tie.Need-cast-list Inv-loop μ-loop
-cast-list c = let w = voice-of (c .before .before .before .before .before .before .before .before .before .pre) (c .before .before .loop .x) (omega arith) in omega arith
+cast-list c = let w = voice-of (c .before .before .before .before .before .before .before .pre) (c .before .before .before .loop .x) (omega arith) in omega arith
 
 mul-list-holds : tie.Need-mul-list-holds Inv-loop μ-loop
 mul-list-holds c = omega arith
@@ -69,13 +45,13 @@ shared-slice-read-list-holds : tie.Need-shared-slice-read-list-holds Inv-loop μ
 shared-slice-read-list-holds c = omega arith
 
 list-holds-requires : tie.Need-list-holds-requires Inv-loop μ-loop
-list-holds-requires c κs = let s = c .before .before .before .before .before .before .before .before .before .before in
-    let w = voice-of (s .pre) (c .before .before .before .loop .x) (omega arith) in
-    (posed-given (s .pre) .volume-accepted, (w .there, (s .pre .doc-small, s .pre .small (c .before .before .before .loop .x) (omega arith))))
+list-holds-requires c κs =
+    let s = c .before .before .before .before .before .before .before .before in
+    let w = voice-of (s .pre) (c .before .before .before .before .loop .x) (omega arith) in
+    (posed-given (s .pre) .volume-accepted, (w .there, (s .pre .doc-small, s .pre .small (c .before .before .before .before .loop .x) (omega arith))))
 
 returns : tie.Need-returns Inv-loop μ-loop
-returns c = let s = c .before .before .before .before .before .before .before .before .before .before .before .before in
-    listed-not (s .pre) (c .before .before .before .before .before .loop .x) (omega arith) _ (c .before .list-holds .ensures) (not-true _ (c .if1 .taken))
+returns c = listed-not (c .before .before .before .before .before .before .before .before .before .before .pre) (c .before .before .before .before .before .before .loop .x) (omega arith) _ (c .before .list-holds .ensures) (not-true _ (c .if1 .taken))
 
 add-x : tie.Need-add-x Inv-loop μ-loop
 add-x c = omega arith
@@ -84,13 +60,12 @@ loop-less : tie.Need-loop-less Inv-loop μ-loop
 loop-less c = omega arith
 
 loop-again : tie.Need-loop-again Inv-loop μ-loop
-loop-again c = let s = c .before .before .before .before .before .before .before .before .before .before .before .before in
-    let l = c .before .before .before .before .before .loop in
-    (listed-next (s .pre) (l .x) (omega arith) _ (c .before .list-holds .ensures) (l .inv .0) (not-false _ (c .if1 .left)), omega arith)
+loop-again c =
+    let l = c .before .before .before .before .before .before .loop in
+    (listed-next (c .before .before .before .before .before .before .before .before .before .before .pre) (l .x) (omega arith) _ (c .before .list-holds .ensures) (l .inv .0) (not-false _ (c .if1 .left)), omega arith)
 
 returns-2 : tie.Need-returns-2 Inv-loop μ-loop
-returns-2 c = let s = c .before .before .before .before .before .before .before .before in
-    listed-all (s .pre) _ (c .loop-test .left) (c .before .loop .inv .0)
+returns-2 c = listed-all (c .before .before .before .before .before .pre) _ (c .loop-test .left) (c .before .loop .inv .0)
 
 pub all-listed-spec : {M : Type 1} → statement M
 all-listed-spec =
@@ -98,19 +73,11 @@ all-listed-spec =
     (tie.spec
     Inv-loop
     μ-loop
-    mul-row
-    add-row
-    mul-row-2
-    shared-slice-read-row
-    mul-row-3
-    add-row-2
-    mul-row-4
-    shared-slice-read-row-2
-    sub-row
     loop-holds
-    add-list
+    sub-row
+    add-row
     mul-list
-    add-list-2
+    add-list
     mul-list-2
     shared-slice-read-list
     cast-list

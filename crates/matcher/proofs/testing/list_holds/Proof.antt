@@ -1,7 +1,11 @@
--- `testing::list_holds` meets its contract: the first posting not below the position's is its posting, or none is. Assumes nothing.
+-- `testing::list_holds` meets its contract: the posting in front of the first one behind the position is its posting, or none is. Assumes nothing.
+use borrow.Author.Needs.{needs}
 use native.Mathlib.Omega.{arith}
+use mathlib.Core.Path.{ap, _∙_}
+use lib.Dec.{eqb}
 use denote.Ref.{now}
-use Rattle.matcher.proofs.Laws.Testing.{span-stretch, span-small, list-reach, list-without, list-with}
+use Rattle.volume.specs.declared.posting.Posting.{Posting}
+use Rattle.matcher.proofs.Laws.Testing.{span-stretch, span-small, list-passed, list-without, list-with}
 use Rattle.matcher.proofs.testing.list_holds.Statement.{statement}
 use Rattle.matcher.proofs.testing.list_holds.Tie as tie
 
@@ -9,44 +13,58 @@ list-span-requires : tie.Need-list-span-requires
 list-span-requires c κs = (c .before .pre .0, c .before .pre .1 .0)
 
 add-end : tie.Need-add-end
-add-end c = let a = c .before .before .before .args in
+add-end c =
+    let a = c .before .before .before .args in
     let p = c .before .before .before .pre in
     let s = c .before .list-span in
     let m = span-small (now (a .volume)) (p .0) (a .list) (p .1 .0) (s .result) (s .ensures) in
     omega arith
 
-mul-posting : tie.Need-mul-posting
-mul-posting c = omega arith
-
-add-posting : tie.Need-add-posting
-add-posting c = omega arith
-
-cast-gallop : tie.Need-cast-gallop
-cast-gallop c = omega arith
-
-gallop-requires : tie.Need-gallop-requires
-gallop-requires c κs = let a = c .before .before .before .args in
+advance-past-requires : tie.Need-advance-past-requires
+advance-past-requires c κs =
+    let a = c .before .before .before .args in
     let p = c .before .before .before .pre in
     let s = c .before .list-span in
     span-stretch (now (a .volume)) (p .0) (a .list) (p .1 .0) (s .result) (s .ensures)
 
 returns : tie.Need-returns
-returns c = let a = c .before .before .before .before .before .args in
-    let p = c .before .before .before .before .before .pre in
-    let s = c .before .before .before .list-span in
-    list-without (now (a .volume)) (p .0) (a .list) (p .1 .0) (s .result) (s .ensures) (a .doc) (a .pos) _ (p .1 .1 .1) (c .before .gallop .ensures) (c .if1 .taken)
-
-word-at-requires : tie.Need-word-at-requires
-word-at-requires c κs = let a = c .before .before .before .before .before .args in
-    let p = c .before .before .before .before .before .pre in
-    let s = c .before .before .before .list-span in
-    list-reach (now (a .volume)) (p .0) (a .list) (p .1 .0) (s .result) (s .ensures) (a .doc) (a .pos) _ (p .1 .1 .1) (c .before .gallop .ensures) (c .if1 .left)
-
-returns-2 : tie.Need-returns-2
-returns-2 c = let a = c .before .before .before .before .before .before .args in
+returns c =
+    let a = c .before .before .before .before .before .before .args in
     let p = c .before .before .before .before .before .before .pre in
     let s = c .before .before .before .before .list-span in
-    list-with (now (a .volume)) (p .0) (a .list) (p .1 .0) (s .result) (s .ensures) (a .doc) (a .pos) _ (p .1 .1 .1) (c .before .before .gallop .ensures) _ (c .word-at .ensures) (c .before .if1 .left)
+    list-without (now (a .volume)) (p .0) (a .list) (p .1 .0) (s .result) (s .ensures) (a .doc) (a .pos) _ (p .1 .1 .1) (c .before .before .advance-past .ensures .0) (c .if1 .taken)
+
+sub-posting-at : tie.Need-sub-posting-at
+sub-posting-at c =
+    let a = c .before .before .before .before .before .before .args in
+    let p = c .before .before .before .before .before .before .pre in
+    let s = c .before .before .before .before .list-span in
+    list-passed (now (a .volume)) (p .0) (a .list) (p .1 .0) (s .result) (s .ensures) (a .doc) (a .pos) _ (p .1 .1 .1) (c .before .before .advance-past .ensures .0) (c .if1 .left) .0
+
+posting-at-requires : tie.Need-posting-at-requires
+posting-at-requires c κs =
+    let a = c .before .before .before .before .before .before .args in
+    let p = c .before .before .before .before .before .before .pre in
+    let s = c .before .before .before .before .list-span in
+    list-passed (now (a .volume)) (p .0) (a .list) (p .1 .0) (s .result) (s .ensures) (a .doc) (a .pos) _ (p .1 .1 .1) (c .before .before .advance-past .ensures .0) (c .if1 .left) .1
+
+cast-new : tie.Need-cast-new
+cast-new c = search needs
+
+cast-new-2 : tie.Need-cast-new-2
+cast-new-2 c = search needs
+
+new-requires : tie.Need-new-requires
+new-requires c κs = search needs
+
+returns-2 : tie.Need-returns-2
+returns-2 c =
+    let l = c .before .before .before .posting-at in
+    ap (eqb (l .result .bits)) (ap (λ (r : Posting). r .bits) (c .before .before .new .ensures)) ∙
+    let a = c .before .before .before .before .before .before .before .before .before .before .args in
+    let p = c .before .before .before .before .before .before .before .before .before .before .pre in
+    let s = c .before .before .before .before .before .before .before .before .list-span in
+    list-with (now (a .volume)) (p .0) (a .list) (p .1 .0) (s .result) (s .ensures) (a .doc) (a .pos) _ (p .1 .1 .1) (c .before .before .before .before .before .before .advance-past .ensures .0) (l .result .bits) (ap (λ (r : Posting). r .bits) (l .ensures)) (c .before .before .before .before .if1 .left)
 
 pub list-holds-spec : {M : Type 1} → statement M
 list-holds-spec =
@@ -54,10 +72,11 @@ list-holds-spec =
     (tie.spec
     list-span-requires
     add-end
-    mul-posting
-    add-posting
-    cast-gallop
-    gallop-requires
+    advance-past-requires
     returns
-    word-at-requires
+    sub-posting-at
+    posting-at-requires
+    cast-new
+    cast-new-2
+    new-requires
     returns-2)

@@ -9,7 +9,7 @@ use Rattle.matcher.proofs.testing.predicate_holds.Statement.{statement}
 use Rattle.matcher.proofs.testing.predicate_holds.Tie as tie
 
 falls-short-requires : tie.Need-falls-short-requires
-falls-short-requires c κs = let p = c .before .before .pre in (p .0, (p .1 .0, (p .1 .1 .0, (p .1 .1 .1 .0, (p .1 .1 .1 .1 .0, (omega arith, (p .1 .1 .1 .1 .1 .0, p .1 .1 .1 .1 .1 .1)))))))
+falls-short-requires c κs = let p = c .before .before .pre in (p .0, (p .1 .0, (p .1 .1 .0, (omega arith, (p .1 .1 .1 .0, p .1 .1 .1 .1)))))
 
 enum-told : tie.Need-enum-told
 enum-told c = omega arith
