@@ -243,20 +243,18 @@ fn is_defined(of: &str, file: &str, name: &str) -> bool {
         let words: Vec<&str> = unmarked(line).split(' ').collect();
         ["record", "data"].contains(&words[0]) && words.get(1) == Some(&name)
     };
+    // What stands in a module is indented, and so are fields and cases, which have no such mark.
+    let is_marked =
+        |line: &str| ["abbrev ", "unfoldable "].iter().any(|m| line.trim_start().starts_with(m));
+    let is_outer = |line: &str| !line.starts_with(' ') || is_marked(line);
+    let indent = |line: &str| line.len() - line.trim_start().len();
+    let mut lines = text.lines();
     match part {
-        None => {
-            // Fields and cases are indented too, and have no such mark.
-            let marked = |line: &str| {
-                ["abbrev ", "unfoldable "].iter().any(|m| line.trim_start().starts_with(m))
-            };
-            let mut outer = text.lines().filter(|line| !line.starts_with(' ') || marked(line));
-            outer.any(|line| is_signature(line, name) || is_type(line))
-        }
-        Some(part) => {
-            let behind = text.lines().skip_while(|line| !is_type(line)).skip(1);
-            let mut inside = behind.take_while(|line| line.starts_with(' '));
+        None => lines.any(|line| is_type(line) || is_outer(line) && is_signature(line, name)),
+        Some(part) => lines.by_ref().find(|line| is_type(line)).is_some_and(|record| {
+            let mut inside = lines.take_while(|line| indent(record) < indent(line));
             inside.any(|line| is_signature(line, part))
-        }
+        }),
     }
 }
 

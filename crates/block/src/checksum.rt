@@ -225,7 +225,8 @@ fn checksum(s: &[u8]) -> Sums
 // where a part was made, with two stores, just before the call.
 pub fn block_sums(s: &[u8], from: usize) -> Sums
     requires { ⌜ from + 508 ≤ length (now s) ⌝ }
-    ensures { λ r. ⌜ (r .a ≡ checkA (take 508 (drop from (now (s .entry))))) × (r .b ≡ checkB (take 508 (drop from (now (s .entry))))) ⌝ }
+    ensures { λ r. ⌜ r .a ≡ checkA (take 508 (drop from (now (s .entry)))) ⌝ }
+    ensures { λ r. ⌜ r .b ≡ checkB (take 508 (drop from (now (s .entry)))) ⌝ }
 {
     checksum(&s[from..from + 508])
 }

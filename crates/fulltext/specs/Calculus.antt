@@ -1,5 +1,7 @@
 -- The full-text calculus of document 000 (3.2) as data, with its truth in a document, and the formula of a pattern and of a plan.
--- Where 000 gives a position one token, here two lists may hold one position. Assumes nothing.
+-- Where 000 gives a position one token, here two lists may hold one position. ∃ ranges over all numbers: `hasPos` stands inside it and says that the
+-- number is a position of the document. Left out of 000: ∀, which is ¬ ∃ ¬, and SearchContext, since a formula here is about one document.
+-- Assumes nothing.
 use Prim.Native.Nat.{ℕ, zero, suc, _+_, _-_, _*_, _<_, _≤_}
 use mathlib.Core.Path.{_≡_}
 use mathlib.Core.Logic.{_⊎_}
@@ -14,6 +16,7 @@ use Rattle.plan.specs.declared.row.Kind.the-variants as kind
 use Rattle.plan.specs.declared.row.Row.{Row}
 use Rattle.plan.specs.Patterns.{Pattern, noRow, openAfter}
 use Rattle.fulltext.specs.Positions.{limit, listOf}
+pub use Rattle.seq.specs.Lists.{at}
 
 -- A formula about one document. Position variables are numbered from 0, and each ∃ binds the next one.
 pub data Formula : Type 0 where
@@ -36,10 +39,6 @@ pub data Formula : Type 0 where
   disj : Formula → Formula → Formula
   neg : Formula → Formula
   exists : Formula → Formula
-
--- the position of variable x
-abbrev pub at : List ℕ → ℕ → ℕ
-at ps x = getD ps x 0
 
 -- x is an element of a list
 abbrev pub In : ℕ → List ℕ → Type 0
@@ -87,10 +86,10 @@ tokens x (l ∷ vars) = conj (hasPos x) (hasAsToken x l) ∷ tokens (suc x) vars
 
 -- a predicate of a pattern of n variables
 abbrev pub predicateOf : ℕ → Predicate → Formula
-predicateOf n (predicate.Distance a b limit) = distance a b limit
+predicateOf n (predicate.Distance a b c) = distance a b c
 predicateOf n (predicate.Ordered a b) = ordered a b
 predicateOf n (predicate.Samepara a b) = samepara a b
-predicateOf n (predicate.Window limit) = window n limit
+predicateOf n (predicate.Window c) = window n c
 
 abbrev pub predicatesOf : ℕ → List Predicate → List Formula
 predicatesOf n [] = []

@@ -3,7 +3,7 @@ use Prim.Native.Nat.{ℕ}
 use mathlib.Core.Bool.{Bool, cond}
 use Rattle.seq.specs.Refusals.{Said, refused, answered}
 use Rattle.volume.specs.Answers.{Sizes}
-use Rattle.plan.specs.Answers as plan
+use Rattle.plan.specs.Answers as planAnswers
 use Rattle.plan.specs.declared.showing.Span.{Span}
 use Rattle.search.specs.Answers.{Next, done, more, Page}
 use Rattle.lihambozy.specs.declared.VolumeSizes.{VolumeSizes}
@@ -30,7 +30,7 @@ flatVolume (refused n p) = record { refusal = n; at = p; blocks = 0 }
 flatVolume (answered n) = record { refusal = 0; at = 0; blocks = n }
 
 -- the answer of checking a plan
-abbrev pub flatPlan : Said plan.Sizes → PlanSizes
+abbrev pub flatPlan : Said planAnswers.Sizes → PlanSizes
 flatPlan (refused n p) = record { refusal = n; at = p; patterns = 0; vars = 0 }
 flatPlan (answered s) = record { refusal = 0; at = 0; patterns = s .patterns; vars = s .vars }
 

@@ -9,7 +9,7 @@ ghost use lib.ListN.{length};
 ghost use Rattle.volume.specs.Check.{verdict};
 ghost use Rattle.volume.specs.Read.{readAnswer, readOut};
 ghost use Rattle.volume.specs.Write.{writeAnswer, writeOut};
-ghost use Rattle.plan.specs.Check as planned;
+ghost use Rattle.plan.specs.Check as planCheck;
 ghost use Rattle.plan.specs.Parts.{spanOf};
 ghost use Rattle.matcher.specs.Testing.{testAnswer};
 ghost use Rattle.lihambozy.specs.Flat.{flatSizes, flatList, flatVolume, flatPlan, flatSpan, flatTest};
@@ -121,7 +121,8 @@ pub extern "C" fn lhz_check_volume(volume: &[u8]) -> VolumeSizes
 // Copies a list of a volume to the front of out.
 #[no_mangle]
 pub extern "C" fn lhz_read_list(volume: &[u8], list: u32, out: &mut [u32]) -> ListLength
-    ensures { λ r. ⌜ (r ≡ flatList (readAnswer (now (volume .entry)) list (length (now (out .entry))))) × (now (out .exit) ≡ readOut (now (volume .entry)) list (now (out .entry))) ⌝ }
+    ensures { λ r. ⌜ r ≡ flatList (readAnswer (now (volume .entry)) list (length (now (out .entry)))) ⌝ }
+    ensures { λ _. ⌜ now (out .exit) ≡ readOut (now (volume .entry)) list (now (out .entry)) ⌝ }
 {
     let read = volume::read_list(volume, list, out);
     match read {
@@ -154,7 +155,8 @@ pub extern "C" fn lhz_read_list(volume: &[u8], list: u32, out: &mut [u32]) -> Li
 // Writes the volume of counts and postings to the front of out.
 #[no_mangle]
 pub extern "C" fn lhz_write_volume(counts: &[u32], postings: &[u32], out: &mut [u8]) -> VolumeLength
-    ensures { λ r. ⌜ (r ≡ flatVolume (writeAnswer (now (counts .entry)) (now (postings .entry)) (length (now (out .entry))))) × (now (out .exit) ≡ writeOut (now (counts .entry)) (now (postings .entry)) (now (out .entry))) ⌝ }
+    ensures { λ r. ⌜ r ≡ flatVolume (writeAnswer (now (counts .entry)) (now (postings .entry)) (length (now (out .entry)))) ⌝ }
+    ensures { λ _. ⌜ now (out .exit) ≡ writeOut (now (counts .entry)) (now (postings .entry)) (now (out .entry)) ⌝ }
 {
     let written = volume::write(counts, postings, out);
     match written {
@@ -194,7 +196,7 @@ pub extern "C" fn lhz_write_volume(counts: &[u32], postings: &[u32], out: &mut [
 // Checks a plan over a volume.
 #[no_mangle]
 pub extern "C" fn lhz_check_plan(volume: &[u8], plan: &[u32]) -> PlanSizes
-    ensures { λ r. ⌜ r ≡ flatPlan (planned.verdict (now (volume .entry)) (now (plan .entry))) ⌝ }
+    ensures { λ r. ⌜ r ≡ flatPlan (planCheck.verdict (now (volume .entry)) (now (plan .entry))) ⌝ }
 {
     let checked = plan::check(volume, plan);
     match checked {
@@ -264,7 +266,7 @@ pub extern "C" fn lhz_test_positions(
 // Writes the rows of the true documents from document `start` on to the front of out, as many as fit.
 #[no_mangle]
 pub extern "C" fn lhz_list(volume: &[u8], plan: &[u32], start: u32, out: &mut [u32]) -> Listing
-    ensures { λ r. ⌜ Kept (now (volume .entry)) (now (plan .entry)) start (record { lent = now (out .entry); says = r; back = now (out .exit) }) ⌝ }
+    ensures { λ r. ⌜ Kept (now (volume .entry)) (now (plan .entry)) start (now (out .entry)) r (now (out .exit)) ⌝ }
 {
     let listed = search::list(volume, plan, start, out);
     match listed {

@@ -1,7 +1,7 @@
 -- Each statement of `specs/Demands.antt`, proved. Assumes nothing.
-use Rattle.lister.specs.Demands.{Whole, Seen, Sample}
+use Rattle.lister.specs.Demands.{Whole, Seen, Cases}
 use Rattle.lister.proofs.Laws.Whole as laws
-use Rattle.lister.proofs.Laws.Sample as computed
+use Rattle.lister.proofs.Laws.Cases.{starred}
 
 pub whole : Whole
 unfolding Whole
@@ -11,6 +11,5 @@ pub seen : Seen
 unfolding Seen
 seen = laws.seen
 
-pub sample : Sample
-unfolding Sample
-sample = computed.sample
+pub cases : Cases
+cases = starred

@@ -6,7 +6,7 @@
 --     Files      the words of a plan file
 --     Pages      the turns of the program
 --     Whole      all turns print the whole
---     Sample     document 01's sample listing
+--     Cases      the starred cases
 pub mod Stored
 pub mod Text
 pub mod Decimal
@@ -14,4 +14,4 @@ pub mod Lengths
 pub mod Files
 pub mod Pages
 pub mod Whole
-pub mod Sample
+pub mod Cases

@@ -2,14 +2,12 @@
 --     Text       numbers in base ten, and lines of words with one space between them
 --     Printed    what is printed of a volume file and a plan file
 --     Turns      what is printed turn by turn
+--     Cases      the starred cases of document 01, one table
 --     Demands    the statements that the program is held to
---     Stored     what is stored in a lent buffer, for the contracts inside the crate
---     Pages      what a turn gives, for the contracts inside the crate
---     Files      what a read gives, for the contracts inside the crate
+--     Inner      what the contracts inside the crate cite
 pub mod Text
 pub mod Printed
 pub mod Turns
+pub mod Cases
 pub mod Demands
-pub mod Stored
-pub mod Pages
-pub mod Files
+pub mod Inner

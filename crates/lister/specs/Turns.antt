@@ -1,5 +1,6 @@
 -- The program's turns: each has a listing call into a page of 16,384 words, and prints what it gave. Assumes nothing.
 use Prim.Native.Nat.{ℕ, zero, suc, _+_}
+use mathlib.Core.Path.{_≡_}
 use mathlib.Core.Bool.{cond}
 use mathlib.Core.List.{List, [], _∷_, _++_}
 use lib.ListN.{length}
@@ -62,3 +63,16 @@ textFrom v b zero from tally = []
 textFrom v b (suc n) from tally =
     let turn = turnAt v b from tally in
     turn .text ++ onward (turn .next) (λ next. textFrom v b n next (turn .tally))
+
+-- turns from document 0 on have printed `texts`, and the next one starts at document `from` with the sum `tally`
+pub data Came (v b : List ℕ) : List ℕ → ℕ → ℕ → Type 0 where
+  atStart : Came v b [] 0 0
+  andTurn : (texts : List ℕ) (from tally next : ℕ)
+      → Came v b texts from tally
+      → turnAt v b from tally .next ≡ more next
+      → Came v b (texts ++ turnAt v b from tally .text) next (turnAt v b from tally .tally)
+
+-- `text` is to be written next: turns from document 0 on lead to the one that starts at document `from` with the sum `tally`, and this
+-- is its text
+abbrev pub Due : List ℕ → List ℕ → ℕ → ℕ → List ℕ → Type 0
+Due v b from tally text = ((texts : List ℕ) × Came v b texts from tally) × (text ≡ turnAt v b from tally .text)

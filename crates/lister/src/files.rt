@@ -1,12 +1,10 @@
 // The two files: their bytes, and the words of a plan file.
-ghost use mathlib.Core.Path.{_≡_};
-ghost use Prim.Native.Nat.{_+_, _*_, _≤_};
+ghost use Prim.Native.Nat.{_≤_};
 ghost use lib.ListN.{length};
 ghost use Rattle.io.specs.Counts.{Counts};
-ghost use Rattle.block.specs.Bytes.{le32};
 ghost use Rattle.lister.specs.Printed.{planWords};
-ghost use Rattle.lister.specs.Stored.{Stored};
-ghost use Rattle.lister.specs.Files.{Within};
+ghost use Rattle.lister.specs.Inner.Stored.{Stored};
+ghost use Rattle.lister.specs.Inner.Files.{Within};
 
 // What a read gives: bytes at the front of the buffer, the end of the file, or a failure.
 pub enum Got {
@@ -66,23 +64,10 @@ pub fn read_file(path: &[u8], buf: &mut [u8]) -> usize
     n
 }
 
-fn wide(x: u8) -> u32
-    ensures { λ r. ⌜ (r ≡ x) × (r ≤ 255) ⌝ }
-{
-    x as u32
-}
+// The bytes of a plan's row, and the most bytes of a plan file.
+const ROW_BYTES: usize = 16;
 
-// The 32-bit number at `at`, little-endian.
-fn word(file: &[u8], at: usize) -> u32
-    requires { ⌜ at + 4 ≤ length (now file) ⌝ }
-    ensures { λ r. ⌜ r ≡ le32 (now (file .entry)) at ⌝ }
-{
-    let a = wide(file[at]);
-    let b = wide(file[at + 1]);
-    let c = wide(file[at + 2]);
-    let d = wide(file[at + 3]);
-    a + 256 * b + 65536 * c + 16777216 * d
-}
+pub const PLAN_BYTES: usize = 4 * plan::MOST_WORDS;
 
 // The words of a plan file at the front of words: how many there are. A file of 0 bytes, over 1,024
 // bytes or of no multiple of 16 has none.
@@ -93,16 +78,16 @@ pub fn plan_words(file: &[u8], words: &mut [u32]) -> usize
     if file.len() == 0 {
         return 0;
     }
-    if 1024 < file.len() {
+    if PLAN_BYTES < file.len() {
         return 0;
     }
-    if file.len() % 16 != 0 {
+    if file.len() % ROW_BYTES != 0 {
         return 0;
     }
     let n = file.len() / 4;
     let mut i: usize = 0;
     while i < n {
-        words[i] = word(file, 4 * i);
+        words[i] = block::read32(file, 4 * i);
         i += 1;
     }
     n

@@ -7,8 +7,8 @@ ghost use Rattle.search.specs.Answers.{saidListed};
 ghost use Rattle.fulltext.specs.Documents.{work};
 ghost use Rattle.lister.specs.Text.{line, refusedWord};
 ghost use Rattle.lister.specs.Turns.{listTurn, turnAt};
-ghost use Rattle.lister.specs.Stored.{Stored};
-ghost use Rattle.lister.specs.Pages.{pageTurn, rowsIn, Told, Adds, Ready, Ahead};
+ghost use Rattle.lister.specs.Inner.Stored.{Stored};
+ghost use Rattle.lister.specs.Inner.Pages.{pageTurn, rowsIn, Told, Adds, Ready, Ahead};
 use super::files::plan_words;
 use super::text::put_bytes;
 use super::text::put_done;
@@ -17,6 +17,9 @@ use super::text::put_rows;
 use super::text::wide;
 use plan::Checked;
 use search::Listed;
+
+// The most bytes of a volume file that is listed.
+pub const VOLUME: usize = 65536;
 
 // The words of a page.
 const PAGE: usize = 16384;
@@ -108,7 +111,7 @@ fn list_text(volume: &[u8], plan: &[u32], from: u32, tally: u64, out: &mut [u8])
             Paged::Last(end)
         }
         Checked::Accepted(patterns, vars) => {
-            let width = 1 + patterns as usize + vars as usize;
+            let width = plan::row_words(patterns, vars);
             page_text(volume, plan, width, from, tally, out)
         }
     }
@@ -120,11 +123,11 @@ pub fn turn_text(volume: &[u8], file: &[u8], from: u32, tally: u64, out: &mut [u
     ensures { λ r. ⌜ Told (turnAt (now (volume .entry)) (now (file .entry)) from tally) (now (out .entry)) (now (out .exit)) r ⌝ }
     ensures { λ r. ⌜ Ahead from (length (now (out .entry))) r ⌝ }
 {
-    if 65536 < volume.len() {
+    if VOLUME < volume.len() {
         let end = put_bytes(b"file too long\n", 0, out);
         return Paged::Last(end);
     }
-    let mut words = [0u32; 256];
+    let mut words = [0u32; plan::MOST_WORDS];
     let n = plan_words(file, &mut words);
     list_text(volume, &words[..n], from, tally, out)
 }

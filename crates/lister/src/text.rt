@@ -5,8 +5,8 @@ ghost use Prim.Native.Nat.{_+_, _*_, _≤_};
 ghost use lib.ListN.{length};
 ghost use Rattle.seq.specs.Lists.{joined};
 ghost use Rattle.lister.specs.Text.{spaced, line, sceneWord, doneWord};
-ghost use Rattle.lister.specs.Stored.{Stored};
-ghost use Rattle.lister.specs.Pages.{rowLines};
+ghost use Rattle.lister.specs.Inner.Stored.{Stored};
+ghost use Rattle.lister.specs.Inner.Pages.{rowLines};
 
 // These bytes.
 pub fn put_bytes(bytes: &[u8], at: usize, out: &mut [u8]) -> usize

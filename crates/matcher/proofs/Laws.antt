@@ -9,5 +9,6 @@ pub mod Tried
 pub mod Settled
 pub mod Testing
 pub mod TestFirst
+pub mod Tests
 pub mod Stages
 pub mod Answers

@@ -1,30 +1,40 @@
 -- The statements that the crate is held to. `proofs/Demands.antt` proves each in a line. Assumes nothing.
-use Prim.Native.Nat.{ℕ, _+_, _/_, _<_}
+--     TestRefuses    demand 1 for testing positions
+--     Demand2        demand 2 for testing positions: the call says yes exactly if the calculus of document 000 does
+--     OneToOne       no two answers are told alike
+use Prim.Native.Nat.{ℕ, _<_}
 use mathlib.Core.Path.{_≡_}
 use mathlib.Core.Bool.{true}
 use mathlib.Core.Logic.{_↔_}
-use mathlib.Core.List.{List, [], _++_, map}
-use mathlib.Core.Option.{none, some}
-use lib.ListN.{length, drop}
-use Rattle.matcher.specs.Answers.{saidTested}
-use Rattle.seq.specs.Lists.{total}
-use Rattle.seq.specs.Refusals.{refused, answered, stageIn, FirstRefusal}
-use Rattle.block.specs.Bytes.{IsBytes}
-use Rattle.volume.specs.Layout.{count, listsOf}
-use Rattle.volume.specs.Check as volume
-use Rattle.plan.specs.Rows.{rowsOf}
-use Rattle.plan.specs.Check as plan
-use Rattle.plan.specs.Patterns.{Pattern}
+use mathlib.Core.List.{List}
+use lib.ListN.{length}
+use Rattle.seq.specs.Refusals.{answered, stageIn, FirstRefusal}
+use Rattle.volume.specs.Layout.{listsOf}
+use Rattle.plan.specs.Check.{sizes, Accepted}
 use Rattle.plan.specs.Accepted.{patternAt}
+use Rattle.fulltext.specs.Positions.{limit}
+use Rattle.fulltext.specs.Calculus.{True, openFormula}
+use Rattle.fulltext.specs.Matches.{matchesAt}
 use Rattle.matcher.specs.declared.answers.Tested.{Tested}
-use Rattle.fulltext.specs.Matches.{matchesAt, leastIn, Least}
-use Rattle.fulltext.specs.Documents.{found, matching, work}
+use Rattle.matcher.specs.Answers.{saidTested}
 use Rattle.matcher.specs.Testing.{testAnswer}
 use Rattle.matcher.specs.Refusals.{TestApplies, testStages}
 
 -- Demand 1, testing: the first of 1 to 14, 17 that applies, or whether the positions match exactly if none applies
 unfoldable pub TestRefuses : Type 0
-TestRefuses = (v p : List ℕ) (k d : ℕ) (ps : List ℕ) → FirstRefusal (stageIn testStages) (TestApplies v p k d ps) (matchesAt (listsOf v) d (patternAt p k) ps) (testAnswer v p k d ps)
+TestRefuses = (v p : List ℕ) (k d : ℕ) (ps : List ℕ)
+    → FirstRefusal (stageIn testStages) (TestApplies v p k d ps) (matchesAt (listsOf v) d (patternAt p k) ps) (testAnswer v p k d ps)
+
+-- Demand 2, testing: over an accepted volume and plan, for a pattern that is there and a document, the call says yes exactly if there is
+-- a position for each variable and the pattern's formula is true of them
+unfoldable pub Demand2 : Type 0
+Demand2 = (v p : List ℕ)
+    → Accepted v p
+    → (k d : ℕ) (ps : List ℕ)
+    → k < sizes p .patterns
+    → d < limit
+    → (testAnswer v p k d ps ≡ answered true)
+    ↔ ((length ps ≡ length (patternAt p k .vars)) × True (listsOf v) d (openFormula (patternAt p k)) ps)
 
 -- no two answers have document 01's number and values in common
 unfoldable pub OneToOne : Type 0

@@ -1,9 +1,8 @@
 -- Each statement of `specs/Demands.antt`, proved. Assumes nothing.
-use Rattle.search.specs.Demands.{ListRefuses, Demand3, OneToOne, Cases}
+use Rattle.search.specs.Demands.{ListRefuses, Demand3, OneToOne}
 use Rattle.search.proofs.Laws.ListFirst.{list-call}
 use Rattle.search.proofs.Laws.Whole.{holds3}
 use Rattle.search.proofs.Laws.Answers as answers
-use Rattle.search.proofs.Laws.Cases.{starred}
 
 pub list-refuses : ListRefuses
 unfolding ListRefuses
@@ -15,6 +14,3 @@ demand3 = holds3
 
 pub one-to-one : OneToOne
 one-to-one = answers.one-to-one
-
-pub cases : Cases
-cases = starred

@@ -13,7 +13,6 @@
 --     Seen           one document of the walk
 --     Tally          the postings passed, variable by variable
 --     Visits         the listing loop, document by document
---     Cases          the starred cases
 mod Pages
 pub mod Loop
 pub mod Listing
@@ -28,5 +27,4 @@ pub mod Filling
 pub mod Tally
 pub mod Seen
 pub mod Visits
-pub mod Cases
 pub mod Stages

@@ -5,7 +5,6 @@
 --     Listing      the listing call
 --     Refusals     document 01's refusals as relations, one line for each number
 --     Search       a search as a list of calls, and what holds of every one
---     Cases        the starred cases of document 01, one table
 --     Demands      the statements that the crate is held to
 --     Inner        vocabulary of the contracts inside the crate
 pub mod Answers
@@ -13,6 +12,5 @@ pub mod Pages
 pub mod Listing
 pub mod Refusals
 pub mod Search
-pub mod Cases
 pub mod Demands
 pub mod Inner

@@ -1,10 +1,6 @@
--- Document 01's refusals of testing and listing as relations, one line for each number: refusal n applies at place q. Assumes nothing.
-use Prim.Native.Nat.{ℕ, _<_, _≤_}
-use mathlib.Core.Logic.{_≢_}
+-- Document 01's refusals of listing as a relation, one line for each number: refusal n applies at place q. Assumes nothing.
+use Prim.Native.Nat.{ℕ, _<_}
 use mathlib.Core.List.{List, [], _∷_, _++_}
-use lib.ListN.{length, getD}
-use Rattle.plan.specs.Check.{sizes}
-use Rattle.plan.specs.Accepted.{patternAt}
 use Rattle.plan.specs.Refusals.{PlanApplies, planStages}
 use Rattle.fulltext.specs.Documents.{work}
 
@@ -17,5 +13,6 @@ pub data ListApplies (v p : List ℕ) (start room : ℕ) : ℕ → ℕ → Type 
   -- 16: buffer shorter than one row
   short : room < work v p .width → ListApplies v p start room 16 0
 
+-- the stages of the call
 abbrev pub listStages : List (List ℕ)
 listStages = planStages ++ ((15 ∷ []) ∷ (16 ∷ []) ∷ [])

@@ -1,10 +1,15 @@
--- A search: a list of listing calls as they were made, each with the buffer lent, the answer, and the buffer as it returned. Assumes nothing.
+-- A search: a list of listing calls as they were made, each with the buffer lent, the answer, and the buffer as it returned. An answer
+-- may have any form: `plain` is document 01's number and values, and a crate above may have its own. Assumes nothing.
+--     Form, plain             how an answer is made and what it says
+--     Call, IsSearch          calls that are a search
+--     Outcome, outcome        what a search comes to
+--     Answers, Searched       what holds of each of its calls, and of a search
 use Prim.Native.Nat.{ℕ, _+_, _*_, _/_, _≤_, _<_, max}
 use mathlib.Core.Path.{_≡_}
+use mathlib.Core.Bool.{Bool, true, false}
 use mathlib.Core.Logic.{_↔_}
 use mathlib.Core.List.{List, [], _∷_, _++_}
 use lib.ListN.{length, getD, take}
-use lib.Dec.{leb}
 use Rattle.seq.specs.Lists.{keep}
 use Rattle.seq.specs.Refusals.{Said, refused, answered}
 use Rattle.fulltext.specs.Positions.{limit}
@@ -12,15 +17,20 @@ use Rattle.fulltext.specs.Documents.{Work, docsIn, rowsOfDocs, work}
 use Rattle.search.specs.Answers.{Next, done, more, Page}
 use Rattle.search.specs.Listing.{listAnswer, listOut}
 
--- one listing call
-pub record Call : Type 0 where
-  pub lent : List ℕ
-  pub says : Said Page
-  pub back : List ℕ
+-- a form of answers: how one is made of number and values, and what one says
+pub record Form (A : Type 0) : Type 0 where
+  pub make : Said Page → A
+  pub said : A → Said Page
 
--- what `search::list` promises of a call from document `start` on
-abbrev pub Kept : List ℕ → List ℕ → ℕ → Call → Type 0
-Kept v p start c = (c .says ≡ listAnswer v p start (length (c .lent))) × (c .back ≡ listOut v p start (c .lent))
+-- the number and values themselves
+abbrev pub plain : Form (Said Page)
+plain = record { make = λ s. s; said = λ s. s }
+
+-- one listing call
+pub record Call (A : Type 0) : Type 0 where
+  pub lent : List ℕ
+  pub says : A
+  pub back : List ℕ
 
 -- what must hold of the calls behind one that started at s: after a refusal they start at s too, after DONE there is none, after MORE they
 -- start at the document that it names
@@ -32,13 +42,8 @@ abbrev pub Then : ℕ → Said Page → (ℕ → Type 0) → Type 0 → Type 0
 Then s (refused n q) from none = from s
 Then s (answered page) from none = Onward (page .next) from none
 
--- calls are a search from document s on
-abbrev pub IsSearch : List ℕ → List ℕ → ℕ → List Call → Type 0
-IsSearch v p s [] = Unit
-IsSearch v p s (c ∷ cs) = Kept v p s c × Then s (c .says) (λ next. IsSearch v p next cs) (cs ≡ [])
-
--- what a search has come to: the document reached (01: scene reached), 65,536 after DONE; the rows, joined in the order of the calls; the sum of
--- the tallies
+-- what a search has come to: the document reached (01: scene reached), 65,536 after DONE; the rows, joined in the order of the calls; the
+-- sum of the tallies
 pub record Outcome : Type 0 where
   pub reached : ℕ
   pub rows : List ℕ
@@ -62,53 +67,80 @@ abbrev pub follow : ℕ → ℕ → Said Page → List ℕ → (ℕ → Outcome)
 follow width s (refused n q) back rest = rest s
 follow width s (answered page) back rest = andThen (take (page .rows * width) back) (page .tally) (onward (page .next) rest)
 
--- what calls from document s on come to, by their answers and buffers alone; a row has so many words
-abbrev pub outcomeFrom : ℕ → ℕ → List Call → Outcome
-outcomeFrom width s [] = stopped s
-outcomeFrom width s (c ∷ cs) = follow width s (c .says) (c .back) (λ next. outcomeFrom width next cs)
-
-abbrev pub outcome : List ℕ → List ℕ → List Call → Outcome
-outcome v p calls = outcomeFrom (work v p .width) 0 calls
-
 -- how many rows fit a call's buffer
-abbrev pub room : Work → Call → ℕ
+abbrev pub room : {A : Type 0} → Work → Call A → ℕ
 room w c = length (c .lent) / w .width
 
--- a call says that nothing is left, or that document t is next
-abbrev pub SaysDone : Call → Type 0
-SaysDone c = (n t : ℕ) × (c .says ≡ answered (record { rows = n; tally = t; next = done }))
+abbrev pub isAnswered : Said Page → Bool
+isAnswered (refused n q) = false
+isAnswered (answered page) = true
 
-abbrev pub SaysMore : Call → ℕ → Type 0
-SaysMore c s = (n t : ℕ) × (c .says ≡ answered (record { rows = n; tally = t; next = more s }))
+-- what `search::list` promises of a call from document `start` on
+abbrev pub Kept : List ℕ → List ℕ → ℕ → Call (Said Page) → Type 0
+Kept v p start c = (c .says ≡ listAnswer v p start (length (c .lent))) × (c .back ≡ listOut v p start (c .lent))
 
--- a call of a search, from document s on, over a plan and a volume
-pub record Answers (w : Work) (s : ℕ) (c : Call) : Type 0 where
-  -- it starts at a document
-  pub starts : s < limit
-  -- it is refused exactly if its buffer is shorter than a row, always with 16, and then its buffer is as it was
-  pub short : ((n q : ℕ) × (c .says ≡ refused n q)) ↔ (length (c .lent) < w .width)
-  pub sixteen : (n q : ℕ) → c .says ≡ refused n q → (n ≡ 16) × ((q ≡ 0) × (c .back ≡ c .lent))
-  -- it says MORE t exactly if more true documents remain than rows fit, and t is the lowest of them behind those that fit
-  pub says-more : (t : ℕ) → SaysMore c t ↔ ((w .width ≤ length (c .lent)) × ((room w c < length (docsIn w s limit)) × (getD (docsIn w s limit) (room w c) 0 ≡ t)))
-  -- it says DONE exactly if no more remain than fit
-  pub says-done : SaysDone c ↔ ((w .width ≤ length (c .lent)) × (length (docsIn w s limit) ≤ room w c))
+module _ {A : Type 0} (form : Form A) where
+  -- the same of a call whose answer has this form
+  abbrev pub KeptAs : List ℕ → List ℕ → ℕ → Call A → Type 0
+  KeptAs v p start c = (c .says ≡ form .make (listAnswer v p start (length (c .lent)))) × (c .back ≡ listOut v p start (c .lent))
 
--- so for each call of a search from document s on
-abbrev pub EachAnswers : Work → ℕ → List Call → Type 0
-EachAnswers w s [] = Unit
-EachAnswers w s (c ∷ cs) = Answers w s c × Then s (c .says) (λ next. EachAnswers w next cs) (cs ≡ [])
+  -- calls are a search from document s on
+  abbrev pub IsSearch : List ℕ → List ℕ → ℕ → List (Call A) → Type 0
+  IsSearch v p s [] = Unit
+  IsSearch v p s (c ∷ cs) = KeptAs v p s c × Then s (form .said (c .says)) (λ next. IsSearch v p next cs) (cs ≡ [])
 
--- the calls that are not refused: a row fits their buffers
-abbrev pub unrefused : Work → List Call → List Call
-unrefused w calls = keep (λ (c : Call). leb (w .width) (length (c .lent))) calls
+  -- what calls from document s on come to, by their answers and buffers alone; a row has so many words
+  abbrev pub outcomeFrom : ℕ → ℕ → List (Call A) → Outcome
+  outcomeFrom width s [] = stopped s
+  outcomeFrom width s (c ∷ cs) = follow width s (form .said (c .says)) (c .back) (λ next. outcomeFrom width next cs)
 
--- what holds of a search that comes to an outcome
-pub record Searched (w : Work) (calls : List Call) (o : Outcome) : Type 0 where
-  -- the rows are those of all true documents below the one reached, each once, rising; after DONE, of all true documents
-  pub rows : o .rows ≡ rowsOfDocs w (docsIn w 0 (o .reached))
-  -- the tallies add up to the postings below the document reached; after DONE, to all
-  pub tally : o .tally ≡ w .postings 0 (o .reached)
-  -- each call answers as it must
-  pub answers : EachAnswers w 0 calls
-  -- with k true documents, the k-th call that is not refused, or the first where k is 0, says DONE if no earlier one did
-  pub closes : max 1 (length (docsIn w 0 limit)) ≤ length (unrefused w calls) → o .reached ≡ limit
+  abbrev pub outcome : List ℕ → List ℕ → List (Call A) → Outcome
+  outcome v p calls = outcomeFrom (work v p .width) 0 calls
+
+  -- a call is refused, says that nothing is left, or that document t is next
+  abbrev pub IsRefused : Call A → Type 0
+  IsRefused c = (n q : ℕ) × (form .said (c .says) ≡ refused n q)
+
+  abbrev pub SaysDone : Call A → Type 0
+  SaysDone c = (n t : ℕ) × (form .said (c .says) ≡ answered (record { rows = n; tally = t; next = done }))
+
+  abbrev pub SaysMore : Call A → ℕ → Type 0
+  SaysMore c s = (n t : ℕ) × (form .said (c .says) ≡ answered (record { rows = n; tally = t; next = more s }))
+
+  -- a call of a search, from document s on, over a plan and a volume
+  pub record Answers (w : Work) (s : ℕ) (c : Call A) : Type 0 where
+    -- it starts at a document
+    pub starts : s < limit
+    -- it is refused exactly if its buffer is shorter than a row, always with 16, and then its buffer is as it was
+    pub short : IsRefused c ↔ (length (c .lent) < w .width)
+    pub sixteen : IsRefused c → (c .says ≡ form .make (refused 16 0)) × (c .back ≡ c .lent)
+    -- it says MORE t exactly if more true documents remain than rows fit, and t is the lowest of them behind those that fit
+    pub says-more : (t : ℕ)
+        → SaysMore c t
+        ↔ ((w .width ≤ length (c .lent)) × ((room w c < length (docsIn w s limit)) × (getD (docsIn w s limit) (room w c) 0 ≡ t)))
+    -- it says DONE exactly if no more remain than fit
+    pub says-done : SaysDone c ↔ ((w .width ≤ length (c .lent)) × (length (docsIn w s limit) ≤ room w c))
+
+  -- so for each call of a search from document s on
+  abbrev pub EachAnswers : Work → ℕ → List (Call A) → Type 0
+  EachAnswers w s [] = Unit
+  EachAnswers w s (c ∷ cs) = Answers w s c × Then s (form .said (c .says)) (λ next. EachAnswers w next cs) (cs ≡ [])
+
+  -- the calls that are not refused
+  abbrev pub unrefused : List (Call A) → List (Call A)
+  unrefused calls = keep (λ (c : Call A). isAnswered (form .said (c .says))) calls
+
+  -- what holds of a search that comes to an outcome
+  pub record Searched (w : Work) (calls : List (Call A)) (o : Outcome) : Type 0 where
+    -- the rows are those of all true documents below the one reached, each once, rising; after DONE, of all true documents
+    pub rows : o .rows ≡ rowsOfDocs w (docsIn w 0 (o .reached))
+    -- the tallies add up to the postings below the document reached; after DONE, to all
+    pub tally : o .tally ≡ w .postings 0 (o .reached)
+    -- each call answers as it must
+    pub answers : EachAnswers w 0 calls
+    -- with k true documents, the k-th of the calls that are not refused, or the first where k is 0, says DONE, and 65,536 is reached;
+    -- had an earlier one said DONE, the search would have ended there
+    pub closes : (front rest : List (Call A)) (c : Call A)
+        → unrefused calls ≡ front ++ (c ∷ rest)
+        → length front + 1 ≡ max 1 (length (docsIn w 0 limit))
+        → SaysDone c × (o .reached ≡ limit)

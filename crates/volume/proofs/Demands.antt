@@ -54,7 +54,7 @@ unfolding ReadsWritten
 reads-written = reader.reads-written
 
 pub writer-writes : WriterWrites
-writer-writes = record { given = λ counts postings _ words. writes counts postings words; every = writes-every }
+writer-writes = record { given = writes; every = writes-every }
 
 pub damage : Damage
 unfolding Damage

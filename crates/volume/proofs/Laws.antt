@@ -19,9 +19,9 @@ pub mod Storing
 pub mod CheckFirst
 pub mod ReadFirst
 pub mod WriteFirst
-pub mod Blocks
-pub mod Rebuild
-pub mod Lists
+mod Blocks
+mod Rebuild
+mod Lists
 pub mod Volume
 pub mod Within
 pub mod Reader

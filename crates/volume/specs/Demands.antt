@@ -20,7 +20,7 @@ use Rattle.volume.specs.declared.answers.Written.{Written}
 use Rattle.volume.specs.Posting.{postingOf}
 use Rattle.block.specs.Bytes.{IsBytes, IsWords}
 use Rattle.block.specs.Checksum.{checkA, checkB}
-use Rattle.volume.specs.Layout.{listCount, count, blocksFor, postingsOf, listsOf}
+use Rattle.volume.specs.Layout.{listCount, count, extentOf, blocksFor, postingsOf, listsOf}
 use Rattle.volume.specs.Answers.{Sizes, saidRefusal, saidChecked, saidRead, saidWritten}
 use Rattle.volume.specs.Check.{sizes, verdict, Accepted}
 use Rattle.volume.specs.Read.{readAnswer, readOut}
@@ -45,9 +45,13 @@ ReadRefuses = (v : List ℕ) (i : ℕ) (out : List ℕ) → ReadCall v i out
 -- writing: the first of 5, 18, 7, 19, 20 that applies, or the number of blocks exactly if none applies
 -- a refusal leaves the output as it was; an answer leaves the blocks at its front and the rest as it was
 pub record WriteCall (counts postings out : List ℕ) : Type 0 where
-  pub first : FirstRefusal (stageIn writeStages) (WriteApplies counts postings (length out)) (blocksFor (2 + length counts + length postings)) (writeAnswer counts postings (length out))
+  pub first :
+      FirstRefusal (stageIn writeStages) (WriteApplies counts postings (length out))
+      (blocksFor (extentOf (length counts) (length postings))) (writeAnswer counts postings (length out))
   pub kept : (n p : ℕ) → writeAnswer counts postings (length out) ≡ refused n p → writeOut counts postings out ≡ out
-  pub laid : (n : ℕ) → writeAnswer counts postings (length out) ≡ answered n → writeOut counts postings out ≡ written counts postings ++ drop (512 * n) out
+  pub laid :
+      (n : ℕ) → writeAnswer counts postings (length out) ≡ answered n
+      → writeOut counts postings out ≡ written counts postings ++ drop (512 * n) out
 
 -- Demand 1, writing
 unfoldable pub WriteRefuses : Type 0
@@ -59,11 +63,13 @@ pub record Within (lists : List (List ℕ)) : Type 0 where
   pub most : length lists ≤ 1024
   pub rising : (i : ℕ) → i < length lists → Rising (getD lists i [])
   pub words : (i : ℕ) → i < length lists → IsWords (getD lists i [])
-  pub fits : 2 + length lists + total length lists ≤ 1032192
+  pub fits : extentOf (length lists) (total length lists) ≤ 1032192
 
 -- Demand 2: bytes are accepted, and their lists are these, exactly if the lists are within the limits and the bytes are their volume
 unfoldable pub Demand2 : Type 0
-Demand2 = (v : List ℕ) → IsBytes v → (lists : List (List ℕ)) → (Accepted v × (listsOf v ≡ lists)) ↔ (Within lists × (v ≡ volumeOf lists))
+Demand2 =
+    (v : List ℕ) → IsBytes v → (lists : List (List ℕ))
+    → (Accepted v × (listsOf v ≡ lists)) ↔ (Within lists × (v ≡ volumeOf lists))
 
 -- reading list i of an accepted volume into a buffer that holds it answers its length and lays it at the front
 unfoldable pub ReadsList : Type 0
@@ -75,32 +81,37 @@ ReadsList =
 -- and so for the volume of any lists within the limits
 unfoldable pub ReadsWritten : Type 0
 ReadsWritten =
-    (lists : List (List ℕ)) → Within lists → (i : ℕ) → i < length lists → (out : List ℕ) → length (getD lists i []) ≤ length out
+    (lists : List (List ℕ)) → Within lists → (i : ℕ) → i < length lists
+    → (out : List ℕ) → length (getD lists i []) ≤ length out
     → (readAnswer (volumeOf lists) i (length out) ≡ answered (length (getD lists i [])))
     × (readOut (volumeOf lists) i out ≡ getD lists i [] ++ drop (length (getD lists i [])) out)
 
--- what the writer lays where it answers n: n is the least number of blocks, they fit, they are the volume of the given lists, and the rest is as it was
+-- what the writer lays where it answers n: n is the least number of blocks, they fit, they are the volume of the given lists, and
+-- the rest is as it was
 pub record Lays (counts postings out : List ℕ) (n : ℕ) : Type 0 where
-  pub blocks : LeastBlocks (2 + length counts + length postings) n
+  pub blocks : LeastBlocks (extentOf (length counts) (length postings)) n
   pub room : 512 * n ≤ length out
   pub volume : written counts postings ≡ volumeOf (givenLists counts postings)
   pub size : length (volumeOf (givenLists counts postings)) ≡ 512 * n
   pub output : writeOut counts postings out ≡ volumeOf (givenLists counts postings) ++ drop (512 * n) out
 
--- the writer on counts and postings: it refuses for a reason other than 20 exactly if the given lists are outside the limits or
--- the counts do not sum to the number of postings; where it answers, it lays the volume of the given lists
+-- the writer on counts and postings: on words it refuses for a reason other than 20 exactly if the given lists are outside the
+-- limits or the counts do not sum to the number of postings; where it answers, it lays the volume of the given lists
 pub record Writes (counts postings out : List ℕ) : Type 0 where
   pub refuses :
-      ((n : ℕ) × (p : ℕ) × (writeAnswer counts postings (length out) ≡ refused n p) × (n ≢ 20))
+      IsWords postings
+      → ((n : ℕ) × (p : ℕ) × (writeAnswer counts postings (length out) ≡ refused n p) × (n ≢ 20))
       ↔ ((Within (givenLists counts postings) × (total (λ x. x) counts ≡ length postings)) → ⊥)
   pub lays : (n : ℕ) → writeAnswer counts postings (length out) ≡ answered n → Lays counts postings out n
 
--- the writer on words; and every lists within the limits are written from their lengths and their postings back to back
+-- the writer on all counts and postings; and every lists within the limits are written from their lengths and their postings back
+-- to back
 pub record WriterWrites : Type 0 where
-  pub given : (counts postings : List ℕ) → IsWords counts → IsWords postings → (out : List ℕ) → Writes counts postings out
+  pub given : (counts postings out : List ℕ) → Writes counts postings out
   pub every :
       (lists : List (List ℕ)) → Within lists → (out : List ℕ) → length (volumeOf lists) ≤ length out
-      → (writeAnswer (map length lists) (joined lists) (length out) ≡ answered (blocksFor (2 + length lists + total length lists)))
+      → (writeAnswer (map length lists) (joined lists) (length out)
+      ≡ answered (blocksFor (extentOf (length lists) (total length lists))))
       × (writeOut (map length lists) (joined lists) out ≡ volumeOf lists ++ drop (length (volumeOf lists)) out)
 
 -- bytes as long as an accepted volume that differ from it in exactly one byte are refused, with 2 or 3 at the block of that byte

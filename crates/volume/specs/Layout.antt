@@ -1,20 +1,14 @@
 -- A volume's bytes: blocks of 512, the stream of their words, and the lists that the stream holds. Each definition is total:
 -- behind the end of the bytes stand zeros. Assumes nothing.
 use Prim.Native.Nat.{ℕ, _+_, _*_, _/_, _%_}
-use mathlib.Core.Path.{_≡_}
 use mathlib.Core.List.{List}
 use lib.ListN.{length, take, drop}
 use Rattle.seq.specs.Numbers.{run, sumTo}
-use Rattle.volume.specs.declared.reading.Span.{Span}
 use Rattle.block.specs.Bytes.{le16, le32}
 
 -- the number of blocks of v
 abbrev pub blocks : List ℕ → ℕ
 blocks v = length v / 512
-
--- v is whole blocks
-abbrev pub Whole : List ℕ → Type 0
-Whole v = length v ≡ 512 * blocks v
 
 -- the number of stream words of v
 abbrev pub streamLength : List ℕ → ℕ
@@ -51,9 +45,21 @@ version v = word v 0
 abbrev pub listCount : List ℕ → ℕ
 listCount v = word v 1
 
+-- the stream index of the number of postings of list i
+abbrev pub entry : ℕ → ℕ
+entry i = 2 + i
+
+-- the number of stream words in front of the postings of so many lists
+abbrev pub lead : ℕ → ℕ
+lead lists = entry lists
+
+-- the number of stream words in front of the zero words, for so many lists and postings
+abbrev pub extentOf : ℕ → ℕ → ℕ
+extentOf lists postings = lead lists + postings
+
 -- the number of postings of list i
 abbrev pub count : List ℕ → ℕ → ℕ
-count v i = word v (2 + i)
+count v i = word v (entry i)
 
 -- the number of postings of all lists (01: S)
 abbrev pub postingCount : List ℕ → ℕ
@@ -61,7 +67,7 @@ postingCount v = sumTo (count v) (listCount v)
 
 -- the number of stream words in front of the zero words
 abbrev pub extent : List ℕ → ℕ
-extent v = 2 + listCount v + postingCount v
+extent v = extentOf (listCount v) (postingCount v)
 
 -- the least number of blocks that holds w words
 abbrev pub blocksFor : ℕ → ℕ
@@ -69,7 +75,7 @@ blocksFor w = (w + 125) / 126
 
 -- the stream index of the first posting of list i
 abbrev pub start : List ℕ → ℕ → ℕ
-start v i = 2 + listCount v + sumTo (count v) i
+start v i = lead (listCount v) + sumTo (count v) i
 
 -- the postings of list i
 abbrev pub postingsOf : List ℕ → ℕ → List ℕ
@@ -78,7 +84,3 @@ postingsOf v i = run (word v) (start v i) (count v i)
 -- the lists of v
 unfoldable pub listsOf : List ℕ → List (List ℕ)
 listsOf v = run (postingsOf v) 0 (listCount v)
-
--- where list i lies in the stream
-abbrev pub spanOf : List ℕ → ℕ → Span
-spanOf v i = record { start = start v i; count = count v i }

@@ -7,8 +7,7 @@
 --     Write       the volume of given lists, and the writer
 --     Refusals    document 01's refusals as relations, one line for each number
 --     Demands     the statements that the crate is held to
---     Falls       the falls of the stream, for the contracts inside `src/order.rt`
---     Below       how many words of the stream are below a number, for the contract of `stream::below_in_window`
+--     Inner       for contracts inside the crate and those of functions that ask for an accepted volume: no call's promise cites it
 pub mod Posting
 pub mod Layout
 pub mod Answers
@@ -17,5 +16,4 @@ pub mod Read
 pub mod Write
 pub mod Refusals
 pub mod Demands
-pub mod Falls
-pub mod Below
+pub mod Inner

@@ -7,7 +7,7 @@ use mathlib.Core.List.{List, [], _∷_, _++_}
 use lib.ListN.{length}
 use Rattle.seq.specs.Lists.{total, NotRising}
 use Rattle.block.specs.Checksum.{checkA, checkB}
-use Rattle.volume.specs.Layout.{blocks, streamLength, blockNumber, covered, storedA, storedB, word, version, listCount, count, extent, postingsOf}
+use Rattle.volume.specs.Layout.{blocks, streamLength, blockNumber, covered, storedA, storedB, word, version, listCount, count, extentOf, extent, postingsOf}
 use Rattle.volume.specs.Write.{givenList}
 
 -- n is the least number of blocks that holds w stream words, 126 to a block
@@ -22,7 +22,9 @@ pub data VolumeApplies (v : List ℕ) : ℕ → ℕ → Type 0 where
   -- 2: block number wrong; place: block
   wrongNumber : (k : ℕ) → k < blocks v → blockNumber v k ≢ k → VolumeApplies v 2 k
   -- 3: check wrong; place: block
-  wrongChecksum : (k : ℕ) → k < blocks v → (storedA v k ≢ checkA (covered v k)) ⊎ (storedB v k ≢ checkB (covered v k)) → VolumeApplies v 3 k
+  wrongChecksum :
+      (k : ℕ) → k < blocks v → (storedA v k ≢ checkA (covered v k)) ⊎ (storedB v k ≢ checkB (covered v k))
+      → VolumeApplies v 3 k
   -- 4: edition not 1
   wrongVersion : version v ≢ 1 → VolumeApplies v 4 0
   -- 5: T outside 1 to 1,024
@@ -52,9 +54,11 @@ pub data WriteApplies (counts postings : List ℕ) (room : ℕ) : ℕ → ℕ �
   -- 7: a given list does not rise; place: list
   wrongGiven : (i : ℕ) → i < length counts → NotRising (givenList counts postings i) → WriteApplies counts postings room 7 i
   -- 19: more than 1,032,192 stream words
-  overLarge : 1032192 < 2 + length counts + length postings → WriteApplies counts postings room 19 0
+  overLarge : 1032192 < extentOf (length counts) (length postings) → WriteApplies counts postings room 19 0
   -- 20: output shorter than the volume
-  outputShort : (n : ℕ) → LeastBlocks (2 + length counts + length postings) n → room < 512 * n → WriteApplies counts postings room 20 0
+  outputShort :
+      (n : ℕ) → LeastBlocks (extentOf (length counts) (length postings)) n → room < 512 * n
+      → WriteApplies counts postings room 20 0
 
 -- the stages of the calls; 2 and 3 share one, so that blocks go upward, 2 before 3 in each
 abbrev pub volumeStages : List (List ℕ)

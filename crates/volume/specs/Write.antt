@@ -9,7 +9,7 @@ use Rattle.seq.specs.Numbers.{firstFrom, run, sumTo}
 use Rattle.seq.specs.Refusals.{Said, refused, answered, laid}
 use Rattle.block.specs.Bytes.{bytes16, bytes32}
 use Rattle.block.specs.Checksum.{checkA, checkB}
-use Rattle.volume.specs.Layout.{blocksFor}
+use Rattle.volume.specs.Layout.{extentOf, blocksFor}
 
 -- the bytes of f k, f (k + 1), .., m words
 unfoldable pub wordBytes : (ℕ → ℕ) → ℕ → ℕ → List ℕ
@@ -35,7 +35,7 @@ streamOf counts postings = 1 ∷ length counts ∷ (counts ++ postings)
 
 -- the volume of counts and postings
 unfoldable pub written : List ℕ → List ℕ → List ℕ
-written counts postings = blocksFrom (at (streamOf counts postings)) 0 (blocksFor (2 + length counts + length postings))
+written counts postings = blocksFrom (at (streamOf counts postings)) 0 (blocksFor (extentOf (length counts) (length postings)))
 
 -- the volume of lists
 unfoldable pub volumeOf : List (List ℕ) → List ℕ
@@ -70,16 +70,17 @@ givenListsWrong counts postings = ltb (badGiven counts postings) (length counts)
 
 -- 19: more than 1,032,192 stream words
 unfoldable pub tooLarge : List ℕ → List ℕ → Bool
-tooLarge counts postings = ltb 1032192 (2 + length counts + length postings)
+tooLarge counts postings = ltb 1032192 (extentOf (length counts) (length postings))
 
 -- 20: the output is shorter than the volume
 unfoldable pub shortOutput : List ℕ → List ℕ → ℕ → Bool
-shortOutput counts postings room = ltb room (512 * blocksFor (2 + length counts + length postings))
+shortOutput counts postings room = ltb room (512 * blocksFor (extentOf (length counts) (length postings)))
 
 -- the writer's answer, for an output of so many bytes: the first refusal of 5, 18, 7, 19, 20, or the number of blocks
 unfoldable pub writeAnswer : List ℕ → List ℕ → ℕ → Said ℕ
 writeAnswer counts postings room =
-    let from20 = cond (shortOutput counts postings room) (refused 20 0) (answered (blocksFor (2 + length counts + length postings))) in
+    let blocks = blocksFor (extentOf (length counts) (length postings)) in
+    let from20 = cond (shortOutput counts postings room) (refused 20 0) (answered blocks) in
     let from19 = cond (tooLarge counts postings) (refused 19 0) from20 in
     let from7 = cond (givenListsWrong counts postings) (refused 7 (badGiven counts postings)) from19 in
     let from18 = cond (sumWrong counts postings) (refused 18 0) from7 in

@@ -8,10 +8,15 @@ ghost use mathlib.Core.Path.{_≡_};
 ghost use Prim.Native.Nat.{_+_, _*_, _-_, _<_, _≤_};
 ghost use Rattle.seq.specs.Lists.{rises};
 ghost use Rattle.seq.specs.Numbers.{run};
-ghost use Rattle.volume.specs.Layout.{blocks, word, listCount, extent, Whole, streamLength};
+ghost use Rattle.volume.specs.Layout.{blocks, word, listCount, extent, streamLength};
+ghost use Rattle.volume.specs.Inner.Places.{Whole};
 ghost use Rattle.volume.specs.Check.{badList};
-ghost use Rattle.volume.specs.Falls.{fallOf, fall, fallsBefore};
-ghost use Rattle.volume.specs.Falls.{ListFalls};
+ghost use Rattle.volume.specs.Inner.Falls.{fallOf, fall, fallsBefore, ListFalls};
+use super::layout::BLOCK_BYTES;
+use super::layout::BLOCK_WORDS;
+use super::layout::LAST_WORD;
+use super::layout::lead;
+use super::stream::count_at;
 use super::stream::word_at;
 use block::read32;
 
@@ -25,12 +30,13 @@ pub fn fall_of(x: u32, y: u32) -> u32
 // The falls inside block k.
 pub fn falls_in(volume: &[u8], k: usize) -> u32
     requires { ⌜ k < blocks (now volume) ⌝ }
-    ensures { λ r. ⌜ (fallsBefore (now (volume .entry)) (126 * k) + r ≡ fallsBefore (now (volume .entry)) (126 * k + 125)) × (r ≤ 125) ⌝ }
+    ensures { λ r. ⌜ fallsBefore (now (volume .entry)) (126 * k) + r ≡ fallsBefore (now (volume .entry)) (126 * k + 125) ⌝ }
+    ensures { λ r. ⌜ r ≤ 125 ⌝ }
 {
-    let from = 512 * k + 4;
+    let from = BLOCK_BYTES * k + 4;
     let mut n: u32 = 0;
     let mut i: usize = 0;
-    while i < 125 {
+    while i < LAST_WORD {
         let at = from + 4 * i;
         n += fall_of(read32(volume, at), read32(volume, at + 4));
         i += 1;
@@ -44,7 +50,7 @@ pub fn fall_at(volume: &[u8], i: usize) -> u32
     ensures { λ r. ⌜ (r ≡ fall (word (now (volume .entry))) i) × (r ≤ 1) ⌝ }
 {
     let next = i + 1;
-    if next == 126 * (volume.len() / 512) {
+    if next == BLOCK_WORDS * (volume.len() / BLOCK_BYTES) {
         return 1;
     }
     fall_of(word_at(volume, i), word_at(volume, next))
@@ -53,7 +59,8 @@ pub fn fall_at(volume: &[u8], i: usize) -> u32
 // The falls from stream index `from` up to `end`.
 fn falls_from(volume: &[u8], from: usize, end: usize) -> usize
     requires { ⌜ Whole (now volume) × (from ≤ end) × (end ≤ streamLength (now volume)) ⌝ }
-    ensures { λ r. ⌜ (fallsBefore (now (volume .entry)) from + r ≡ fallsBefore (now (volume .entry)) end) × (r ≤ end - from) ⌝ }
+    ensures { λ r. ⌜ fallsBefore (now (volume .entry)) from + r ≡ fallsBefore (now (volume .entry)) end ⌝ }
+    ensures { λ r. ⌜ r ≤ end - from ⌝ }
 {
     let mut n: usize = 0;
     let mut i = from;
@@ -66,14 +73,17 @@ fn falls_from(volume: &[u8], from: usize, end: usize) -> usize
 
 // The falls at the last postings of the lists.
 fn list_falls(volume: &[u8], lists: usize) -> usize
-    requires { ⌜ Whole (now volume) × (lists ≡ listCount (now volume)) × (lists ≤ 1024) × (extent (now volume) ≤ streamLength (now volume)) ⌝ }
+    requires { ⌜ Whole (now volume) ⌝ }
+    requires { ⌜ lists ≡ listCount (now volume) ⌝ }
+    requires { ⌜ lists ≤ 1024 ⌝ }
+    requires { ⌜ extent (now volume) ≤ streamLength (now volume) ⌝ }
     ensures { λ r. ⌜ ListFalls (now (volume .entry)) r ⌝ }
 {
     let mut n: usize = 0;
-    let mut end: usize = 2 + lists;
+    let mut end: usize = lead(lists);
     let mut i: usize = 0;
     while i < lists {
-        let size = word_at(volume, 2 + i) as usize;
+        let size = count_at(volume, i) as usize;
         end += size;
         if 0 < size {
             n += fall_at(volume, end - 1) as usize;
@@ -107,13 +117,15 @@ fn rising(volume: &[u8], from: usize, n: usize) -> bool
 
 // The lowest list that does not rise; the number of lists where there is none.
 fn walk_lists(volume: &[u8], lists: usize) -> usize
-    requires { ⌜ (lists ≡ listCount (now volume)) × (lists ≤ 1024) × (extent (now volume) ≤ streamLength (now volume)) ⌝ }
+    requires { ⌜ lists ≡ listCount (now volume) ⌝ }
+    requires { ⌜ lists ≤ 1024 ⌝ }
+    requires { ⌜ extent (now volume) ≤ streamLength (now volume) ⌝ }
     ensures { λ r. ⌜ r ≡ badList (now (volume .entry)) ⌝ }
 {
-    let mut start: usize = 2 + lists;
+    let mut start: usize = lead(lists);
     let mut i: usize = 0;
     while i < lists {
-        let size = word_at(volume, 2 + i) as usize;
+        let size = count_at(volume, i) as usize;
         if !rising(volume, start, size) {
             return i;
         }
@@ -125,11 +137,16 @@ fn walk_lists(volume: &[u8], lists: usize) -> usize
 
 // The same, given the falls of the whole stream and the number of words in front of the zeros.
 pub fn bad_list(volume: &[u8], lists: usize, used: usize, all: usize) -> usize
-    requires { ⌜ Whole (now volume) × (lists ≡ listCount (now volume)) × (lists ≤ 1024) × (used ≡ extent (now volume)) × (used ≤ streamLength (now volume)) × (all ≡ fallsBefore (now volume) (streamLength (now volume))) ⌝ }
+    requires { ⌜ Whole (now volume) ⌝ }
+    requires { ⌜ lists ≡ listCount (now volume) ⌝ }
+    requires { ⌜ lists ≤ 1024 ⌝ }
+    requires { ⌜ used ≡ extent (now volume) ⌝ }
+    requires { ⌜ used ≤ streamLength (now volume) ⌝ }
+    requires { ⌜ all ≡ fallsBefore (now volume) (streamLength (now volume)) ⌝ }
     ensures { λ r. ⌜ r ≡ badList (now (volume .entry)) ⌝ }
 {
-    let end = 126 * (volume.len() / 512);
-    let head = falls_from(volume, 0, 2 + lists);
+    let end = BLOCK_WORDS * (volume.len() / BLOCK_BYTES);
+    let head = falls_from(volume, 0, lead(lists));
     let tail = falls_from(volume, used, end);
     if head + list_falls(volume, lists) + tail == all {
         return lists;

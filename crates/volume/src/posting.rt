@@ -2,6 +2,9 @@
 ghost use mathlib.Core.Path.{_≡_};
 ghost use Rattle.volume.specs.Posting.{postingOf, docOf, posOf};
 
+// How many positions a document has.
+const POSITIONS: u32 = 65536;
+
 // A posting: a document (01: scene) and a position in it (01: place), as one number.
 pub struct Posting {
     pub bits: u32,
@@ -18,19 +21,26 @@ impl Posting {
         ensures { λ r. ⌜ r ≡ postingOf doc pos ⌝ }
     {
         Posting {
-            bits: doc as u32 * 65536 + pos as u32,
+            bits: doc as u32 * POSITIONS + pos as u32,
         }
+    }
+
+    // The last posting of all.
+    pub fn last() -> Posting
+        ensures { λ r. ⌜ r ≡ postingOf 65535 65535 ⌝ }
+    {
+        Posting::new(Posting::LAST_DOC as u16, Posting::LAST_POS as u16)
     }
 
     pub fn doc(self) -> u32
         ensures { λ r. ⌜ r ≡ docOf (self .bits) ⌝ }
     {
-        self.bits / 65536
+        self.bits / POSITIONS
     }
 
     pub fn pos(self) -> u32
         ensures { λ r. ⌜ r ≡ posOf (self .bits) ⌝ }
     {
-        self.bits % 65536
+        self.bits % POSITIONS
     }
 }

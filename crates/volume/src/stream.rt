@@ -2,9 +2,11 @@
 ghost use mathlib.Core.Path.{_≡_};
 ghost use Prim.Native.Nat.{_+_, _*_, _%_, _-_, _<_, _≤_};
 ghost use Rattle.seq.specs.Numbers.{firstFrom, sumTo};
-ghost use Rattle.volume.specs.Layout.{word, count, streamLength};
+ghost use Rattle.volume.specs.Layout.{word, entry, count, streamLength};
 ghost use Rattle.volume.specs.Check.{paddingWrong};
-ghost use Rattle.volume.specs.Below.{belowOf, belowCount};
+ghost use Rattle.volume.specs.Inner.Below.{belowOf, belowCount};
+use super::layout::BLOCK_WORDS;
+use super::layout::entry;
 use super::posting::Posting;
 use block::read32;
 
@@ -13,7 +15,7 @@ pub fn word_at(volume: &[u8], i: usize) -> u32
     requires { ⌜ i < streamLength (now volume) ⌝ }
     ensures { λ r. ⌜ r ≡ word (now (volume .entry)) i ⌝ }
 {
-    read32(volume, 4 * i + 8 * (i / 126) + 4)
+    read32(volume, 4 * i + 8 * (i / BLOCK_WORDS) + 4)
 }
 
 // Stream word i as a posting.
@@ -38,7 +40,7 @@ pub fn below_in_window(volume: &[u8], i: usize, target: u32) -> usize
     requires { ⌜ (i % 126 ≤ 118) × (i + 8 ≤ streamLength (now volume)) ⌝ }
     ensures { λ r. ⌜ (r ≡ belowCount (now (volume .entry)) target i 8) × (r ≤ 8) ⌝ }
 {
-    let from = 4 * i + 8 * (i / 126) + 4;
+    let from = 4 * i + 8 * (i / BLOCK_WORDS) + 4;
     let mut n: usize = 0;
     let mut j: usize = 0;
     while j < 8 {
@@ -48,15 +50,23 @@ pub fn below_in_window(volume: &[u8], i: usize, target: u32) -> usize
     n
 }
 
+// How many postings list i has.
+pub fn count_at(volume: &[u8], i: usize) -> u32
+    requires { ⌜ entry i < streamLength (now volume) ⌝ }
+    ensures { λ r. ⌜ r ≡ count (now (volume .entry)) i ⌝ }
+{
+    word_at(volume, entry(i))
+}
+
 // The sum of the first n counts.
 pub fn count_sum(volume: &[u8], n: usize) -> u64
-    requires { ⌜ (n ≤ 1024) × (2 + n ≤ streamLength (now volume)) ⌝ }
+    requires { ⌜ (n ≤ 1024) × (entry n ≤ streamLength (now volume)) ⌝ }
     ensures { λ r. ⌜ (r ≡ sumTo (count (now (volume .entry))) n) × (r ≤ 4294967296 * n) ⌝ }
 {
     let mut sum: u64 = 0;
     let mut i: usize = 0;
     while i < n {
-        sum += word_at(volume, 2 + i) as u64;
+        sum += count_at(volume, i) as u64;
         i += 1;
     }
     sum

@@ -3,14 +3,24 @@
 // All refusals are tested before a byte is stored. The volume is then stored block by block, and the
 // checksum of each block is taken while its bytes are at hand.
 ghost use mathlib.Core.Path.{_≡_};
-ghost use mathlib.Core.List.{_++_};
 ghost use Prim.Native.Nat.{_+_, _*_, _-_, _≤_, _<_, min};
-ghost use lib.ListN.{length, take, drop};
+ghost use lib.ListN.{length, take};
 ghost use Rattle.seq.specs.Lists.{at, rises};
 ghost use Rattle.seq.specs.Numbers.{run, sumTo};
 ghost use Rattle.volume.specs.Answers.{saidWritten};
-ghost use Rattle.volume.specs.Write.{wordBytes, blockBody, sealed, blocksFrom, streamOf, badGiven, writeAnswer, writeOut};
+ghost use Rattle.volume.specs.Write.{blockBody, sealed, badGiven, writeAnswer, writeOut};
+ghost use Rattle.volume.specs.Inner.Storing.{given, filled, stored, storedFirst};
 use super::answers::Written;
+use super::layout::BLOCK_BYTES;
+use super::layout::BLOCK_WORDS;
+use super::layout::LAST_WORD;
+use super::layout::MAX_LISTS;
+use super::layout::MAX_WORDS;
+use super::layout::SUM_A;
+use super::layout::SUM_B;
+use super::layout::entry;
+use super::layout::extent_of;
+use super::layout::lead;
 use super::order::fall_of;
 use block::block_sums;
 use block::put16;
@@ -67,7 +77,7 @@ fn bad_given(counts: &[u32], postings: &[u32]) -> usize
 // Stream word i.
 fn stream_word(counts: &[u32], postings: &[u32], i: usize) -> u32
     requires { ⌜ length (now counts) ≤ 1024 ⌝ }
-    ensures { λ r. ⌜ r ≡ at (streamOf (now (counts .entry)) (now (postings .entry))) i ⌝ }
+    ensures { λ r. ⌜ r ≡ given (now (counts .entry)) (now (postings .entry)) i ⌝ }
 {
     let lists = counts.len();
     if i == 0 {
@@ -76,11 +86,12 @@ fn stream_word(counts: &[u32], postings: &[u32], i: usize) -> u32
     if i == 1 {
         return lists as u32;
     }
-    let list = i - 2;
-    if list < lists {
+    let front = lead(lists);
+    if i < front {
+        let list = i - entry(0);
         return counts[list];
     }
-    let j = list - lists;
+    let j = i - front;
     if j < postings.len() {
         return postings[j];
     }
@@ -90,10 +101,10 @@ fn stream_word(counts: &[u32], postings: &[u32], i: usize) -> u32
 // Stores the stream words from `first` on as the words of a block.
 fn put_words(counts: &[u32], postings: &[u32], first: usize, out: &mut [u8])
     requires { ⌜ (length (now counts) ≤ 1024) × (first ≤ 1032192) × (length (now out) ≡ 512) ⌝ }
-    ensures { λ _. ⌜ now (out .exit) ≡ take 4 (now (out .entry)) ++ wordBytes (at (streamOf (now (counts .entry)) (now (postings .entry)))) first 126 ++ drop 508 (now (out .entry)) ⌝ }
+    ensures { λ _. ⌜ now (out .exit) ≡ filled (given (now (counts .entry)) (now (postings .entry))) first (now (out .entry)) ⌝ }
 {
     let mut j: usize = 0;
-    while j < 126 {
+    while j < BLOCK_WORDS {
         let x = stream_word(counts, postings, first + j);
         let to = 4 + 4 * j;
         put32(out, to, x);
@@ -104,10 +115,10 @@ fn put_words(counts: &[u32], postings: &[u32], first: usize, out: &mut [u8])
 // Stores the postings from `from` on as the words of a block.
 fn put_postings(postings: &[u32], from: usize, out: &mut [u8])
     requires { ⌜ (from + 126 ≤ length (now postings)) × (length (now out) ≡ 512) ⌝ }
-    ensures { λ _. ⌜ now (out .exit) ≡ take 4 (now (out .entry)) ++ wordBytes (at (now (postings .entry))) from 126 ++ drop 508 (now (out .entry)) ⌝ }
+    ensures { λ _. ⌜ now (out .exit) ≡ filled (at (now (postings .entry))) from (now (out .entry)) ⌝ }
 {
     let mut j: usize = 0;
-    while j < 126 {
+    while j < BLOCK_WORDS {
         let x = postings[from + j];
         let to = 4 + 4 * j;
         put32(out, to, x);
@@ -119,12 +130,12 @@ fn put_postings(postings: &[u32], from: usize, out: &mut [u8])
 // as in nearly every block, they are copied with no test for each.
 fn put_stream(counts: &[u32], postings: &[u32], first: usize, out: &mut [u8])
     requires { ⌜ (length (now counts) ≤ 1024) × (first ≤ 1032192) × (length (now out) ≡ 512) ⌝ }
-    ensures { λ _. ⌜ now (out .exit) ≡ take 4 (now (out .entry)) ++ wordBytes (at (streamOf (now (counts .entry)) (now (postings .entry)))) first 126 ++ drop 508 (now (out .entry)) ⌝ }
+    ensures { λ _. ⌜ now (out .exit) ≡ filled (given (now (counts .entry)) (now (postings .entry))) first (now (out .entry)) ⌝ }
 {
-    let lead = 2 + counts.len();
-    if lead <= first {
-        let from = first - lead;
-        if from + 126 <= postings.len() {
+    let front = lead(counts.len());
+    if front <= first {
+        let from = first - front;
+        if from + BLOCK_WORDS <= postings.len() {
             put_postings(postings, from, out);
             return;
         }
@@ -138,29 +149,29 @@ fn seal(out: &mut [u8])
     ensures { λ _. ⌜ now (out .exit) ≡ sealed (take 508 (now (out .entry))) ⌝ }
 {
     let sums = block_sums(&out[..], 0);
-    put16(out, 508, sums.a);
-    put16(out, 510, sums.b);
+    put16(out, SUM_A, sums.a);
+    put16(out, SUM_B, sums.b);
 }
 
 // Stores block k.
 fn put_block(counts: &[u32], postings: &[u32], k: usize, out: &mut [u8])
     requires { ⌜ (length (now counts) ≤ 1024) × (k < 8192) × (length (now out) ≡ 512) ⌝ }
-    ensures { λ _. ⌜ now (out .exit) ≡ sealed (blockBody (at (streamOf (now (counts .entry)) (now (postings .entry)))) k) ⌝ }
+    ensures { λ _. ⌜ now (out .exit) ≡ sealed (blockBody (given (now (counts .entry)) (now (postings .entry))) k) ⌝ }
 {
     put32(out, 0, k as u32);
-    put_stream(counts, postings, 126 * k, out);
+    put_stream(counts, postings, BLOCK_WORDS * k, out);
     seal(out);
 }
 
 // Stores the blocks from `from` to `to`.
 fn put_blocks(counts: &[u32], postings: &[u32], from: usize, to: usize, out: &mut [u8])
     requires { ⌜ (length (now counts) ≤ 1024) × (from ≤ to) × (to ≤ 8192) × (512 * to ≤ length (now out)) ⌝ }
-    ensures { λ _. ⌜ now (out .exit) ≡ take (512 * from) (now (out .entry)) ++ blocksFrom (at (streamOf (now (counts .entry)) (now (postings .entry)))) from (to - from) ++ drop (512 * to) (now (out .entry)) ⌝ }
+    ensures { λ _. ⌜ now (out .exit) ≡ stored (given (now (counts .entry)) (now (postings .entry))) from to (now (out .entry)) ⌝ }
 {
     let mut k = from;
     while k < to {
-        let start = 512 * k;
-        let end = start + 512;
+        let start = BLOCK_BYTES * k;
+        let end = start + BLOCK_BYTES;
         put_block(counts, postings, k, &mut out[start..end]);
         k += 1;
     }
@@ -178,11 +189,11 @@ fn least(a: usize, b: usize) -> usize
 // one test tells the compiled loop that they lie apart, and it copies several postings at a time.
 fn put_volume(counts: &[u32], postings: &[u32], n: usize, out: &mut [u8])
     requires { ⌜ (length (now counts) ≤ 1024) × (n ≤ 8192) × (512 * n ≤ length (now out)) ⌝ }
-    ensures { λ _. ⌜ now (out .exit) ≡ blocksFrom (at (streamOf (now (counts .entry)) (now (postings .entry)))) 0 n ++ drop (512 * n) (now (out .entry)) ⌝ }
+    ensures { λ _. ⌜ now (out .exit) ≡ storedFirst (given (now (counts .entry)) (now (postings .entry))) n (now (out .entry)) ⌝ }
 {
-    let lead = 2 + counts.len();
-    let full = least((lead + postings.len()) / 126, n);
-    let first = least((lead + 125) / 126, full);
+    let front = lead(counts.len());
+    let full = least((front + postings.len()) / BLOCK_WORDS, n);
+    let first = least((front + LAST_WORD) / BLOCK_WORDS, full);
     put_blocks(counts, postings, 0, first, out);
     put_blocks(counts, postings, first, full, out);
     put_blocks(counts, postings, full, n, out);
@@ -191,10 +202,11 @@ fn put_volume(counts: &[u32], postings: &[u32], n: usize, out: &mut [u8])
 // Writes the volume of the counts and the postings to the front of the output, and answers the
 // number of its blocks.
 pub fn write(counts: &[u32], postings: &[u32], out: &mut [u8]) -> Written
-    ensures { λ r. ⌜ (saidWritten r ≡ writeAnswer (now (counts .entry)) (now (postings .entry)) (length (now (out .entry)))) × (now (out .exit) ≡ writeOut (now (counts .entry)) (now (postings .entry)) (now (out .entry))) ⌝ }
+    ensures { λ r. ⌜ saidWritten r ≡ writeAnswer (now (counts .entry)) (now (postings .entry)) (length (now (out .entry))) ⌝ }
+    ensures { λ r. ⌜ now (out .exit) ≡ writeOut (now (counts .entry)) (now (postings .entry)) (now (out .entry)) ⌝ }
 {
     let lists = counts.len();
-    if lists < 1 || lists > 1024 {
+    if lists < 1 || lists > MAX_LISTS {
         return Written::ListCount;
     }
     if sum_of(counts) != postings.len() as u64 {
@@ -205,12 +217,12 @@ pub fn write(counts: &[u32], postings: &[u32], out: &mut [u8]) -> Written
         let list = bad as u32;
         return Written::Order(list);
     }
-    let words = 2 + lists + postings.len();
-    if words > 1032192 {
+    let words = extent_of(lists, postings.len());
+    if words > MAX_WORDS {
         return Written::TooLarge;
     }
-    let n = (words + 125) / 126;
-    let size = 512 * n;
+    let n = (words + LAST_WORD) / BLOCK_WORDS;
+    let size = BLOCK_BYTES * n;
     if out.len() < size {
         return Written::Short;
     }

@@ -92,12 +92,17 @@ pub record Rows (s : List ℕ) (o : ℕ) (near₀ : Row) (j : ℕ) (more near : 
   pub more-within : AtMost (255 * j) more
   pub near-within : (q : ℕ) → AtMost q near₀ → AtMost (q + 255 * tri (j + 1)) near
   pub tot-is : tot (drop o s) ≡ columns more + tot (drop (o + 8 * j) s)
-  pub weigh-is : weigh (drop o s) + slope more + 8 * columns near₀ ≡ 8 * columns near + (length s - (o + 8 * j)) * columns more + weigh (drop (o + 8 * j) s)
+  pub weigh-is :
+      weigh (drop o s) + slope more + 8 * columns near₀
+      ≡ 8 * columns near + (length s - (o + 8 * j)) * columns more + weigh (drop (o + 8 * j) s)
 
--- i times seven rows behind the block's number: `all` is their sum, `near` has grown in each seven as above, and `far` by `all` in front of each seven
+-- i times seven rows behind the block's number: `all` is their sum, `near` has grown in each seven as above, and `far` by `all` in
+-- front of each seven
 pub record Sevens (s : List ℕ) (i : ℕ) (t : Part) : Type 0 where
   pub all-within : AtMost (1785 * i) (t .all)
   pub near-within : AtMost (7140 * i) (t .near)
   pub far-within : AtMost (1785 * tri i) (t .far)
   pub tot-is : tot (drop 4 s) ≡ columns (t .all) + tot (drop (4 + 56 * i) s)
-  pub weigh-is : weigh (drop 4 s) + slope (t .all) ≡ 8 * columns (t .near) + 56 * columns (t .far) + (length s - (4 + 56 * i)) * columns (t .all) + weigh (drop (4 + 56 * i) s)
+  pub weigh-is :
+      weigh (drop 4 s) + slope (t .all)
+      ≡ 8 * columns (t .near) + 56 * columns (t .far) + (length s - (4 + 56 * i)) * columns (t .all) + weigh (drop (4 + 56 * i) s)

@@ -22,7 +22,6 @@ use Rattle.seq.proofs.Laws.Decides as decides
 use Rattle.seq.proofs.Laws.Decides.{Decides, and-decides, or-decides, not-decides, same-decides, iff-decides}
 use Rattle.seq.proofs.Laws.Lists.{Each}
 use Rattle.volume.specs.Layout.{listsOf}
-use Rattle.volume.specs.Check as volume
 use Rattle.plan.specs.declared.row.Predicate.{Predicate}
 use Rattle.plan.specs.declared.row.Predicate.the-variants.{Distance, Ordered, Samepara, Window}
 use Rattle.plan.specs.declared.row.Operator.{Operator}
@@ -199,9 +198,9 @@ module _ (lists : List (List ℕ)) (d : ℕ) where
   unfolding matching planFormula
   plan-decides rows sound one = first-tells (answersFrom (found lists d) noRow [] rows) (formulasFrom noRow [] rows) one (rows-tell noRow rows sound [] [] tt)
 
-pub agrees : (v p : List ℕ) → volume.Accepted v → plan.Accepted v p → Agrees v p
+pub agrees : (v p : List ℕ) → plan.Accepted v p → Agrees v p
 unfolding plan.sizes
-agrees v p good ok = record {
+agrees v p ok = record {
   tuples = λ k d ps h. tuple-iff (listsOf v) d (patternAt p k) (some k h) ps;
   patterns = pattern;
   documents = λ d. let w = plan-decides (listsOf v) d (rowsOf p) (λ k h. iff-decides (pattern k d h)) (given v p ok .one-answer (found (listsOf v) d)) in (w .yes, decides.holds w);
@@ -211,4 +210,4 @@ agrees v p good ok = record {
     some k h i l = given v p ok .well-made k h .lists i l .0
 
     pattern : (k d : ℕ) → k < plan.sizes p .patterns → (found (listsOf v) d (patternAt p k) ≡ true) ↔ True (listsOf v) d (patternFormula (patternAt p k)) []
-    pattern k d h = pattern-iff (listsOf v) d (lists-rise v good) (patternAt p k) (some k h)
+    pattern k d h = pattern-iff (listsOf v) d (lists-rise v (given v p ok .volume-accepted)) (patternAt p k) (some k h)

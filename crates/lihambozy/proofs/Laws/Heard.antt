@@ -1,5 +1,4 @@
 -- A struct tells the answer that it was made from. No contract cites this file.
---     heard              the answer of a struct
 --     heard-refused, heard-done, heard-more     by its fields
 --     heard-flat         what is heard is what listing answers
 -- Assumes nothing.
@@ -21,13 +20,7 @@ use Rattle.search.proofs.Laws.ListFirst.{list-sound}
 use Rattle.search.proofs.Laws.Calls.{more-later}
 use Rattle.lihambozy.specs.declared.Listing.{Listing}
 use Rattle.lihambozy.specs.Flat.{flatListing}
-
--- what is next
-abbrev pub heardNext : ℕ → Next
-heardNext n = cond (eqb n limit) done (more n)
-
-abbrev pub heard : Listing → Said Page
-heard a = cond (eqb (a .refusal) 0) (answered (record { rows = a .rows; tally = a .tally; next = heardNext (a .next) })) (refused (a .refusal) (a .at))
+use Rattle.lihambozy.specs.Search.{heard}
 
 module _ (a : Listing) where
   pub heard-refused : a .refusal ≢ 0 → heard a ≡ refused (a .refusal) (a .at)
@@ -50,6 +43,6 @@ heard-flat v p start out = go (listAnswer v p start (length out)) refl
 
     go : (said : Said Page) → listAnswer v p start (length out) ≡ said → heard (flatListing said) ≡ said
     go (refused n q) e =
-        let h = list-number v p start (length out) n q (list-sound v p start (length out) .first n q e .applies) .0 in
+        let h = list-number v p start (length out) n q (list-sound v p start (length out) .first n q e .applies .1) .0 in
         heard-refused (flatListing (refused n q)) (λ z. let y : ⊥ = omega arith in y)
     go (answered page) e = next-of (page .rows) (page .tally) (page .next) e

@@ -15,7 +15,7 @@ use Rattle.seq.specs.Numbers.{sumTo}
 use Rattle.seq.proofs.Laws.Tests.{below-or}
 use Rattle.block.specs.Bytes.{IsWords}
 use Rattle.lister.specs.Text.{spaced, line, sceneWord}
-use Rattle.lister.specs.Pages.{rowLines}
+use Rattle.lister.specs.Inner.Pages.{rowLines}
 use Rattle.lister.proofs.Laws.Stored.{length-pieces}
 use Rattle.lister.proofs.Laws.Text.{length-line}
 use Rattle.lister.proofs.Laws.Decimal.{length-decimal}

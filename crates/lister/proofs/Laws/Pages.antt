@@ -1,15 +1,17 @@
--- The laws of `specs/Pages.antt`. No contract cites this file.
+-- The laws of `specs/Inner/Pages.antt`. No contract cites this file.
 --     told-only, told-done, told-more     a turn's text is stored
 --     at-done, at-more        what DONE and MORE say of a page
 --     blank, sized            a page of zeros
 --     IsTurn, is-turn         a listing call's answer and its page, as a turn
 --     width-is                the words of a row, by what the plan's check gives
 --     list-refused, turn-long, turn-short     turns with no page; a turn over a volume that is not too long
+--     told-last, told-next    the text that a turn's answer counts
+--     came-next               the turn behind one is come to with the document and the sum that the answer gives
 -- Assumes nothing.
 use Prim.Native.Nat.{ℕ, _+_, _-_, _*_, _/_, _<_, _≤_}
 use native.Mathlib.Nat.{zero-add, zero-mul, add-mul, one-mul, mul-le-mul-left, le-div-iff-mul-le}
 use native.Mathlib.Omega.{arith}
-use mathlib.Core.Path.{_≡_, refl, sym, ap, ap₂, _∙_}
+use mathlib.Core.Path.{_≡_, refl, sym, ap, ap₂, _∙_, subst}
 use mathlib.Core.List.{List, [], _∷_, _++_, append-assoc}
 use lib.ListN.{length, take, drop, replicate, length-replicate}
 use lib.Seq.{take-at}
@@ -33,9 +35,9 @@ use Rattle.lister.specs.declared.pages.Paged.{Paged}
 use Rattle.lister.specs.declared.pages.Paged.the-variants.{Last, More}
 use Rattle.lister.specs.Text.{line, sceneWord, doneWord, refusedWord, tooLong}
 use Rattle.lister.specs.Printed.{planWords, docLines}
-use Rattle.lister.specs.Turns.{turnOf, only, upTo, turnBy, pageWords, listTurn, turnAt}
-use Rattle.lister.specs.Stored.{Stored}
-use Rattle.lister.specs.Pages.{rowLines, pageTurn, rowsIn, pagedOf, textRoom, Told, Adds, Ahead}
+use Rattle.lister.specs.Turns.{Turn, turnOf, only, upTo, turnBy, pageWords, listTurn, turnAt, Came, andTurn}
+use Rattle.lister.specs.Inner.Stored.{put, Stored}
+use Rattle.lister.specs.Inner.Pages.{rowLines, pageTurn, rowsIn, pagedBy, pagedOf, textRoom, Told, Adds, Ahead}
 use Rattle.lister.proofs.Laws.Stored.{stored-more, stored-front}
 
 module _ {out out′ : List ℕ} {end : ℕ} where
@@ -183,3 +185,36 @@ turn-long v b from tally h = rw (lt-ltb 65536 (length v) h)
 pub turn-short : (v b : List ℕ) (from tally : ℕ) → length v ≤ 65536 → turnAt v b from tally ≡ listTurn v (planWords b) from tally
 unfolding turnAt
 turn-short v b from tally h = rw (le-ltb 65536 (length v) h)
+
+-- what is stored at the front of a buffer
+front-is : (out xs : List ℕ) → take (length xs) (put out 0 xs) ≡ xs
+unfolding put
+front-is out xs = take-at xs (drop (0 + length xs) out) (length xs) refl
+
+-- what a turn's answer says of its text and of the next turn
+paged-last : (n k tally : ℕ) (next : Next) → Last n ≡ pagedBy k tally next → n ≡ k
+paged-last n k tally done e = cc
+paged-last n k tally (more t) e = absurd (let z : _≡_ {A = ℕ} 0 1 = cc in let y : ⊥ = omega arith in y)
+
+paged-more : (n t sum k tally : ℕ) (next : Next) → More n t sum ≡ pagedBy k tally next → (n ≡ k) × ((next ≡ more t) × (tally ≡ sum))
+paged-more n t sum k tally done e = absurd (let z : _≡_ {A = ℕ} 0 1 = cc in let y : ⊥ = omega arith in y)
+paged-more n t sum k tally (more u) e = (cc, (let q : u ≡ t = cc in ap more q, cc))
+
+module _ {turn : Turn} {out out′ : List ℕ} {r : Paged} (told : Told turn out out′ r) where
+  -- the first bytes of the buffer, as many as the answer says, are the turn's text
+  text-is : (n : ℕ) → n ≡ length (turn .text) → take n out′ ≡ turn .text
+  text-is n e = rw (e, told .laid) (front-is out (turn .text))
+
+  pub told-last : (n : ℕ) → r ≡ Last n → take n out′ ≡ turn .text
+  told-last n e = text-is n (paged-last n (length (turn .text)) (turn .tally) (turn .next) (sym e ∙ told .answer))
+
+  pub told-next : (n t sum : ℕ) → r ≡ More n t sum → (take n out′ ≡ turn .text) × ((turn .next ≡ more t) × (turn .tally ≡ sum))
+  told-next n t sum e =
+      let q = paged-more n t sum (length (turn .text)) (turn .tally) (turn .next) (sym e ∙ told .answer) in
+      (text-is n (q .0), q .1)
+
+pub came-next : (v b texts : List ℕ) (from tally : ℕ) {out out′ : List ℕ} {r : Paged} → Came v b texts from tally → Told (turnAt v b from tally) out out′ r
+    → (n t sum : ℕ) → r ≡ More n t sum → Came v b (texts ++ turnAt v b from tally .text) t sum
+came-next v b texts from tally c told n t sum e =
+    let q = told-next told n t sum e in
+    subst (λ (k : ℕ). Came v b (texts ++ turnAt v b from tally .text) t k) (q .1 .1) (andTurn texts from tally t c (q .1 .0))

@@ -1,4 +1,4 @@
--- The laws of `specs/Stored.antt`: what is stored piece by piece. No contract cites this file.
+-- The laws of `specs/Inner/Stored.antt`: what is stored piece by piece. No contract cites this file.
 --     stored-none, stored-one, stored-more     nothing is stored, one element, and more behind it
 --     stored-front                 what is stored at the front of a buffer
 --     length-pieces, pieces-room, pieces-more     pieces g 0, g 1, .. are stored one behind the other
@@ -16,7 +16,7 @@ use Rattle.seq.specs.Numbers.{run, sumTo}
 use Rattle.seq.proofs.Laws.Lists.{joined-append}
 use Rattle.seq.proofs.Laws.Numbers.{run-snoc, sum-within}
 use Rattle.seq.proofs.Laws.Stores.{drop-past}
-use Rattle.lister.specs.Stored.{put, Stored}
+use Rattle.lister.specs.Inner.Stored.{put, Stored}
 
 module _ (out : List ℕ) (at : ℕ) (xs : List ℕ) (room : at + length xs ≤ length out) where
   front : length (take at out ++ xs) ≡ at + length xs

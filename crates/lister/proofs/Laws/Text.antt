@@ -12,7 +12,7 @@ use Rattle.seq.specs.Numbers.{run}
 use Rattle.seq.proofs.Laws.Lists.{length-snoc}
 use Rattle.seq.proofs.Laws.Runs.{map-run, run-getD}
 use Rattle.lister.specs.Text.{spaced, newline, line}
-use Rattle.lister.specs.Stored.{Stored}
+use Rattle.lister.specs.Inner.Stored.{Stored}
 use Rattle.lister.proofs.Laws.Stored.{stored-more}
 
 -- numbers, as pieces

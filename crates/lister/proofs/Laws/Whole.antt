@@ -1,11 +1,13 @@
 -- The texts of all turns are what is printed, and the bytes read of the two files are enough. No contract cites this file.
 --     turns-rest     the turns from a document on print what is left from there on
---     whole          all turns print the whole
+--     all-turns      all turns print the whole
+--     Along, along   turns that have come to a document over an accepted plan: the sum, and the lines so far
+--     whole          what turns have printed and what is still to come are together the whole
 --     seen           what is printed is known from the front of each file
 -- Assumes nothing.
 use Prim.Native.Nat.{ℕ, zero, suc, _+_, _-_, _/_, _<_, _≤_}
 use native.Mathlib.Omega.{arith}
-use mathlib.Core.Path.{_≡_, refl, sym, ap, _∙_}
+use mathlib.Core.Path.{_≡_, refl, sym, ap, ap₂, _∙_}
 use mathlib.Core.Logic.{⊎-elim}
 use mathlib.Core.List.{List, [], _∷_, _++_, map, map-append, append-assoc, append-nil}
 use lib.ListN.{length, take, length-take}
@@ -23,12 +25,12 @@ use Rattle.fulltext.specs.Positions.{limit}
 use Rattle.fulltext.specs.Documents.{Work, docsIn, work}
 use Rattle.search.specs.Answers.{Next, done, more, Page}
 use Rattle.search.specs.Listing.{pageOf, listAnswer}
-use Rattle.fulltext.proofs.Laws.Docs.{docs-parts}
+use Rattle.fulltext.proofs.Laws.Docs.{docs-parts, docs-empty}
 use Rattle.fulltext.proofs.Laws.Counts.{work-add, work-none}
 use Rattle.search.proofs.Laws.Listing.{accepted-answer}
 use Rattle.lister.specs.Text.{line, sceneWord, doneWord, refusedWord, tooLong}
 use Rattle.lister.specs.Printed.{planWords, docLines, listing, printed}
-use Rattle.lister.specs.Turns.{Turn, turnOf, only, upTo, turnBy, listTurn, turnAt, onward, textFrom}
+use Rattle.lister.specs.Turns.{Turn, turnOf, only, upTo, turnBy, listTurn, turnAt, onward, textFrom, Came, atStart, andTurn}
 use Rattle.lister.proofs.Laws.Files.{words-long}
 use Rattle.lister.proofs.Laws.Pages.{blank, sized, at-done, at-more, width-is, list-refused, turn-long, turn-short}
 
@@ -49,11 +51,11 @@ restFrom w d = docLines w (docsIn w d limit) ++ line doneWord (w .postings 0 lim
 
 -- the texts of a turn and of those behind it
 abbrev andThen : Turn → (ℕ → ℕ → List ℕ) → List ℕ
-andThen turn rest = turn .text ++ onward (turn .next) (λ next. rest next (turn .tally))
+andThen t rest = t .text ++ onward (t .next) (λ next. rest next (t .tally))
 
-text-step : (v b : List ℕ) (n from tally : ℕ) (turn : Turn) → turnAt v b from tally ≡ turn → textFrom v b (suc n) from tally ≡ andThen turn (textFrom v b n)
+text-step : (v b : List ℕ) (n from tally : ℕ) (t : Turn) → turnAt v b from tally ≡ t → textFrom v b (suc n) from tally ≡ andThen t (textFrom v b n)
 unfolding textFrom
-text-step v b n from tally turn e = ap (λ (t : Turn). andThen t (textFrom v b n)) e
+text-step v b n from tally t e = ap (λ (t : Turn). andThen t (textFrom v b n)) e
 
 -- a turn with nothing behind it
 text-only : (v b : List ℕ) (n from tally : ℕ) (text : List ℕ) → turnAt v b from tally ≡ only text tally → textFrom v b (suc n) from tally ≡ text
@@ -120,8 +122,8 @@ unfolding printed
 printed-long v b h = rw (lt-ltb 65536 (length v) h)
 
 -- all turns print the whole
-pub whole : (v b : List ℕ) → textFrom v b limit 0 0 ≡ printed v b
-whole v b =
+all-turns : (v b : List ℕ) → textFrom v b limit 0 0 ≡ printed v b
+all-turns v b =
     ⊎-elim
     (λ h. text-only v b 65535 0 0 tooLong (turn-long v b 0 0 h) ∙ sym (printed-long v b h))
     (λ h. by-verdict h (verdict v (planWords b)) refl)
@@ -133,6 +135,83 @@ whole v b =
         ∙ sym (printed-short v b (refused n q) h e)
     by-verdict h (answered s) e =
         turns-rest v b h (e ∙ ap answered (verdict-sizes v (planWords b) s e)) limit 0 0 (omega arith) (omega arith) (sym (work-none v (planWords b) 0))
+        ∙ sym (printed-short v b (answered s) h e)
+
+-- the turn that has another behind it
+next-is : (lines : List ℕ) (sum : ℕ) (next : Next) → turnOf lines sum next .next ≡ next
+next-is lines sum done = refl
+next-is lines sum (more t) = refl
+
+not-more : (t : ℕ) → done ≡ more t → ⊥
+not-more t e = let z : _≡_ {A = ℕ} 0 1 = cc in omega arith
+
+lines-none : (w : Work) (d : ℕ) → docLines w (docsIn w d d) ≡ []
+unfolding docLines joined
+lines-none w d = ap (docLines w) (docs-empty w d)
+
+-- turns that have come to document `from` over an accepted plan
+record Along (v b texts : List ℕ) (from tally : ℕ) : Type 0 where
+  low : from < limit
+  sums : tally ≡ workAt v b .postings 0 from
+  lines : texts ≡ docLines (workAt v b) (docsIn (workAt v b) 0 from)
+
+module _ (v b : List ℕ) (short : length v ≤ 65536) (ok : Accepted v (planWords b)) where
+  -- one turn more
+  along-next : (texts : List ℕ) (from tally next : ℕ) → Along v b texts from tally → turnAt v b from tally .next ≡ more next
+      → Along v b (texts ++ turnAt v b from tally .text) next (turnAt v b from tally .tally)
+  along-next texts from tally next a e =
+      let later = at-more v (planWords b) from blank page answer next is-more in
+      let m : from < next = later .later in
+      record {
+        low = later .below;
+        sums = ap (λ (t : Turn). t .tally) turn-is ∙ sum v b from tally 0 (a .sums) next (page .tally) (omega arith) (later .postings);
+        lines =
+            ap₂ (λ (xs ys : List ℕ). xs ++ ys) (a .lines) (ap (λ (t : Turn). t .text) turn-is)
+            ∙ sym (lines-append (workAt v b) (docsIn (workAt v b) 0 from) (docsIn (workAt v b) from next))
+            ∙ ap (docLines (workAt v b)) (sym (docs-parts (workAt v b) 0 from next (omega arith) (omega arith)));
+      }
+    where
+      page : Page
+      page = page-answered v (planWords b) ok from (a .low) .0
+
+      answer : listAnswer v (planWords b) from (length blank) ≡ answered page
+      answer = page-answered v (planWords b) ok from (a .low) .1
+
+      lined : turnAt v b from tally ≡ turnOf (docLines (workAt v b) (docsIn (workAt v b) from (upTo (page .next)))) (tally + page .tally) (page .next)
+      lined = turn-answered v b from tally page short answer
+
+      is-more : page .next ≡ more next
+      is-more = sym (next-is _ _ (page .next)) ∙ sym (ap (λ (t : Turn). t .next) lined) ∙ e
+
+      turn-is : turnAt v b from tally ≡ turnOf (docLines (workAt v b) (docsIn (workAt v b) from next)) (tally + page .tally) (more next)
+      turn-is = lined ∙ ap (λ (x : Next). turnOf (docLines (workAt v b) (docsIn (workAt v b) from (upTo x))) (tally + page .tally) x) is-more
+
+  along : (texts : List ℕ) (from tally : ℕ) → Came v b texts from tally → Along v b texts from tally
+  along texts from tally atStart = record { low = omega arith; sums = sym (work-none v (planWords b) 0); lines = sym (lines-none (workAt v b) 0) }
+  along texts from tally (andTurn ts f s next c e) = along-next ts f s next (along ts f s c) e
+
+-- where no turn has another behind it there is the first alone
+alone : (v b : List ℕ) → ((from tally : ℕ) → turnAt v b from tally .next ≡ done) → (texts : List ℕ) (from tally : ℕ) → Came v b texts from tally
+    → texts ++ textFrom v b limit from tally ≡ textFrom v b limit 0 0
+alone v b none texts from tally atStart = refl
+alone v b none texts from tally (andTurn ts f s next c e) = absurd (not-more next (sym (none f s) ∙ e))
+
+pub whole : (v b texts : List ℕ) (from tally : ℕ) → Came v b texts from tally → texts ++ textFrom v b limit from tally ≡ printed v b
+whole v b texts from tally c =
+    ⊎-elim
+    (λ h. alone v b (λ f s. ap (λ (t : Turn). t .next) (turn-long v b f s h)) texts from tally c ∙ all-turns v b)
+    (λ h. by-verdict h (verdict v (planWords b)) refl)
+    (below-or 65536 (length v))
+  where
+    by-verdict : length v ≤ 65536 → (said : Said Sizes) → verdict v (planWords b) ≡ said → texts ++ textFrom v b limit from tally ≡ printed v b
+    by-verdict h (refused n q) e =
+        alone v b (λ f s. ap (λ (t : Turn). t .next) (turn-short v b f s h ∙ list-refused v (planWords b) f s n q e)) texts from tally c ∙ all-turns v b
+    by-verdict h (answered s) e =
+        let ok : Accepted v (planWords b) = e ∙ ap answered (verdict-sizes v (planWords b) s e) in
+        let a = along v b h ok texts from tally c in
+        let l : from < limit = a .low in
+        ap₂ (λ (xs ys : List ℕ). xs ++ ys) (a .lines) (turns-rest v b h ok limit from tally l (omega arith) (a .sums))
+        ∙ parts v b 0 0 0 (sym (work-none v (planWords b) 0)) from (omega arith) (omega arith)
         ∙ sym (printed-short v b (answered s) h e)
 
 -- a plan file is known from its first 1,025 bytes

@@ -18,7 +18,7 @@ use Rattle.seq.specs.Numbers.{sumTo}
 use Rattle.seq.proofs.Laws.Numbers.{first-ge, first-le, first-at, first-before}
 use Rattle.seq.proofs.Laws.Tests.{below-or}
 use Rattle.volume.specs.Layout.{word}
-use Rattle.volume.specs.Below.{belowOf, belowCount}
+use Rattle.volume.specs.Inner.Below.{belowOf, belowCount}
 use Rattle.matcher.specs.declared.cursor.Cursor.{Cursor}
 use Rattle.matcher.specs.Cursors.{seekFrom, Stretch, sought, Forward}
 

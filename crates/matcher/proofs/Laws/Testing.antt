@@ -27,8 +27,9 @@ use Rattle.seq.proofs.Laws.Tests.{below-or, true-or, contrary}
 use Rattle.seq.proofs.Laws.Decides as decides
 use Rattle.seq.proofs.Laws.Decides.{Decides, eqb-decides}
 use Rattle.seq.proofs.Laws.Lists.{all-each}
-use Rattle.volume.specs.declared.reading.Span.{Span}
-use Rattle.volume.specs.Layout.{streamLength, word, listCount, start, listsOf, spanOf}
+use Rattle.volume.specs.declared.layout.Span.{Span}
+use Rattle.volume.specs.Layout.{streamLength, word, listCount, start, listsOf}
+use Rattle.volume.specs.Inner.Places.{spanOf}
 use Rattle.volume.specs.Check as volume
 use Rattle.volume.proofs.Laws.Check.{good}
 use Rattle.plan.specs.declared.row.Predicate.{Predicate}

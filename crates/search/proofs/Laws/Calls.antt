@@ -1,5 +1,6 @@
 -- One call of a search: the three ways in which it may go, and what follows of its answer. No contract cites this file.
 --     Went, went                the buffer is too short; all that remain are written; as many as fit
+--     heardCall, heard-kept     a call of any form, as what it says
 --     answers                   the call answers as it must
 --     more-later, done-all      what MORE and DONE say, and the buffer afterwards
 -- Assumes nothing.
@@ -20,7 +21,7 @@ use Rattle.fulltext.specs.Positions.{limit}
 use Rattle.fulltext.specs.Documents.{Work, docsIn, rowsOfDocs, work}
 use Rattle.search.specs.Answers.{Next, done, more, Page}
 use Rattle.search.specs.Listing.{rowsFrom, listAnswer, listOut}
-use Rattle.search.specs.Search.{Call, Kept, room, Answers}
+use Rattle.search.specs.Search.{Form, Call, Kept, KeptAs, room, Answers}
 use Rattle.fulltext.proofs.Laws.Docs.{IsAt, docs-at, at-front, at-later, length-rows}
 use Rattle.search.proofs.Laws.Pages.{page-done, rows-done, page-more, rows-more}
 use Rattle.fulltext.proofs.Laws.Counts.{work-even, work-wide}
@@ -34,7 +35,7 @@ abbrev morePage : Work → ℕ → ℕ → ℕ → Page
 morePage w s n t = record { rows = n; tally = w .postings s t; next = more t }
 
 -- how a call from document s on went
-pub data Went (w : Work) (s : ℕ) (c : Call) : Type 0 where
+pub data Went (w : Work) (s : ℕ) (c : Call (Said Page)) : Type 0 where
   short : length (c .lent) < w .width → c .says ≡ refused 16 0 → c .back ≡ c .lent → Went w s c
   whole : w .width ≤ length (c .lent) → length (docsIn w s limit) ≤ room w c → c .says ≡ answered (donePage w s (length (docsIn w s limit)))
       → take (length (docsIn w s limit) * w .width) (c .back) ≡ rowsOfDocs w (docsIn w s limit) → Went w s c
@@ -42,7 +43,7 @@ pub data Went (w : Work) (s : ℕ) (c : Call) : Type 0 where
       → c .says ≡ answered (morePage w s (room w c) t) → take (room w c * w .width) (c .back) ≡ rowsOfDocs w (docsIn w s t) → Went w s c
 
 -- a call that keeps the listing call's promise goes in one of these ways
-pub went : (v p : List ℕ) → plan.Accepted v p → (s : ℕ) (c : Call) → s < limit → Kept v p s c → Went (work v p) s c
+pub went : (v p : List ℕ) → plan.Accepted v p → (s : ℕ) (c : Call (Said Page)) → s < limit → Kept v p s c → Went (work v p) s c
 went v p ok s c h k =
     ⊎-elim (λ (l : length (c .lent) < work v p .width). let a = list-short v p s (c .lent) (plan.sizes p) ok (omega arith) l in short l (k .0 ∙ a .0) (k .1 ∙ a .1))
     fitting
@@ -91,32 +92,41 @@ not-more t e = let z : _≡_ {A = ℕ} 0 1 = cc in omega arith
 same-more : (t u : ℕ) → more t ≡ more u → t ≡ u
 same-more t u e = cc
 
--- each way answers as a call of a search must
-pub answers : (w : Work) (s : ℕ) (c : Call) → s < limit → Went w s c → Answers w s c
-answers w s c h (short l e b) = record {
-  starts = h;
-  short = (λ x. l, λ x. (16, 0, e));
-  sixteen = λ n q x. let y : _≡_ {A = Said Page} (refused 16 0) (refused n q) = sym e ∙ x in (cc, (cc, b));
-  says-more = λ t. (λ x. absurd (not-both (c .says) _ 16 0 (x .2) e), λ x. let y : w .width ≤ length (c .lent) = x .0 in absurd (omega arith));
-  says-done = (λ x. absurd (not-both (c .says) _ 16 0 (x .2) e), λ x. let y : w .width ≤ length (c .lent) = x .0 in absurd (omega arith));
-}
-answers w s c h (whole l x e f) = record {
-  starts = h;
-  short = (λ y. absurd (not-both (c .says) _ (y .0) (y .1) e (y .2)), λ y. absurd (omega arith));
-  sixteen = λ n q y. absurd (not-both (c .says) _ n q e y);
-  says-more = λ t. (λ y. absurd (not-more t (next-is (c .says) _ _ e (y .2))), λ y. let z : room w c < length (docsIn w s limit) = y .1 .0 in absurd (omega arith));
-  says-done = (λ y. (l, x), λ y. (length (docsIn w s limit), w .postings s limit, e));
-}
-answers w s c h (part t l x q i e f) = record {
-  starts = h;
-  short = (λ y. absurd (not-both (c .says) _ (y .0) (y .1) e (y .2)), λ y. absurd (omega arith));
-  sixteen = λ n r y. absurd (not-both (c .says) _ n r e y);
-  says-more = λ u. (
-    λ y. (l, (x, q ∙ same-more t u (next-is (c .says) _ _ e (y .2)))),
-    λ y. (room w c, w .postings s t, e ∙ ap (λ (k : ℕ). answered (record { rows = room w c; tally = w .postings s t; next = more k })) (sym q ∙ y .1 .1)),
-  );
-  says-done = (λ y. absurd (not-more t (sym (next-is (c .says) _ _ e (y .2)))), λ y. let z : length (docsIn w s limit) ≤ room w c = y .1 in absurd (omega arith));
-}
+module _ {A : Type 0} (form : Form A) where
+  -- a call as what it says
+  abbrev pub heardCall : Call A → Call (Said Page)
+  heardCall c = record { lent = c .lent; says = form .said (c .says); back = c .back }
+
+  -- a call that keeps its promise says what listing answers, if its form tells that
+  pub heard-kept : (v p : List ℕ) (s : ℕ) (c : Call A) → form .said (form .make (listAnswer v p s (length (c .lent)))) ≡ listAnswer v p s (length (c .lent)) → KeptAs form v p s c → Kept v p s (heardCall c)
+  heard-kept v p s c back k = (ap (form .said) (k .0) ∙ back, k .1)
+
+  -- each way answers as a call of a search must
+  pub answers : (w : Work) (s : ℕ) (c : Call A) → s < limit → c .says ≡ form .make (form .said (c .says)) → Went w s (heardCall c) → Answers form w s c
+  answers w s c h m (short l e b) = record {
+    starts = h;
+    short = (λ x. l, λ x. (16, 0, e));
+    sixteen = λ x. (m ∙ ap (form .make) e, b);
+    says-more = λ t. (λ x. absurd (not-both (form .said (c .says)) _ 16 0 (x .2) e), λ x. let y : w .width ≤ length (c .lent) = x .0 in absurd (omega arith));
+    says-done = (λ x. absurd (not-both (form .said (c .says)) _ 16 0 (x .2) e), λ x. let y : w .width ≤ length (c .lent) = x .0 in absurd (omega arith));
+  }
+  answers w s c h m (whole l x e f) = record {
+    starts = h;
+    short = (λ y. absurd (not-both (form .said (c .says)) _ (y .0) (y .1) e (y .2)), λ y. absurd (omega arith));
+    sixteen = λ y. absurd (not-both (form .said (c .says)) _ (y .0) (y .1) e (y .2));
+    says-more = λ t. (λ y. absurd (not-more t (next-is (form .said (c .says)) _ _ e (y .2))), λ y. let z : room w c < length (docsIn w s limit) = y .1 .0 in absurd (omega arith));
+    says-done = (λ y. (l, x), λ y. (length (docsIn w s limit), w .postings s limit, e));
+  }
+  answers w s c h m (part t l x q i e f) = record {
+    starts = h;
+    short = (λ y. absurd (not-both (form .said (c .says)) _ (y .0) (y .1) e (y .2)), λ y. absurd (omega arith));
+    sixteen = λ y. absurd (not-both (form .said (c .says)) _ (y .0) (y .1) e (y .2));
+    says-more = λ u. (
+      λ y. (l, (x, q ∙ same-more t u (next-is (form .said (c .says)) _ _ e (y .2)))),
+      λ y. (room w c, w .postings s t, e ∙ ap (λ (k : ℕ). answered (record { rows = room w c; tally = w .postings s t; next = more k })) (sym q ∙ y .1 .1)),
+    );
+    says-done = (λ y. absurd (not-more t (sym (next-is (form .said (c .says)) _ _ e (y .2)))), λ y. let z : length (docsIn w s limit) ≤ room w c = y .1 in absurd (omega arith));
+  }
 
 -- a call that says MORE t: t is true, behind `start`, and the rows are those of the true documents in front of it
 pub record Later (w : Work) (start : ℕ) (out back : List ℕ) (n tally t : ℕ) : Type 0 where
@@ -137,7 +147,7 @@ pub record All (w : Work) (start : ℕ) (out back : List ℕ) (n tally : ℕ) : 
 
 module _ (v p : List ℕ) (start : ℕ) (out : List ℕ) (n tally : ℕ) where
   -- the call as it was made
-  abbrev made : Next → Call
+  abbrev made : Next → Call (Said Page)
   made next = record { lent = out; says = answered (record { rows = n; tally = tally; next = next }); back = listOut v p start out }
 
   how : (next : Next) → listAnswer v p start (length out) ≡ answered (record { rows = n; tally = tally; next = next }) → Went (work v p) start (made next)

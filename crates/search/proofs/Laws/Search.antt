@@ -1,115 +1,159 @@
 -- Every search, whole: the theorem of demand 3. No contract cites this file.
 --     From         what holds of the calls of a search from document s on
 --     from-search  it holds of all
---     searched     what holds of every search over an accepted volume and plan
+--     searched     what holds of every search over an accepted volume and plan, in every form of answer that tells what listing answers
 -- Assumes nothing.
-use Prim.Native.Nat.{ℕ, _+_, _*_, _<_, _≤_, max}
+use Prim.Native.Nat.{ℕ, suc, _+_, _*_, _<_, _≤_, max}
 use native.Mathlib.Nat.{le-div-iff-mul-le, one-mul, add-zero}
 use native.Mathlib.Omega.{arith}
 use mathlib.Core.Path.{_≡_, refl, sym, ap, ap₂, _∙_, subst}
+use mathlib.Core.Bool.{Bool, true}
 use mathlib.Core.List.{List, [], _∷_, _++_, append-nil}
 use lib.ListN.{length, take, length-append}
-use lib.Dec.{leb}
-use borrow.Author.Tests.{le-leb, lt-leb}
+use Rattle.seq.specs.Lists.{keep}
 use Rattle.seq.specs.Refusals.{Said, refused, answered}
-use Rattle.seq.proofs.Laws.Keep.{keep-pass, keep-fail, keep-le}
+use Rattle.seq.proofs.Laws.Keep.{keep-pass, keep-fail}
 use Rattle.plan.specs.Check as plan
 use Rattle.fulltext.specs.Positions.{limit}
 use Rattle.fulltext.specs.Documents.{Work, docsIn, rowsOfDocs, work}
 use Rattle.search.specs.Answers.{Page, done, more}
-use Rattle.search.specs.Search.{Call, Then, IsSearch, Outcome, outcomeFrom, follow, outcome, room, EachAnswers, unrefused, Searched}
+use Rattle.search.specs.Listing.{listAnswer}
+use Rattle.search.specs.Search.{Form, Call, Then, IsSearch, Outcome, outcomeFrom, follow, outcome, room, SaysDone, EachAnswers, isAnswered, unrefused, Searched}
 use Rattle.fulltext.proofs.Laws.Docs.{docs-parts, docs-here, docs-empty, rows-none, rows-append, at-front}
 use Rattle.fulltext.proofs.Laws.Counts.{work-wide, work-add, work-none}
-use Rattle.search.proofs.Laws.Calls.{Went, short, whole, part, went, answers}
+use Rattle.search.proofs.Laws.Calls.{Went, short, whole, part, went, heardCall, heard-kept, answers}
 
--- calls from document s on that come to an outcome
-pub record From (w : Work) (s : ℕ) (calls : List Call) (o : Outcome) : Type 0 where
-  pub above : s ≤ o .reached
-  pub below : o .reached ≤ limit
-  pub rows : o .rows ≡ rowsOfDocs w (docsIn w s (o .reached))
-  pub tally : o .tally ≡ w .postings s (o .reached)
-  pub each : EachAnswers w s calls
-  pub closes : max 1 (length (docsIn w s limit)) ≤ length (unrefused w calls) → o .reached ≡ limit
+-- a part of a list that has no element, or one more
+nothing-in : {A : Type 0} (front rest : List A) (c : A) → [] ≡ front ++ (c ∷ rest) → ⊥
+nothing-in front rest c e = let a = ap length e in let b = length-append front (c ∷ rest) in omega arith
 
-module _ (v p : List ℕ) (ok : plan.Accepted v p) where
-  -- what calls from document s on come to
-  abbrev comesTo : ℕ → List Call → Outcome
-  comesTo s calls = outcomeFrom (work v p .width) s calls
+same-head : {A : Type 0} (x y : A) (xs ys : List A) → x ∷ xs ≡ y ∷ ys → x ≡ y
+same-head x y xs ys e = cc
 
-  -- by what the first call says
-  told : (c : Call) (cs : List Call) (s : ℕ) (said : Said Page) → c .says ≡ said → From (work v p) s (c ∷ cs) (follow (work v p .width) s said (c .back) (λ next. comesTo next cs)) → From (work v p) s (c ∷ cs) (comesTo s (c ∷ cs))
-  told c cs s said e f =
-      subst (λ (o : Outcome). From (work v p) s (c ∷ cs) o) (sym (ap (λ (x : Said Page). follow (work v p .width) s x (c .back) (λ next. comesTo next cs)) e)) f
+same-tail : {A : Type 0} (x y : A) (xs ys : List A) → x ∷ xs ≡ y ∷ ys → xs ≡ ys
+same-tail x y xs ys e = cc
 
-  -- one call, and those behind it
-  one-more : (c : Call) (cs : List Call) → ((t : ℕ) → t < limit → IsSearch v p t cs → From (work v p) t cs (comesTo t cs))
-      → (s : ℕ) → s < limit → Then s (c .says) (λ next. IsSearch v p next cs) (cs ≡ []) → Went (work v p) s c → From (work v p) s (c ∷ cs) (comesTo s (c ∷ cs))
-  one-more c cs rest s h k (short l e b) =
-      let f = rest s h (rw e at k) in
-      told c cs s (refused 16 0) e
-      (record {
-        above = f .above;
-        below = f .below;
-        rows = f .rows;
-        tally = f .tally;
-        each = (answers (work v p) s c h (short l e b), rw e (f .each));
-        closes = λ g. f .closes (rw (keep-fail (λ (d : Call). leb (work v p .width) (length (d .lent))) c cs (lt-leb (work v p .width) (length (c .lent)) l)) at g);
-      })
-  one-more c cs rest s h k (whole l x e f) =
-      told c cs s (answered (record { rows = length (docsIn (work v p) s limit); tally = work v p .postings s limit; next = done })) e
-      (record {
-        above = omega arith;
-        below = omega arith;
-        rows = append-nil (take (length (docsIn (work v p) s limit) * work v p .width) (c .back)) ∙ f;
-        tally = add-zero (work v p .postings s limit);
-        each = (answers (work v p) s c h (whole l x e f), rw e (rw e at k));
-        closes = λ g. refl;
-      })
-  one-more c cs rest s h k (part t l x q i e f) =
-      told c cs s (answered (record { rows = room (work v p) c; tally = work v p .postings s t; next = more t })) e
-      (record {
-        above = let a = r .above in omega (arith, i .from);
-        below = r .below;
-        rows =
-            ap₂ (λ (xs ys : List ℕ). xs ++ ys) f (r .rows) ∙ sym (rows-append (work v p) (docsIn (work v p) s t) (docsIn (work v p) t (comesTo t cs .reached)))
-            ∙ ap (rowsOfDocs (work v p)) (sym (docs-parts (work v p) s t (comesTo t cs .reached) (i .from) (r .above)));
-        tally = ap (λ (n : ℕ). work v p .postings s t + n) (r .tally) ∙ work-add v p s t (comesTo t cs .reached) (i .from) (r .above);
-        each = (answers (work v p) s c h (part t l x q i e f), rw e (r .each));
-        closes = λ g. r .closes (omega (arith, some-row, there, remain, one-less g));
-      })
+module _ {A : Type 0} (form : Form A) where
+  -- a call that stands behind at least so many that are not refused, or is the first of these
+  abbrev Closes : ℕ → List (Call A) → ℕ → Type 0
+  Closes k calls reached = (front rest : List (Call A)) (c : Call A) → unrefused form calls ≡ front ++ (c ∷ rest) → max 1 k ≤ length front + 1 → SaysDone form c × (reached ≡ limit)
+
+  -- calls from document s on that come to an outcome
+  pub record From (w : Work) (s : ℕ) (calls : List (Call A)) (o : Outcome) : Type 0 where
+    pub above : s ≤ o .reached
+    pub below : o .reached ≤ limit
+    pub rows : o .rows ≡ rowsOfDocs w (docsIn w s (o .reached))
+    pub tally : o .tally ≡ w .postings s (o .reached)
+    pub each : EachAnswers form w s calls
+    pub closes : Closes (length (docsIn w s limit)) calls (o .reached)
+
+  -- the test of `unrefused`
+  abbrev fits : Call A → Bool
+  fits d = isAnswered (form .said (d .says))
+
+  none-unrefused : unrefused form [] ≡ []
+  unfolding keep
+  none-unrefused = refl
+
+  -- the last call says DONE
+  closes-last : (k reached : ℕ) (c : Call A) (cs : List (Call A)) → cs ≡ [] → fits c ≡ true → SaysDone form c → reached ≡ limit → Closes k (c ∷ cs) reached
+  closes-last k reached c cs none fit says is-limit front rest d e l = go front (sym (keep-pass fits c cs fit) ∙ e)
     where
-      r : From (work v p) t cs (comesTo t cs)
-      r = rest t (i .below) (rw e at k)
+      empty : unrefused form cs ≡ []
+      empty = ap (unrefused form) none ∙ none-unrefused
 
-      some-row : 1 ≤ room (work v p) c
-      some-row = le-div-iff-mul-le (work-wide v p) .1 (rw (one-mul (work v p .width)) l)
+      go : (xs : List (Call A)) → c ∷ unrefused form cs ≡ xs ++ (d ∷ rest) → SaysDone form d × (reached ≡ limit)
+      go [] q = (subst (SaysDone form) (same-head c d (unrefused form cs) rest q) says, is-limit)
+      go (x ∷ xs) q = absurd (nothing-in xs rest d (sym empty ∙ same-tail c x (unrefused form cs) (xs ++ (d ∷ rest)) q))
 
-      -- t is among those that remain, and the rows took at least one
-      there : 1 ≤ length (docsIn (work v p) t limit)
-      there = let a = ap length (docs-here (work v p) t limit (i .below) (i .is-true)) in omega arith
-
-      remain : length (docsIn (work v p) s limit) ≡ room (work v p) c + length (docsIn (work v p) t limit)
-      remain =
-          let a = i .below in
-          ap length (docs-parts (work v p) s t limit (i .from) (omega arith)) ∙ length-append (docsIn (work v p) s t) (docsIn (work v p) t limit)
-          ∙ ap (λ (n : ℕ). n + length (docsIn (work v p) t limit)) (at-front (work v p) s limit (room (work v p) c) t x i)
-
-      one-less : max 1 (length (docsIn (work v p) s limit)) ≤ length (unrefused (work v p) (c ∷ cs)) → max 1 (length (docsIn (work v p) s limit)) ≤ 1 + length (unrefused (work v p) cs)
-      one-less g = let a = ap length (keep-pass (λ (d : Call). leb (work v p .width) (length (d .lent))) c cs (le-leb (work v p .width) (length (c .lent)) l)) in omega arith
-
-  pub from-search : (calls : List Call) (s : ℕ) → s < limit → IsSearch v p s calls → From (work v p) s calls (comesTo s calls)
-  from-search [] s h k = record {
-    above = omega arith;
-    below = omega arith;
-    rows = sym (ap (rowsOfDocs (work v p)) (docs-empty (work v p) s) ∙ rows-none (work v p));
-    tally = sym (work-none v p s);
-    each = tt;
-    closes = λ g. absurd (none-left g);
-  }
+  -- one call is taken from those that remain, and at least one document from those that are true
+  closes-next : (k m reached : ℕ) (c : Call A) (cs : List (Call A)) → fits c ≡ true → max 1 m + 1 ≤ k → Closes m cs reached → Closes k (c ∷ cs) reached
+  closes-next k m reached c cs fit less rest-closes front rest d e l = go front l (sym (keep-pass fits c cs fit) ∙ e)
     where
-      none-left : max 1 (length (docsIn (work v p) s limit)) ≤ length (unrefused (work v p) []) → ⊥
-      none-left g = let a : length (unrefused (work v p) []) ≤ 0 = keep-le (λ (d : Call). leb (work v p .width) (length (d .lent))) [] in omega arith
-  from-search (c ∷ cs) s h k = one-more c cs (λ t l i. from-search cs t l i) s h (k .1) (went v p ok s c h (k .0))
+      go : (xs : List (Call A)) → max 1 k ≤ length xs + 1 → c ∷ unrefused form cs ≡ xs ++ (d ∷ rest) → SaysDone form d × (reached ≡ limit)
+      go [] h q = absurd (omega arith)
+      go (x ∷ xs) h q = rest-closes xs rest d (same-tail c x (unrefused form cs) (xs ++ (d ∷ rest)) q) (omega arith)
 
-  pub searched : (calls : List Call) → IsSearch v p 0 calls → Searched (work v p) calls (outcome v p calls)
-  searched calls k = let f = from-search calls 0 (omega arith) k in record { rows = f .rows; tally = f .tally; answers = f .each; closes = f .closes }
+  module _ (v p : List ℕ) (ok : plan.Accepted v p)
+      (tells : (s : ℕ) (out : List ℕ) → form .said (form .make (listAnswer v p s (length out))) ≡ listAnswer v p s (length out)) where
+    -- what calls from document s on come to
+    abbrev comesTo : ℕ → List (Call A) → Outcome
+    comesTo s calls = outcomeFrom form (work v p .width) s calls
+
+    -- by what the first call says
+    told : (c : Call A) (cs : List (Call A)) (s : ℕ) (said : Said Page) → form .said (c .says) ≡ said → From (work v p) s (c ∷ cs) (follow (work v p .width) s said (c .back) (λ next. comesTo next cs))
+        → From (work v p) s (c ∷ cs) (comesTo s (c ∷ cs))
+    told c cs s said e f =
+        subst (λ (o : Outcome). From (work v p) s (c ∷ cs) o) (sym (ap (λ (x : Said Page). follow (work v p .width) s x (c .back) (λ next. comesTo next cs)) e)) f
+
+    -- one call, and those behind it
+    one-more : (c : Call A) (cs : List (Call A)) → c .says ≡ form .make (form .said (c .says)) → ((t : ℕ) → t < limit → IsSearch form v p t cs → From (work v p) t cs (comesTo t cs))
+        → (s : ℕ) → s < limit → Then s (form .said (c .says)) (λ next. IsSearch form v p next cs) (cs ≡ []) → Went (work v p) s (heardCall form c) → From (work v p) s (c ∷ cs) (comesTo s (c ∷ cs))
+    one-more c cs made rest s h k (short l e b) =
+        let f = rest s h (rw e at k) in
+        told c cs s (refused 16 0) e
+        (record {
+          above = f .above;
+          below = f .below;
+          rows = f .rows;
+          tally = f .tally;
+          each = (answers form (work v p) s c h made (short l e b), rw e (f .each));
+          closes = λ front after d q g. f .closes front after d (sym (keep-fail fits c cs (ap isAnswered e)) ∙ q) g;
+        })
+    one-more c cs made rest s h k (whole l x e f) =
+        told c cs s (answered (record { rows = length (docsIn (work v p) s limit); tally = work v p .postings s limit; next = done })) e
+        (record {
+          above = omega arith;
+          below = omega arith;
+          rows = append-nil (take (length (docsIn (work v p) s limit) * work v p .width) (c .back)) ∙ f;
+          tally = add-zero (work v p .postings s limit);
+          each = (answers form (work v p) s c h made (whole l x e f), rw e (rw e at k));
+          closes = closes-last (length (docsIn (work v p) s limit)) limit c cs (rw e at k) (ap isAnswered e) (length (docsIn (work v p) s limit), work v p .postings s limit, e) refl;
+        })
+    one-more c cs made rest s h k (part t l x q i e f) =
+        told c cs s (answered (record { rows = room (work v p) c; tally = work v p .postings s t; next = more t })) e
+        (record {
+          above = let a = r .above in omega (arith, i .from);
+          below = r .below;
+          rows =
+              ap₂ (λ (xs ys : List ℕ). xs ++ ys) f (r .rows) ∙ sym (rows-append (work v p) (docsIn (work v p) s t) (docsIn (work v p) t (comesTo t cs .reached)))
+              ∙ ap (rowsOfDocs (work v p)) (sym (docs-parts (work v p) s t (comesTo t cs .reached) (i .from) (r .above)));
+          tally = ap (λ (n : ℕ). work v p .postings s t + n) (r .tally) ∙ work-add v p s t (comesTo t cs .reached) (i .from) (r .above);
+          each = (answers form (work v p) s c h made (part t l x q i e f), rw e (r .each));
+          closes = closes-next (length (docsIn (work v p) s limit)) (length (docsIn (work v p) t limit)) (comesTo t cs .reached) c cs (ap isAnswered e) (omega (arith, some-row, there, remain)) (r .closes);
+        })
+      where
+        r : From (work v p) t cs (comesTo t cs)
+        r = rest t (i .below) (rw e at k)
+
+        some-row : 1 ≤ room (work v p) c
+        some-row = le-div-iff-mul-le (work-wide v p) .1 (rw (one-mul (work v p .width)) l)
+
+        -- t is among those that remain, and the rows took at least one
+        there : 1 ≤ length (docsIn (work v p) t limit)
+        there = let a = ap length (docs-here (work v p) t limit (i .below) (i .is-true)) in omega arith
+
+        remain : length (docsIn (work v p) s limit) ≡ room (work v p) c + length (docsIn (work v p) t limit)
+        remain =
+            let a = i .below in
+            ap length (docs-parts (work v p) s t limit (i .from) (omega arith)) ∙ length-append (docsIn (work v p) s t) (docsIn (work v p) t limit)
+            ∙ ap (λ (n : ℕ). n + length (docsIn (work v p) t limit)) (at-front (work v p) s limit (room (work v p) c) t x i)
+
+    pub from-search : (calls : List (Call A)) (s : ℕ) → s < limit → IsSearch form v p s calls → From (work v p) s calls (comesTo s calls)
+    from-search [] s h k = record {
+      above = omega arith;
+      below = omega arith;
+      rows = sym (ap (rowsOfDocs (work v p)) (docs-empty (work v p) s) ∙ rows-none (work v p));
+      tally = sym (work-none v p s);
+      each = tt;
+      closes = λ front rest d e g. absurd (nothing-in front rest d (sym none-unrefused ∙ e));
+    }
+    from-search (c ∷ cs) s h k =
+        let back = tells s (c .lent) in
+        let heard = heard-kept form v p s c back (k .0) in
+        one-more c cs (k .0 .0 ∙ ap (form .make) (sym (heard .0))) (λ t l i. from-search cs t l i) s h (k .1) (went v p ok s (heardCall form c) h heard)
+
+    pub searched : (calls : List (Call A)) → IsSearch form v p 0 calls → Searched form (work v p) calls (outcome form v p calls)
+    searched calls k =
+        let f = from-search calls 0 (omega arith) k in
+        record { rows = f .rows; tally = f .tally; answers = f .each; closes = λ front rest c e l. f .closes front rest c e (omega arith) }

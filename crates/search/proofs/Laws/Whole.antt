@@ -1,28 +1,28 @@
 -- What demand 3 says of an accepted volume and plan, from its parts. No contract cites this file. Assumes nothing.
 use Prim.Native.Nat.{ℕ}
-use mathlib.Core.Path.{_≡_}
+use mathlib.Core.Path.{_≡_, refl}
 use mathlib.Core.Bool.{true}
 use mathlib.Core.List.{List}
 use Rattle.seq.specs.Lists.{rises}
-use Rattle.block.specs.Bytes.{IsBytes}
 use Rattle.volume.specs.Layout.{listsOf}
-use Rattle.volume.specs.Check as volume
-use Rattle.plan.specs.Check as plan
+use Rattle.plan.specs.Check.{Accepted}
+use Rattle.plan.proofs.Laws.Accepted.{given}
 use Rattle.fulltext.specs.Positions.{listOf}
+use Rattle.search.specs.Search.{plain}
 use Rattle.search.specs.Demands.{Holds3}
 use Rattle.fulltext.proofs.Laws.Positions.{lists-rise}
 use Rattle.fulltext.proofs.Laws.Least.{least-iff, unfound-iff, found-iff}
 use Rattle.search.proofs.Laws.Search.{searched}
 use Rattle.fulltext.proofs.Laws.Counts as counts
 
-pub holds3 : (v p : List ℕ) → IsBytes v → volume.Accepted v → plan.Accepted v p → Holds3 v p
-holds3 v p bytes ok given = record {
-  searched = searched v p given;
+pub holds3 : (v p : List ℕ) → Accepted v p → Holds3 v p
+holds3 v p ok = record {
+  searched = searched plain v p ok (λ s n. refl);
   found-some = λ d f. found-iff (listsOf v) up d f;
   least = λ d f ps. least-iff (listsOf v) up d f ps;
   unfound = λ d f. unfound-iff (listsOf v) up d f;
-  whole = counts.whole v p bytes given;
+  whole = λ bytes. counts.whole v p bytes ok;
 }
   where
     up : (l : ℕ) → rises (listOf (listsOf v) l) ≡ true
-    up = lists-rise v ok
+    up = lists-rise v (given v p ok .volume-accepted)

@@ -23,9 +23,9 @@ use Rattle.seq.proofs.Laws.Tests.{below-or}
 use Rattle.seq.proofs.Laws.Numbers.{run-step, run-end, sum-le, sum-step, first-miss, first-end}
 use Rattle.seq.proofs.Laws.Rising.{rises-none, rises-suc}
 use Rattle.block.specs.Bytes.{le32}
-use Rattle.volume.specs.Layout.{word, count, listCount, start, extent}
+use Rattle.volume.specs.Layout.{lead, word, count, listCount, start, extent}
 use Rattle.volume.specs.Check.{orderWrong, badList}
-use Rattle.volume.specs.Falls.{fallOf, fall, fallsBefore, ListFalls}
+use Rattle.volume.specs.Inner.Falls.{fallOf, fall, fallsBefore, ListFalls}
 use Rattle.volume.proofs.Laws.Stream.{word-in-block, word-behind}
 
 -- no fall: the next is above
@@ -115,10 +115,10 @@ pub record ListsSoFar (v : List ℕ) (n s i : ℕ) : Type 0 where
   pub reached : i ≤ listCount v
   pub few : n ≤ i
   pub here : s ≡ start v i
-  pub within : fallsBefore v (2 + listCount v) + n ≤ fallsBefore v s
-  pub exact : fallsBefore v (2 + listCount v) + n ≡ fallsBefore v s → firstFrom (orderWrong v) i (listCount v - i) ≡ badList v
+  pub within : fallsBefore v (lead (listCount v)) + n ≤ fallsBefore v s
+  pub exact : fallsBefore v (lead (listCount v)) + n ≡ fallsBefore v s → firstFrom (orderWrong v) i (listCount v - i) ≡ badList v
 
-pub lists-first : (v : List ℕ) → ListsSoFar v 0 (2 + listCount v) 0
+pub lists-first : (v : List ℕ) → ListsSoFar v 0 (lead (listCount v)) 0
 unfolding sumTo
 lists-first v = record { reached = omega arith; few = omega arith; here = omega arith; within = omega arith; exact = λ e. ap (firstFrom (orderWrong v) 0) (sub-zero (listCount v)) }
 
@@ -153,16 +153,19 @@ lists-more v n s i m r l h c small e =
       exact = λ q. rest (rw same at q) last up w;
     }
   where
-    rest : fallsBefore v (2 + listCount v) + (n + r) ≡ fallsBefore v (s + m + 1) → fallsBefore v (s + m + 1) ≡ fallsBefore v (s + m) + fall (word v) (s + m) → fallsBefore v s ≤ fallsBefore v (s + m) → fallsBefore v (2 + listCount v) + n ≤ fallsBefore v s → firstFrom (orderWrong v) (i + 1) (listCount v - (i + 1)) ≡ badList v
+    rest :
+        fallsBefore v (lead (listCount v)) + (n + r) ≡ fallsBefore v (s + m + 1) → fallsBefore v (s + m + 1) ≡ fallsBefore v (s + m) + fall (word v) (s + m)
+        → fallsBefore v s ≤ fallsBefore v (s + m) → fallsBefore v (lead (listCount v)) + n ≤ fallsBefore v s
+        → firstFrom (orderWrong v) (i + 1) (listCount v - (i + 1)) ≡ badList v
     rest q last up w =
         let none : fallsBefore v (s + m) ≡ fallsBefore v s = omega arith in
-        let all : fallsBefore v (2 + listCount v) + n ≡ fallsBefore v s = omega arith in
+        let all : fallsBefore v (lead (listCount v)) + n ≡ fallsBefore v s = omega arith in
         sym (first-miss (orderWrong v) i (listCount v) h (order-right v i m c (rw (l .here) at none))) ∙ l .exact all
 
 pub lists-done : (v : List ℕ) (n s i : ℕ) → ListsSoFar v n s i → listCount v ≡ i → listCount v ≤ 1024 → ListFalls v n
 lists-done v n s i l e h =
     let at = l .here in
-    let end : s ≡ extent v = at ∙ ap (λ (k : ℕ). 2 + listCount v + sumTo (count v) k) (sym e) in
+    let end : s ≡ extent v = at ∙ ap (λ (k : ℕ). lead (listCount v) + sumTo (count v) k) (sym e) in
     let f = l .few in
     record {
       few = omega arith;
@@ -171,7 +174,7 @@ lists-done v n s i l e h =
     }
 
 -- as many falls as are allowed: every list rises
-pub lists-rise : (v : List ℕ) (n head tail all : ℕ) → ListFalls v n → fallsBefore v 0 + head ≡ fallsBefore v (2 + listCount v) → fallsBefore v (extent v) + tail ≡ all → head + n + tail ≡ all → badList v ≡ listCount v
+pub lists-rise : (v : List ℕ) (n head tail all : ℕ) → ListFalls v n → fallsBefore v 0 + head ≡ fallsBefore v (lead (listCount v)) → fallsBefore v (extent v) + tail ≡ all → head + n + tail ≡ all → badList v ≡ listCount v
 unfolding sumTo
 lists-rise v n head tail all l h t e = let w = l .within in l .exact (omega arith)
 

@@ -17,7 +17,7 @@ use Rattle.seq.specs.Lists.{at, joined, rises}
 use Rattle.seq.specs.Numbers.{run, sumTo}
 use Rattle.seq.proofs.Laws.Numbers.{run-ext, length-run, getD-run, sum-ext, sum-le, sum-step}
 use Rattle.block.specs.Bytes.{IsBytes, IsWords}
-use Rattle.volume.specs.Layout.{blocks, word, listCount, count, postingCount, extent, blocksFor, start, postingsOf, listsOf}
+use Rattle.volume.specs.Layout.{entry, lead, extentOf, blocks, word, listCount, count, postingCount, extent, blocksFor, start, postingsOf, listsOf}
 use Rattle.volume.specs.Check.{blockWrong}
 use Rattle.volume.specs.Write.{streamOf, blocksFrom, written, volumeOf, givenList, givenLists}
 use Rattle.volume.proofs.Laws.Check.{Good, list-within}
@@ -28,35 +28,35 @@ use Rattle.volume.proofs.Laws.Rebuild.{rebuild, blocksFrom-ext}
 
 -- the stream of counts and postings, word by word
 module _ (cs ps : List ℕ) where
-  stream-at : (i : ℕ) → at (streamOf cs ps) (2 + i) ≡ at (cs ++ ps) i
+  stream-at : (i : ℕ) → at (streamOf cs ps) (entry i) ≡ at (cs ++ ps) i
   stream-at i = let e : 2 + i ≡ suc (suc i) = omega arith in rw e
 
-  pub stream-count : (i : ℕ) → i < length cs → at (streamOf cs ps) (2 + i) ≡ at cs i
+  pub stream-count : (i : ℕ) → i < length cs → at (streamOf cs ps) (entry i) ≡ at cs i
   stream-count i h = stream-at i ∙ List·getD-append cs ps 0 i h
 
-  pub stream-posting : (j : ℕ) → at (streamOf cs ps) (2 + length cs + j) ≡ at ps j
+  pub stream-posting : (j : ℕ) → at (streamOf cs ps) (lead (length cs) + j) ≡ at ps j
   stream-posting j = ap (at (streamOf cs ps)) (add-assoc 2 (length cs) j) ∙ stream-at (length cs + j) ∙ getD-append-add cs ps j 0
 
-  pub stream-zero : (i : ℕ) → 2 + length cs + length ps ≤ i → at (streamOf cs ps) i ≡ 0
+  pub stream-zero : (i : ℕ) → extentOf (length cs) (length ps) ≤ i → at (streamOf cs ps) i ≡ 0
   stream-zero i h = let l : length (streamOf cs ps) ≤ i = let e = length-append cs ps in omega arith in List·getD-eq-default (streamOf cs ps) 0 l
 
-  pub length-written : length (written cs ps) ≡ 512 * blocksFor (2 + length cs + length ps)
+  pub length-written : length (written cs ps) ≡ 512 * blocksFor (extentOf (length cs) (length ps))
   unfolding written
-  length-written = length-blocksFrom (at (streamOf cs ps)) 0 (blocksFor (2 + length cs + length ps))
+  length-written = length-blocksFrom (at (streamOf cs ps)) 0 (blocksFor (extentOf (length cs) (length ps)))
 
 -- counts and postings within the limits
 pub record Given (cs ps : List ℕ) : Type 0 where
   pub lists-some : 1 ≤ length cs
   pub lists-most : length cs ≤ 1024
   pub sum-is : sumTo (at cs) (length cs) ≡ length ps
-  pub fits : 2 + length cs + length ps ≤ 1032192
+  pub fits : extentOf (length cs) (length ps) ≤ 1032192
   pub lists-rise : (i : ℕ) → i < length cs → rises (givenList cs ps i) ≡ true
   pub words : IsWords ps
 
 module _ (cs ps : List ℕ) (g : Given cs ps) where
   -- the stream words in front of the zero words
   abbrev need : ℕ
-  need = 2 + length cs + length ps
+  need = extentOf (length cs) (length ps)
 
   -- a count is at most the sum of the counts
   sum-up : (i : ℕ) → i < length cs → sumTo (at cs) i + at cs i ≤ length ps
@@ -102,27 +102,27 @@ module _ (cs ps : List ℕ) (g : Given cs ps) where
   listCount-written = let h = g .lists-some in word-written 1 (omega arith)
 
   pub count-written : (i : ℕ) → i < length cs → count (written cs ps) i ≡ at cs i
-  count-written i h = word-written (2 + i) (omega arith) ∙ stream-count cs ps i h
+  count-written i h = word-written (entry i) (omega arith) ∙ stream-count cs ps i h
 
   sum-written : (i : ℕ) → i ≤ length cs → sumTo (count (written cs ps)) i ≡ sumTo (at cs) i
   sum-written i h = sum-ext (count (written cs ps)) (at cs) i (λ j l. count-written j (omega arith))
 
-  start-written : (i : ℕ) → i ≤ length cs → start (written cs ps) i ≡ 2 + length cs + sumTo (at cs) i
+  start-written : (i : ℕ) → i ≤ length cs → start (written cs ps) i ≡ lead (length cs) + sumTo (at cs) i
   start-written i h = let a = listCount-written in let b = sum-written i h in omega arith
 
   pub extent-written : extent (written cs ps) ≡ need
-  extent-written = start-written (listCount (written cs ps)) (let a = listCount-written in omega arith) ∙ ap (λ (n : ℕ). 2 + length cs + n) (ap (sumTo (at cs)) listCount-written ∙ g .sum-is)
+  extent-written = start-written (listCount (written cs ps)) (let a = listCount-written in omega arith) ∙ ap (λ (n : ℕ). extentOf (length cs) n) (ap (sumTo (at cs)) listCount-written ∙ g .sum-is)
 
   pub postings-written : (i : ℕ) → i < length cs → postingsOf (written cs ps) i ≡ givenList cs ps i
   postings-written i h =
       ap₂ (λ (k m : ℕ). run (word (written cs ps)) k m) (start-written i (omega arith)) (count-written i h)
-      ∙ run-ext (word (written cs ps)) (at ps) (2 + length cs + sumTo (at cs) i) (sumTo (at cs) i) (at cs i) word-here
+      ∙ run-ext (word (written cs ps)) (at ps) (lead (length cs) + sumTo (at cs) i) (sumTo (at cs) i) (at cs i) word-here
     where
-      word-here : (j : ℕ) → j < at cs i → word (written cs ps) (2 + length cs + sumTo (at cs) i + j) ≡ at ps (sumTo (at cs) i + j)
+      word-here : (j : ℕ) → j < at cs i → word (written cs ps) (lead (length cs) + sumTo (at cs) i + j) ≡ at ps (sumTo (at cs) i + j)
       word-here j l =
-          let e : 2 + length cs + sumTo (at cs) i + j ≡ 2 + length cs + (sumTo (at cs) i + j) = omega arith in
+          let e : lead (length cs) + sumTo (at cs) i + j ≡ lead (length cs) + (sumTo (at cs) i + j) = omega arith in
           let b = sum-up i h in
-          word-written (2 + length cs + sumTo (at cs) i + j) (omega arith) ∙ ap (at (streamOf cs ps)) e ∙ stream-posting cs ps (sumTo (at cs) i + j)
+          word-written (lead (length cs) + sumTo (at cs) i + j) (omega arith) ∙ ap (at (streamOf cs ps)) e ∙ stream-posting cs ps (sumTo (at cs) i + j)
 
   -- the volume of counts and postings holds the given lists
   pub written-lists : listsOf (written cs ps) ≡ givenLists cs ps
@@ -159,9 +159,9 @@ module _ (v : List ℕ) where
       map-run length (postingsOf v) 0 (listCount v)
       ∙ run-ext (λ i. length (postingsOf v i)) (count v) 0 0 (listCount v) (λ j h. length-run (word v) (start v (0 + j)) (count v (0 + j)))
 
-  pub join-of : joined (listsOf v) ≡ run (word v) (2 + listCount v) (postingCount v)
+  pub join-of : joined (listsOf v) ≡ run (word v) (lead (listCount v)) (postingCount v)
   unfolding listsOf
-  join-of = joined-runs (word v) (2 + listCount v) (count v) (listCount v)
+  join-of = joined-runs (word v) (lead (listCount v)) (count v) (listCount v)
 
   pub length-listsOf : length (listsOf v) ≡ listCount v
   unfolding listsOf
@@ -172,7 +172,7 @@ module _ (v : List ℕ) where
   list-of i h = getD-run (postingsOf v) 0 (listCount v) i [] h ∙ ap (postingsOf v) (zero-add i)
 
   -- the stream, by the counts and the postings
-  stream-of : Good v → (j : ℕ) → j < 126 * blocks v → at (streamOf (run (count v) 0 (listCount v)) (run (word v) (2 + listCount v) (postingCount v))) j ≡ word v j
+  stream-of : Good v → (j : ℕ) → j < 126 * blocks v → at (streamOf (run (count v) 0 (listCount v)) (run (word v) (lead (listCount v)) (postingCount v))) j ≡ word v j
   stream-of g zero h = sym (g .version-is)
   stream-of g (suc zero) h = length-run (count v) 0 (listCount v)
   stream-of g (suc (suc i)) h = ⊎-elim front (λ l. ⊎-elim (middle l) behind (below-or i (listCount v + postingCount v))) (below-or i (listCount v))
@@ -181,13 +181,13 @@ module _ (v : List ℕ) where
       cs = run (count v) 0 (listCount v)
 
       ps : List ℕ
-      ps = run (word v) (2 + listCount v) (postingCount v)
+      ps = run (word v) (lead (listCount v)) (postingCount v)
 
       lc : length cs ≡ listCount v
       lc = length-run (count v) 0 (listCount v)
 
       lp : length ps ≡ postingCount v
-      lp = length-run (word v) (2 + listCount v) (postingCount v)
+      lp = length-run (word v) (lead (listCount v)) (postingCount v)
 
       front : i < listCount v → at (cs ++ ps) i ≡ word v (suc (suc i))
       front l =
@@ -197,8 +197,8 @@ module _ (v : List ℕ) where
       middle : listCount v ≤ i → i < listCount v + postingCount v → at (cs ++ ps) i ≡ word v (suc (suc i))
       middle l m =
           let e : i ≡ length cs + (i - listCount v) = (let a = lc in omega arith) in
-          let f : 2 + listCount v + (i - listCount v) ≡ suc (suc i) = omega arith in
-          ap (at (cs ++ ps)) e ∙ getD-append-add cs ps (i - listCount v) 0 ∙ getD-run (word v) (2 + listCount v) (postingCount v) (i - listCount v) 0 (omega arith) ∙ ap (word v) f
+          let f : lead (listCount v) + (i - listCount v) ≡ suc (suc i) = omega arith in
+          ap (at (cs ++ ps)) e ∙ getD-append-add cs ps (i - listCount v) 0 ∙ getD-run (word v) (lead (listCount v)) (postingCount v) (i - listCount v) 0 (omega arith) ∙ ap (word v) f
 
       behind : listCount v + postingCount v ≤ i → at (cs ++ ps) i ≡ word v (suc (suc i))
       behind l =
@@ -209,9 +209,9 @@ module _ (v : List ℕ) where
   pub read-back : IsBytes v → Good v → v ≡ volumeOf (listsOf v)
   unfolding volumeOf written
   read-back bytes g =
-      let n : blocksFor (2 + length (run (count v) 0 (listCount v)) + length (run (word v) (2 + listCount v) (postingCount v))) ≡ blocks v
-      = ap₂ (λ (a b : ℕ). blocksFor (2 + a + b)) (length-run (count v) 0 (listCount v)) (length-run (word v) (2 + listCount v) (postingCount v)) ∙ g .blocks-are in
+      let n : blocksFor (extentOf (length (run (count v) 0 (listCount v))) (length (run (word v) (lead (listCount v)) (postingCount v)))) ≡ blocks v
+      = ap₂ (λ (a b : ℕ). blocksFor (extentOf a b)) (length-run (count v) 0 (listCount v)) (length-run (word v) (lead (listCount v)) (postingCount v)) ∙ g .blocks-are in
       rebuild v bytes (blocks v) (g .whole) (g .blocks-right)
-      ∙ blocksFrom-ext (word v) (at (streamOf (run (count v) 0 (listCount v)) (run (word v) (2 + listCount v) (postingCount v)))) 0 (blocks v) (λ j a h. sym (stream-of g j (omega arith)))
-      ∙ ap (blocksFrom (at (streamOf (run (count v) 0 (listCount v)) (run (word v) (2 + listCount v) (postingCount v)))) 0) (sym n)
+      ∙ blocksFrom-ext (word v) (at (streamOf (run (count v) 0 (listCount v)) (run (word v) (lead (listCount v)) (postingCount v)))) 0 (blocks v) (λ j a h. sym (stream-of g j (omega arith)))
+      ∙ ap (blocksFrom (at (streamOf (run (count v) 0 (listCount v)) (run (word v) (lead (listCount v)) (postingCount v)))) 0) (sym n)
       ∙ ap₂ written (sym lengths-of) (sym join-of)

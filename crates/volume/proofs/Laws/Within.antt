@@ -19,7 +19,7 @@ use Rattle.seq.proofs.Laws.Tests.{below-or}
 use Rattle.seq.proofs.Laws.Lists.{length-joined}
 use Rattle.seq.proofs.Laws.Numbers.{length-run, getD-run}
 use Rattle.block.specs.Bytes.{IsBytes, IsWords}
-use Rattle.volume.specs.Layout.{offset, word, listCount, count, postingCount, start, postingsOf, listsOf}
+use Rattle.volume.specs.Layout.{lead, offset, word, listCount, count, postingCount, start, postingsOf, listsOf}
 use Rattle.volume.specs.Write.{volumeOf, givenList, givenLists}
 use Rattle.seq.specs.Lists.{Rising}
 use Rattle.volume.specs.Demands.{Within}
@@ -116,7 +116,7 @@ module _ (v : List ℕ) (bytes : IsBytes v) (g : Good v) where
     fits =
         let a = length-listsOf v in
         let b = length-joined (listsOf v) in
-        let c = ap length (join-of v) ∙ length-run (word v) (2 + listCount v) (postingCount v) in
+        let c = ap length (join-of v) ∙ length-run (word v) (lead (listCount v)) (postingCount v) in
         let d = g .fits in
         let e = g .blocks-most in
         omega arith;

@@ -12,6 +12,7 @@ use mathlib.Core.Path.{_≡_, refl, sym, ap, ap₂, _∙_}
 use mathlib.Core.List.{List, _++_, append-assoc, append-nil}
 use lib.ListN.{length, length-append, List·getD-append, List·getD-eq-default}
 use lib.Seq.{getD-append-add}
+use Rattle.volume.specs.Layout.{lead}
 use Rattle.block.specs.Bytes.{bytes32}
 use Rattle.seq.specs.Lists.{at}
 use Rattle.volume.specs.Write.{wordBytes, blockBody, sealed, blocksFrom, streamOf}
@@ -72,11 +73,11 @@ module _ (counts postings : List ℕ) where
   pub stream-count : (i : ℕ) → 2 ≤ i → i - 2 < length counts → at (streamOf counts postings) i ≡ at counts (i - 2)
   stream-count i l h = stream-behind i (i - 2) (omega arith) ∙ List·getD-append counts postings 0 (i - 2) h
 
-  pub stream-posting : (i j : ℕ) → i ≡ 2 + length counts + j → at (streamOf counts postings) i ≡ at postings j
+  pub stream-posting : (i j : ℕ) → i ≡ lead (length counts) + j → at (streamOf counts postings) i ≡ at postings j
   stream-posting i j e = stream-behind i (length counts + j) (omega arith) ∙ getD-append-add counts postings j 0
 
-  pub stream-zero : (i j : ℕ) → i ≡ 2 + length counts + j → length postings ≤ j → at (streamOf counts postings) i ≡ 0
+  pub stream-zero : (i j : ℕ) → i ≡ lead (length counts) + j → length postings ≤ j → at (streamOf counts postings) i ≡ 0
   stream-zero i j e h = stream-posting i j e ∙ List·getD-eq-default postings 0 h
 
-  pub wordBytes-postings : (first from m : ℕ) → first ≡ 2 + length counts + from → wordBytes (at postings) from m ≡ wordBytes (at (streamOf counts postings)) first m
+  pub wordBytes-postings : (first from m : ℕ) → first ≡ lead (length counts) + from → wordBytes (at postings) from m ≡ wordBytes (at (streamOf counts postings)) first m
   wordBytes-postings first from m e = wordBytes-ext (at postings) (at (streamOf counts postings)) from first m (λ j h. sym (stream-posting (first + j) (from + j) (omega arith)))

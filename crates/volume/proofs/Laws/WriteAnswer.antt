@@ -19,7 +19,7 @@ use Rattle.seq.specs.Lists.{at, total, rises, NotRising}
 use Rattle.seq.specs.Numbers.{run, sumTo}
 use Rattle.seq.specs.Refusals.{refused, answered}
 use Rattle.seq.proofs.Laws.Numbers.{search-found, search-clear}
-use Rattle.volume.specs.Layout.{blocksFor}
+use Rattle.volume.specs.Layout.{extentOf, blocksFor}
 use Rattle.volume.specs.Write.{blocksFrom, streamOf, written, givenList, countsWrong, sumWrong, givenWrong, badGiven, givenListsWrong, tooLarge, shortOutput, writeAnswer, writeOut}
 use Rattle.seq.proofs.Laws.Decides.{Decides, holds, fails, not-decides, eqb-decides, ltb-decides}
 use Rattle.seq.proofs.Laws.Refusals.{laid-refused, laid-answered}
@@ -50,7 +50,9 @@ module _ (counts postings : List ℕ) (room : ℕ) where
   unfolding writeAnswer
   write-short e5 e18 e7 e19 e20 = rw (e5, e18, e7, e19, e20)
 
-  pub write-answer : countsWrong counts ≡ false → sumWrong counts postings ≡ false → givenListsWrong counts postings ≡ false → tooLarge counts postings ≡ false → shortOutput counts postings room ≡ false → writeAnswer counts postings room ≡ answered (blocksFor (2 + length counts + length postings))
+  pub write-answer :
+      countsWrong counts ≡ false → sumWrong counts postings ≡ false → givenListsWrong counts postings ≡ false → tooLarge counts postings ≡ false
+      → shortOutput counts postings room ≡ false → writeAnswer counts postings room ≡ answered (blocksFor (extentOf (length counts) (length postings)))
   unfolding writeAnswer
   write-answer e5 e18 e7 e19 e20 = rw (e5, e18, e7, e19, e20)
 
@@ -68,13 +70,13 @@ module _ (counts postings : List ℕ) where
   unfolding givenWrong
   givenWrong-decides i = falls-decides (givenList counts postings i)
 
-  pub tooLarge-decides : Decides (tooLarge counts postings) (1032192 < 2 + length counts + length postings)
+  pub tooLarge-decides : Decides (tooLarge counts postings) (1032192 < extentOf (length counts) (length postings))
   unfolding tooLarge
-  tooLarge-decides = ltb-decides 1032192 (2 + length counts + length postings)
+  tooLarge-decides = ltb-decides 1032192 (extentOf (length counts) (length postings))
 
-  pub shortOutput-decides : (room : ℕ) → Decides (shortOutput counts postings room) (room < 512 * blocksFor (2 + length counts + length postings))
+  pub shortOutput-decides : (room : ℕ) → Decides (shortOutput counts postings room) (room < 512 * blocksFor (extentOf (length counts) (length postings)))
   unfolding shortOutput
-  shortOutput-decides room = ltb-decides room (512 * blocksFor (2 + length counts + length postings))
+  shortOutput-decides room = ltb-decides room (512 * blocksFor (extentOf (length counts) (length postings)))
 
   pub givenListsWrong-true : badGiven counts postings < length counts → givenListsWrong counts postings ≡ true
   unfolding givenListsWrong
@@ -146,21 +148,22 @@ module _ (counts postings out : List ℕ) where
     seven : givenListsWrong counts postings ≡ false
     seven = givenListsWrong-false counts postings (o .order)
 
-    pub refuses-large : 1032192 < 2 + length counts + length postings → Refuses 19 0
+    pub refuses-large : 1032192 < extentOf (length counts) (length postings) → Refuses 19 0
     refuses-large h = refuses 19 0 (write-tooLarge counts postings (length out) five eighteen seven (holds (tooLarge-decides counts postings) h))
 
-    module _ (fits : 2 + length counts + length postings ≤ 1032192) where
+    module _ (fits : extentOf (length counts) (length postings) ≤ 1032192) where
       nineteen : tooLarge counts postings ≡ false
-      nineteen = fails (tooLarge-decides counts postings) (λ (h : 1032192 < 2 + length counts + length postings). omega arith)
+      nineteen = fails (tooLarge-decides counts postings) (λ (h : 1032192 < extentOf (length counts) (length postings)). omega arith)
 
-      pub refuses-short : length out < 512 * blocksFor (2 + length counts + length postings) → Refuses 20 0
+      pub refuses-short : length out < 512 * blocksFor (extentOf (length counts) (length postings)) → Refuses 20 0
       refuses-short h = refuses 20 0 (write-short counts postings (length out) five eighteen seven nineteen (holds (shortOutput-decides counts postings (length out)) h))
 
-      pub answers : (n : ℕ) (after : List ℕ) → n ≡ blocksFor (2 + length counts + length postings) → 512 * n ≤ length out
+      pub answers : (n : ℕ) (after : List ℕ) → n ≡ blocksFor (extentOf (length counts) (length postings)) → 512 * n ≤ length out
           → after ≡ blocksFrom (at (streamOf counts postings)) 0 n ++ drop (512 * n) out → (answered n ≡ writeAnswer counts postings (length out)) × (after ≡ writeOut counts postings out)
       unfolding writeOut written
       answers n after e h w =
-          let room : 512 * blocksFor (2 + length counts + length postings) ≤ length out = rw e at h in
-          let a : writeAnswer counts postings (length out) ≡ answered n = write-answer counts postings (length out) five eighteen seven nineteen (fails (shortOutput-decides counts postings (length out)) (λ (l : length out < 512 * blocksFor (2 + length counts + length postings)). omega arith)) ∙ ap answered (sym e) in
+          let room : 512 * blocksFor (extentOf (length counts) (length postings)) ≤ length out = rw e at h in
+          let twenty = fails (shortOutput-decides counts postings (length out)) (λ (l : length out < 512 * blocksFor (extentOf (length counts) (length postings))). omega arith) in
+          let a : writeAnswer counts postings (length out) ≡ answered n = write-answer counts postings (length out) five eighteen seven nineteen twenty ∙ ap answered (sym e) in
           let size = length-blocksFrom (at (streamOf counts postings)) 0 n in
           (sym a, w ∙ sym (laid-answered _ n (written counts postings) out a ∙ rw (← e, size)))

@@ -2,7 +2,7 @@
 --     AtStage, at-stage            what a refusal of each stage says
 --     write-sound, write-first     the answer is the first refusal that applies
 -- Assumes nothing.
-use Prim.Native.Nat.{ℕ, _+_, _*_, _<_, _≤_}
+use Prim.Native.Nat.{ℕ, _*_, _<_, _≤_}
 use native.Mathlib.Omega.{arith}
 use mathlib.Core.Path.{_≡_, refl, subst}
 use mathlib.Core.Bool.{cond}
@@ -14,7 +14,7 @@ use Rattle.seq.specs.Refusals.{Said, refused, answered, stageIn, FirstRefusal}
 use Rattle.seq.proofs.Laws.Tests.{contrary}
 use Rattle.seq.proofs.Laws.Numbers.{first-before}
 use Rattle.seq.proofs.Laws.Refusals.{Sound, end, first-refusal}
-use Rattle.volume.specs.Layout.{blocksFor}
+use Rattle.volume.specs.Layout.{extentOf, blocksFor}
 use Rattle.volume.specs.Write.{givenList, countsWrong, sumWrong, givenWrong, badGiven, givenListsWrong, tooLarge, shortOutput, writeAnswer}
 use Rattle.volume.specs.Refusals.{LeastBlocks, WriteApplies, wrongCounts, wrongSum, wrongGiven, overLarge, outputShort, writeStages}
 use Rattle.seq.proofs.Laws.Decides.{Decides, holds, same-decides}
@@ -25,11 +25,11 @@ use Rattle.seq.proofs.Laws.Ladder.{Clear, searched, single}
 module _ (counts postings : List ℕ) (room : ℕ) where
   -- what the writer answers
   abbrev value : ℕ
-  value = blocksFor (2 + length counts + length postings)
+  value = blocksFor (extentOf (length counts) (length postings))
 
   -- the output is shorter than the least number of blocks
   abbrev Short : Type 0
-  Short = (n : ℕ) × LeastBlocks (2 + length counts + length postings) n × (room < 512 * n)
+  Short = (n : ℕ) × LeastBlocks (extentOf (length counts) (length postings)) n × (room < 512 * n)
 
   -- what a refusal of each stage says, by its number m and place q
   abbrev AtStage : ℕ → ℕ → ℕ → Type 0
@@ -38,7 +38,7 @@ module _ (counts postings : List ℕ) (room : ℕ) where
       (((m ≡ 5) × ((q ≡ 0) × ((length counts < 1) ⊎ (1024 < length counts))))
       ∷ ((m ≡ 18) × ((q ≡ 0) × (total (λ x. x) counts ≢ length postings)))
       ∷ ((m ≡ 7) × ((q < length counts) × NotRising (givenList counts postings q)))
-      ∷ ((m ≡ 19) × ((q ≡ 0) × (1032192 < 2 + length counts + length postings)))
+      ∷ ((m ≡ 19) × ((q ≡ 0) × (1032192 < extentOf (length counts) (length postings))))
       ∷ ((m ≡ 20) × ((q ≡ 0) × Short))
       ∷ [])
       k
@@ -80,8 +80,8 @@ module _ (counts postings : List ℕ) (room : ℕ) where
   short-decides : Decides (shortOutput counts postings room) Short
   short-decides =
       same-decides (shortOutput-decides counts postings room)
-      (λ h. (blocksFor (2 + length counts + length postings), least-blocksFor (2 + length counts + length postings), h))
-      (λ w. let e : blocksFor (2 + length counts + length postings) ≡ w .0 = blocksFor-least (2 + length counts + length postings) (w .0) (w .1) in let h = w .2 in omega arith)
+      (λ h. (blocksFor (extentOf (length counts) (length postings)), least-blocksFor (extentOf (length counts) (length postings)), h))
+      (λ w. let e : blocksFor (extentOf (length counts) (length postings)) ≡ w .0 = blocksFor-least (extentOf (length counts) (length postings)) (w .0) (w .1) in let h = w .2 in omega arith)
 
   from-order : IsClear 2 → (rest : Said ℕ) → (IsClear 3 → IsSound rest) → IsSound (cond (givenListsWrong counts postings) (refused 7 (badGiven counts postings)) rest)
   unfolding stageIn elem
@@ -105,5 +105,5 @@ module _ (counts postings : List ℕ) (room : ℕ) where
       (λ c3. single (stageIn writeStages) (WriteApplies counts postings room) value (tooLarge counts postings) 19 _ _ (tooLarge-decides counts postings) overLarge c3 (at-this 3)
       (λ c4. single (stageIn writeStages) (WriteApplies counts postings room) value (shortOutput counts postings room) 20 _ _ short-decides (λ w. outputShort (w .0) (w .1) (w .2)) c4 (at-this 4) from-end))))
 
-  pub write-first : FirstRefusal (stageIn writeStages) (WriteApplies counts postings room) (blocksFor (2 + length counts + length postings)) (writeAnswer counts postings room)
+  pub write-first : FirstRefusal (stageIn writeStages) (WriteApplies counts postings room) (blocksFor (extentOf (length counts) (length postings))) (writeAnswer counts postings room)
   write-first = first-refusal (stageIn writeStages) (WriteApplies counts postings room) value (writeAnswer counts postings room) write-sound

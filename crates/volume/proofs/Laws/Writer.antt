@@ -17,7 +17,7 @@ use Rattle.seq.proofs.Laws.Tests.{true-or}
 use Rattle.seq.proofs.Laws.Lists.{length-joined}
 use Rattle.seq.proofs.Laws.Refusals.{laid-answered, not-both, past}
 use Rattle.block.specs.Bytes.{IsWords}
-use Rattle.volume.specs.Layout.{blocksFor}
+use Rattle.volume.specs.Layout.{extentOf, blocksFor}
 use Rattle.volume.specs.Write.{written, volumeOf, givenList, givenLists, countsWrong, sumWrong, givenWrong, badGiven, givenListsWrong, tooLarge, shortOutput, writeAnswer, writeOut}
 use Rattle.volume.specs.Demands.{Within, Lays, Writes}
 use Rattle.seq.proofs.Laws.Decides.{stable, fails, eqb-decides}
@@ -36,13 +36,16 @@ pub record Limits (counts postings : List ℕ) : Type 0 where
   pub size-passes : tooLarge counts postings ≡ false
 
 module _ (cs ps : List ℕ) where
+  limits-sum : Limits cs ps → total (λ x. x) cs ≡ length ps
+  limits-sum l = stable (eqb-decides (total (λ x. x) cs) (length ps)) (sumWrong-decides cs ps .no (l .sum-passes))
+
   pub limits-given : IsWords ps → Limits cs ps → Given cs ps
   unfolding givenWrong
   limits-given words l = record {
     lists-some = range-some;
     lists-most = range-most;
-    sum-is = sum-total cs ∙ stable (eqb-decides (total (λ x. x) cs) (length ps)) (sumWrong-decides cs ps .no (l .sum-passes));
-    fits = let h : (1032192 < 2 + length cs + length ps) → ⊥ = tooLarge-decides cs ps .no (l .size-passes) in omega arith;
+    sum-is = sum-total cs ∙ limits-sum l;
+    fits = let h : (1032192 < extentOf (length cs) (length ps)) → ⊥ = tooLarge-decides cs ps .no (l .size-passes) in omega arith;
     lists-rise = λ i h. not-false (rises (givenList cs ps i)) (given-clear cs ps (l .lists-pass) i h);
     words = words;
   }
@@ -69,13 +72,13 @@ module _ (cs ps : List ℕ) where
       range w = let a = g .lists-some in let b = g .lists-most in ⊎-elim (λ (x : length cs < 1). omega arith) (λ (x : 1024 < length cs). omega arith) w
 
   -- within the limits only 20 is left
-  left : (room : ℕ) → Limits cs ps → (writeAnswer cs ps room ≡ refused 20 0) ⊎ (writeAnswer cs ps room ≡ answered (blocksFor (2 + length cs + length ps)))
+  left : (room : ℕ) → Limits cs ps → (writeAnswer cs ps room ≡ refused 20 0) ⊎ (writeAnswer cs ps room ≡ answered (blocksFor (extentOf (length cs) (length ps))))
   left room l =
       ⊎-elim (λ e. inl (write-short cs ps room (l .counts-pass) (l .sum-passes) (l .lists-pass) (l .size-passes) e))
       (λ e. inr (write-answer cs ps room (l .counts-pass) (l .sum-passes) (l .lists-pass) (l .size-passes) e)) (true-or (shortOutput cs ps room))
 
   -- an answer is within the limits, and the output is long enough
-  answer-limits : (room n : ℕ) → writeAnswer cs ps room ≡ answered n → Limits cs ps × (shortOutput cs ps room ≡ false) × (blocksFor (2 + length cs + length ps) ≡ n)
+  answer-limits : (room n : ℕ) → writeAnswer cs ps room ≡ answered n → Limits cs ps × (shortOutput cs ps room ≡ false) × (blocksFor (extentOf (length cs) (length ps)) ≡ n)
   unfolding writeAnswer
   answer-limits room n e =
       let e5 = past (countsWrong cs) 5 0 _ n e in
@@ -83,7 +86,7 @@ module _ (cs ps : List ℕ) where
       let e7 = past (givenListsWrong cs ps) 7 (badGiven cs ps) _ n (e18 .1) in
       let e19 = past (tooLarge cs ps) 19 0 _ n (e7 .1) in
       let e20 = past (shortOutput cs ps room) 20 0 _ n (e19 .1) in
-      (record { counts-pass = e5 .0; sum-passes = e18 .0; lists-pass = e7 .0; size-passes = e19 .0 }, e20 .0, same (blocksFor (2 + length cs + length ps)) (e20 .1))
+      (record { counts-pass = e5 .0; sum-passes = e18 .0; lists-pass = e7 .0; size-passes = e19 .0 }, e20 .0, same (blocksFor (extentOf (length cs) (length ps))) (e20 .1))
     where
       same : (m : ℕ) → _≡_ {A = Said ℕ} (answered m) (answered n) → m ≡ n
       same m q = cc
@@ -106,26 +109,26 @@ module _ (cs ps : List ℕ) where
       laid-answered (writeAnswer cs ps (length out)) n (written cs ps) out e
       ∙ ap (λ (k : ℕ). written cs ps ++ drop k out) (length-written cs ps ∙ ap (λ (k : ℕ). 512 * k) (answer-limits (length out) n e .2))
 
-  lays : IsWords ps → (out : List ℕ) (n : ℕ) → writeAnswer cs ps (length out) ≡ answered n → Lays cs ps out n
-  lays words out n e = record {
-    blocks = rw q at (least-blocksFor (2 + length cs + length ps));
-    room = let h : (length out < 512 * blocksFor (2 + length cs + length ps)) → ⊥ = shortOutput-decides cs ps (length out) .no (w .1) in let k = q in omega arith;
+  lays : (out : List ℕ) (n : ℕ) → writeAnswer cs ps (length out) ≡ answered n → Lays cs ps out n
+  lays out n e = record {
+    blocks = rw q at (least-blocksFor (extentOf (length cs) (length ps)));
+    room = let h : (length out < 512 * blocksFor (extentOf (length cs) (length ps))) → ⊥ = shortOutput-decides cs ps (length out) .no (w .1) in let k = q in omega arith;
     volume = volume;
     size = ap length (sym volume) ∙ length-written cs ps ∙ ap (λ (k : ℕ). 512 * k) q;
     output = write-laid out n e ∙ ap (λ (l : List ℕ). l ++ drop (512 * n) out) volume;
   }
     where
-      w : Limits cs ps × (shortOutput cs ps (length out) ≡ false) × (blocksFor (2 + length cs + length ps) ≡ n)
+      w : Limits cs ps × (shortOutput cs ps (length out) ≡ false) × (blocksFor (extentOf (length cs) (length ps)) ≡ n)
       w = answer-limits (length out) n e
 
-      q : blocksFor (2 + length cs + length ps) ≡ n
+      q : blocksFor (extentOf (length cs) (length ps)) ≡ n
       q = w .2
 
       volume : written cs ps ≡ volumeOf (givenLists cs ps)
-      volume = written-volumeOf cs ps (sym (sum-total cs) ∙ limits-given words (w .0) .sum-is)
+      volume = written-volumeOf cs ps (limits-sum (w .0))
 
-  pub writes : IsWords ps → (out : List ℕ) → Writes cs ps out
-  writes words out = record { refuses = (outside, inside); lays = lays words out }
+  pub writes : (out : List ℕ) → Writes cs ps out
+  writes out = record { refuses = λ words. (outside, inside words); lays = lays out }
     where
       outside : ((n : ℕ) × (p : ℕ) × (writeAnswer cs ps (length out) ≡ refused n p) × (n ≢ 20)) → (Within (givenLists cs ps) × (total (λ x. x) cs ≡ length ps)) → ⊥
       outside r w = ⊎-elim twenty answer (left (length out) (given-limits (within-back cs ps (w .0) (w .1))))
@@ -136,16 +139,16 @@ module _ (cs ps : List ℕ) where
               same : (n p : ℕ) → _≡_ {A = Said ℕ} (refused n p) (refused 20 0) → n ≡ 20
               same n p q = cc
 
-          answer : writeAnswer cs ps (length out) ≡ answered (blocksFor (2 + length cs + length ps)) → ⊥
-          answer e = not-both (writeAnswer cs ps (length out)) (blocksFor (2 + length cs + length ps)) (r .0) (r .1) e (r .2)
+          answer : writeAnswer cs ps (length out) ≡ answered (blocksFor (extentOf (length cs) (length ps))) → ⊥
+          answer e = not-both (writeAnswer cs ps (length out)) (blocksFor (extentOf (length cs) (length ps))) (r .0) (r .1) e (r .2)
 
-      inside : ((Within (givenLists cs ps) × (total (λ x. x) cs ≡ length ps)) → ⊥) → (n : ℕ) × (p : ℕ) × (writeAnswer cs ps (length out) ≡ refused n p) × (n ≢ 20)
-      inside h = ⊎-elim (λ r. r) (λ l. let g = limits-given words l in absurd (h (given-within cs ps g, sym (sum-total cs) ∙ g .sum-is))) (refusal-or (length out))
+      inside : IsWords ps → ((Within (givenLists cs ps) × (total (λ x. x) cs ≡ length ps)) → ⊥) → (n : ℕ) × (p : ℕ) × (writeAnswer cs ps (length out) ≡ refused n p) × (n ≢ 20)
+      inside words h = ⊎-elim (λ r. r) (λ l. absurd (h (given-within cs ps (limits-given words l), limits-sum l))) (refusal-or (length out))
 
 -- lists within the limits are written
 pub writes-every :
     (ls : List (List ℕ)) → Within ls → (out : List ℕ) → length (volumeOf ls) ≤ length out
-    → (writeAnswer (map length ls) (joined ls) (length out) ≡ answered (blocksFor (2 + length ls + total length ls)))
+    → (writeAnswer (map length ls) (joined ls) (length out) ≡ answered (blocksFor (extentOf (length ls) (total length ls))))
     × (writeOut (map length ls) (joined ls) out ≡ volumeOf ls ++ drop (length (volumeOf ls)) out)
 unfolding volumeOf
 writes-every ls w out h =
@@ -153,6 +156,6 @@ writes-every ls w out h =
     let m = length-written (map length ls) (joined ls) in
     let f = fails (shortOutput-decides (map length ls) (joined ls) (length out)) (λ k. omega arith) in
     let e = write-answer (map length ls) (joined ls) (length out) (l .counts-pass) (l .sum-passes) (l .lists-pass) (l .size-passes) f in (
-      e ∙ ap₂ (λ (a b : ℕ). answered (blocksFor (2 + a + b))) (length-map ls length) (length-joined ls),
+      e ∙ ap₂ (λ (a b : ℕ). answered (blocksFor (extentOf a b))) (length-map ls length) (length-joined ls),
       write-laid (map length ls) (joined ls) out _ e ∙ ap (λ (k : ℕ). written (map length ls) (joined ls) ++ drop k out) (sym m),
     )

@@ -10,7 +10,7 @@ use lib.ListN.{length, length-set}
 use Rattle.seq.specs.Numbers.{run}
 use Rattle.seq.proofs.Laws.Numbers.{run-snoc, length-run}
 use Rattle.block.specs.Bytes.{le32}
-use Rattle.lister.specs.Stored.{Stored}
+use Rattle.lister.specs.Inner.Stored.{Stored}
 use Rattle.lister.proofs.Laws.Stored.{stored-none, stored-one, stored-more}
 use Rattle.lister.proofs.Laws.Files.{words-empty, words-long, words-uneven, words-whole}
 use Rattle.lister.proofs.files.plan_words.Statement.{statement}
@@ -39,11 +39,11 @@ loop-holds : tie.Need-loop-holds Inv-loop μ-loop
 unfolding run
 loop-holds c = (omega arith, refl, stored-none (now (c .before .before .before .before .before .args .words)) 0 (omega arith))
 
-mul-word : tie.Need-mul-word Inv-loop μ-loop
-mul-word c = omega arith
+mul-read32 : tie.Need-mul-read32 Inv-loop μ-loop
+mul-read32 c = omega arith
 
-word-requires : tie.Need-word-requires Inv-loop μ-loop
-word-requires c κs = omega arith
+read32-requires : tie.Need-read32-requires Inv-loop μ-loop
+read32-requires c κs = omega arith
 
 mul-words : tie.Need-mul-words Inv-loop μ-loop
 mul-words c = omega arith
@@ -65,7 +65,7 @@ loop-again c =
     let n = length-run f 0 (l .i) in (
       omega arith,
       simp length-set (l .inv .1),
-      rw (run-snoc f 0 (l .i), zero-add (l .i), c .word .ensures)
+      rw (run-snoc f 0 (l .i), zero-add (l .i), c .read32 .ensures)
           (stored-more (l .inv .2) (f (l .i) ∷ []) (stored-one (l .words) (l .i) (f (l .i)) (omega arith))),
     )
 
@@ -89,8 +89,8 @@ plan-words-spec =
     returns-2
     returns-3
     loop-holds
-    mul-word
-    word-requires
+    mul-read32
+    read32-requires
     mul-words
     slice-write-words
     add-i

@@ -23,23 +23,15 @@ put-refusal-requires c κs = omega arith
 enum-known-checked-2 : tie.Need-enum-known-checked-2
 enum-known-checked-2 c = search needs
 
-cast-width : tie.Need-cast-width
-cast-width c = omega arith
-
-add-width : tie.Need-add-width
-add-width c = omega arith
-
-cast-width-2 : tie.Need-cast-width-2
-cast-width-2 c = omega arith
-
-add-width-2 : tie.Need-add-width-2
-add-width-2 c = omega arith
+row-words-requires : tie.Need-row-words-requires
+row-words-requires c κs = tt
 
 page-text-requires : tie.Need-page-text-requires
 page-text-requires c κs =
-    let s = c .before .before .before .before .before .before .before .before in
-    let g = c .before .before .checked2 .given in
-    (width-is (now (s .args .volume)) (now (s .args .plan)) (g .0 .0) (g .0 .1 .0) (sym (c .before .before .before .before .check .ensures) ∙ ap saidChecked (g .1)), s .pre)
+    let s = c .before .before .before .before .before .before .before .before .before in
+    let g = c .before .before .before .checked2 .given in
+    let check = c .before .before .before .before .before .check in
+    (c .before .row-words .ensures ∙ width-is (now (s .args .volume)) (now (s .args .plan)) (g .0 .0) (g .0 .1 .0) (sym (check .ensures) ∙ ap saidChecked (g .1)), s .pre)
 
 same-length : tie.Need-same-length
 same-length c = omega arith
@@ -67,10 +59,7 @@ list-text-spec =
     code-of-requires
     put-refusal-requires
     enum-known-checked-2
-    cast-width
-    add-width
-    cast-width-2
-    add-width-2
+    row-words-requires
     page-text-requires
     same-length
     returns

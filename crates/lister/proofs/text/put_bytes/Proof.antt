@@ -9,7 +9,7 @@ use mathlib.Core.List.{[], _∷_}
 use denote.Ref.{now}
 use lib.ListN.{length, getD, take, length-set}
 use lib.Seq.{length-take-le, take-suc, take-all}
-use Rattle.lister.specs.Stored.{Stored}
+use Rattle.lister.specs.Inner.Stored.{Stored}
 use Rattle.lister.proofs.Laws.Stored.{stored-none, stored-one, stored-more}
 use Rattle.lister.proofs.text.put_bytes.Statement.{statement}
 use Rattle.lister.proofs.text.put_bytes.Tie as tie

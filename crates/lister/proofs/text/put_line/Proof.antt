@@ -9,13 +9,17 @@ put-bytes-requires : tie.Need-put-bytes-requires
 put-bytes-requires c κs = omega (arith, length-line (now (c .before .before .before .before .args .word)) (now (c .before .before .before .before .args .ns)), c .before .before .before .before .pre)
 
 put-numbers-requires : tie.Need-put-numbers-requires
-put-numbers-requires c κs = omega (arith, length-line (now (c .before .before .before .before .before .before .before .before .args .word)) (now (c .before .before .before .before .before .before .before .before .args .ns)), c .before .before .before .before .before .before .before .before .pre)
+put-numbers-requires c κs =
+    let s = c .before .before .before .before .before .before .before .before in
+    omega (arith, length-line (now (s .args .word)) (now (s .args .ns)), s .pre)
 
 slice-aggregate-put-bytes : tie.Need-slice-aggregate-put-bytes
 slice-aggregate-put-bytes c = omega arith
 
 put-bytes-requires-2 : tie.Need-put-bytes-requires-2
-put-bytes-requires-2 c κs = omega (arith, length-line (now (c .before .before .before .before .before .before .before .before .before .before .before .before .before .args .word)) (now (c .before .before .before .before .before .before .before .before .before .before .before .before .before .args .ns)), c .before .before .before .before .before .before .before .before .before .before .before .before .before .pre)
+put-bytes-requires-2 c κs =
+    let s = c .before .before .before .before .before .before .before .before .before .before .before .before .before in
+    omega (arith, length-line (now (s .args .word)) (now (s .args .ns)), s .pre)
 
 same-length : tie.Need-same-length
 same-length c = omega arith

@@ -9,7 +9,7 @@ use lib.ListN.{length, getD}
 use Rattle.seq.specs.Lists.{joined}
 use Rattle.seq.specs.Numbers.{run}
 use Rattle.lister.specs.Text.{spaced}
-use Rattle.lister.specs.Stored.{Stored}
+use Rattle.lister.specs.Inner.Stored.{Stored}
 use Rattle.lister.proofs.Laws.Stored.{stored-none, pieces-room, pieces-more}
 use Rattle.lister.proofs.Laws.Text.{numbers-pieces}
 use Rattle.lister.proofs.text.put_numbers.Statement.{statement}

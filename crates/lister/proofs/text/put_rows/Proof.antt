@@ -11,8 +11,8 @@ use lib.ListN.{length, take, drop}
 use Rattle.seq.specs.Lists.{joined}
 use Rattle.seq.specs.Numbers.{run}
 use Rattle.lister.specs.Text.{line, sceneWord}
-use Rattle.lister.specs.Stored.{Stored}
-use Rattle.lister.specs.Pages.{rowLines}
+use Rattle.lister.specs.Inner.Stored.{Stored}
+use Rattle.lister.specs.Inner.Pages.{rowLines}
 use Rattle.lister.proofs.Laws.Stored.{stored-none, pieces-room, pieces-more}
 use Rattle.lister.proofs.Laws.Lengths.{rows-short}
 use Rattle.lister.proofs.text.put_rows.Statement.{statement}

@@ -7,7 +7,7 @@ use native.Mathlib.Omega.{arith}
 use borrow.Author.Needs.{needs}
 use mathlib.Core.Path.{_∙_}
 use denote.Ref.{now}
-use Rattle.volume.specs.Below.{belowCount}
+use Rattle.volume.specs.Inner.Below.{belowCount}
 use Rattle.matcher.proofs.Laws.Cursors.{seek-here, galloped-end, stretch-within, window-hit, window-all}
 
 sub-if1 : tie.Need-sub-if1

@@ -3,7 +3,7 @@ use native.Mathlib.Omega.{arith}
 use Prim.Native.Nat.{_+_}
 use mathlib.Core.Path.{ap}
 use denote.Ref.{now}
-use Rattle.volume.specs.declared.reading.Span.{Span}
+use Rattle.volume.specs.declared.layout.Span.{Span}
 use Rattle.volume.proofs.Laws.Check.{good}
 use Rattle.matcher.proofs.Laws.Testing.{span-small}
 use Rattle.matcher.proofs.cursor.starts_of.Statement.{statement}

@@ -4,8 +4,9 @@ use Prim.Native.Nat.{ℕ, _+_, _*_, _<_}
 use mathlib.Core.Path.{_≡_, ap, _∙_}
 use mathlib.Core.List.{List}
 use denote.Ref.{now}
-use Rattle.volume.specs.declared.reading.Span.{Span}
-use Rattle.volume.specs.Layout.{listCount, spanOf}
+use Rattle.volume.specs.declared.layout.Span.{Span}
+use Rattle.volume.specs.Layout.{listCount}
+use Rattle.volume.specs.Inner.Places.{spanOf}
 use Rattle.volume.specs.Check.{Accepted}
 use Rattle.matcher.specs.Cursors.{Stretch, sought}
 use Rattle.matcher.proofs.Laws.Volume.{list-stretch}

@@ -11,7 +11,7 @@ use Rattle.seq.specs.Numbers.{firstFrom, sumTo}
 use Rattle.seq.proofs.Laws.Numbers.{first-hit, first-miss, first-end, sum-step}
 use Rattle.volume.specs.Layout.{word}
 use Rattle.volume.specs.Check.{checksumWrong, blockWrong, badBlock}
-use Rattle.volume.specs.Falls.{fall, fallsBefore}
+use Rattle.volume.specs.Inner.Falls.{fall, fallsBefore}
 use Rattle.volume.proofs.blocks.check_blocks.Statement.{statement}
 use Rattle.volume.proofs.blocks.check_blocks.Tie as tie
 
@@ -34,7 +34,7 @@ returns c =
     let l = c .before .before .before .loop in
     let v = now (c .before .before .before .before .before .args .volume) in
     let wrong : blockWrong v (l .k) ≡ true = ap (λ (t : Bool). t || checksumWrong v (l .k)) (sym (c .before .number-wrong .ensures) ∙ c .if1 .taken) in
-    (sym (first-hit (blockWrong v) (l .k) (length v / 512) (c .before .before .loop-test .taken) wrong) ∙ l .inv .4, l .inv .3, omega arith)
+    (sym (first-hit (blockWrong v) (l .k) (length v / 512) (c .before .before .loop-test .taken) wrong) ∙ l .inv .4, (l .inv .3, omega arith))
 
 checksum-wrong-requires : tie.Need-checksum-wrong-requires Inv-loop μ-loop
 checksum-wrong-requires c κs = omega arith
@@ -45,7 +45,7 @@ returns-2 c =
     let l = c .before .before .before .before .before .loop in
     let v = now (c .before .before .before .before .before .before .before .args .volume) in
     let wrong : blockWrong v (l .k) ≡ true = ap₂ (λ (s t : Bool). s || t) (sym (c .before .before .before .number-wrong .ensures) ∙ c .before .before .if1 .left) (sym (c .before .checksum-wrong .ensures) ∙ c .if2 .taken) in
-    (sym (first-hit (blockWrong v) (l .k) (length v / 512) (c .before .before .before .before .loop-test .taken) wrong) ∙ l .inv .4, l .inv .3, omega arith)
+    (sym (first-hit (blockWrong v) (l .k) (length v / 512) (c .before .before .before .before .loop-test .taken) wrong) ∙ l .inv .4, (l .inv .3, omega arith))
 
 falls-in-requires : tie.Need-falls-in-requires Inv-loop μ-loop
 falls-in-requires c κs = omega arith
@@ -99,7 +99,7 @@ returns-3 c =
     let l = c .before .loop in
     let v = now (c .before .before .before .args .volume) in
     let e : l .k ≡ length v / 512 = omega arith in
-    (sym e ∙ sym (first-end (blockWrong v) (l .k) (length v / 512) (c .loop-test .left)) ∙ l .inv .4, rw e at (l .inv .3), omega arith)
+    (sym e ∙ sym (first-end (blockWrong v) (l .k) (length v / 512) (c .loop-test .left)) ∙ l .inv .4, (rw e at (l .inv .3), omega arith))
 
 pub check-blocks-spec : {M : Type 1} → statement M
 check-blocks-spec =

@@ -51,7 +51,7 @@ returns-5 c =
 check-stream-requires : tie.Need-check-stream-requires
 check-stream-requires c κs =
     let all-blocks : c .before .check-blocks .result .bad ≡ length (now (c .before .before .before .before .before .before .args .volume)) / 512 = omega arith in
-    (omega arith, omega arith, omega arith, rw all-blocks at (c .before .check-blocks .ensures .1))
+    (omega arith, (omega arith, (omega arith, rw all-blocks at (c .before .check-blocks .ensures .1 .0))))
 
 returns-6 : tie.Need-returns-6
 returns-6 c =

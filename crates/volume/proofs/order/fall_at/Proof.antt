@@ -5,7 +5,7 @@ use mathlib.Core.Path.{ap₂, _∙_, sym}
 use denote.Ref.{now}
 use lib.ListN.{length}
 use Prim.Native.Nat.{_/_}
-use Rattle.volume.specs.Falls.{fall, fallOf}
+use Rattle.volume.specs.Inner.Falls.{fall, fallOf}
 use Rattle.volume.proofs.Laws.Falls.{fall-last}
 use Rattle.volume.proofs.order.fall_at.Statement.{statement}
 use Rattle.volume.proofs.order.fall_at.Tie as tie

@@ -4,7 +4,7 @@ use native.Mathlib.Omega.{arith}
 use Prim.Native.Nat.{_+_, _-_, _≤_}
 use mathlib.Core.Path.{_≡_}
 use denote.Ref.{now}
-use Rattle.volume.specs.Falls.{fallsBefore, fall}
+use Rattle.volume.specs.Inner.Falls.{fallsBefore, fall}
 use Rattle.volume.specs.Layout.{word}
 use Rattle.seq.proofs.Laws.Numbers.{sum-step}
 use Rattle.volume.proofs.order.falls_from.Statement.{statement}

@@ -5,7 +5,7 @@ use Prim.Native.Nat.{_+_, _*_, _-_, _≤_}
 use native.Mathlib.Nat.{add-zero}
 use mathlib.Core.Path.{_≡_, refl, ap₂, _∙_, sym}
 use denote.Ref.{now}
-use Rattle.volume.specs.Falls.{fallsBefore, fall, fallOf}
+use Rattle.volume.specs.Inner.Falls.{fallsBefore, fall, fallOf}
 use Rattle.volume.specs.Layout.{word}
 use Rattle.volume.proofs.Laws.Falls.{fall-in-block, falls-more}
 use Rattle.volume.proofs.order.falls_in.Statement.{statement}

@@ -19,32 +19,30 @@ abbrev μ-loop : tie.MeasureT-loop
 μ-loop volume lists n₀ end₀ i₀ n end i = lists - i
 
 -- the list that is read ends inside the blocks
-in-blocks : (c : tie.After-word-at Inv-loop μ-loop) → c .before .before .loop .end + c .word-at .result ≤ 126 * (length (now (c .before .before .before .before .args .volume)) / 512)
+in-blocks : (c : tie.After-count-at Inv-loop μ-loop)
+    → c .before .before .loop .end + c .count-at .result ≤ 126 * (length (now (c .before .before .before .before .before .args .volume)) / 512)
 in-blocks c =
     let l = c .before .before .loop in
-    let v = now (c .before .before .before .before .args .volume) in
+    let v = now (c .before .before .before .before .before .args .volume) in
     let here = l .inv .1 .here in
-    let size : c .word-at .result ≡ count v (l .i) = c .word-at .ensures in
+    let size : c .count-at .result ≡ count v (l .i) = c .count-at .ensures in
     let w = list-within v (l .i) (omega arith) in
     omega arith
 
-add-end : tie.Need-add-end Inv-loop μ-loop
-add-end c = omega arith
+lead-requires : tie.Need-lead-requires Inv-loop μ-loop
+lead-requires c κs = omega arith
 
 loop-holds : tie.Need-loop-holds Inv-loop μ-loop
-loop-holds c = (c .before .pre .1, rw (c .before .pre .1) (lists-first _))
+loop-holds c = let p = c .before .before .pre .1 .0 in (p, rw (c .lead .ensures, p) (lists-first _))
 
-add-word-at : tie.Need-add-word-at Inv-loop μ-loop
-add-word-at c = omega arith
-
-word-at-requires : tie.Need-word-at-requires Inv-loop μ-loop
-word-at-requires c κs = omega arith
+count-at-requires : tie.Need-count-at-requires Inv-loop μ-loop
+count-at-requires c κs = omega arith
 
 cast-size : tie.Need-cast-size Inv-loop μ-loop
 cast-size c = omega arith
 
-add-end-2 : tie.Need-add-end-2 Inv-loop μ-loop
-add-end-2 c = let w = in-blocks c in omega arith
+add-end : tie.Need-add-end Inv-loop μ-loop
+add-end c = let w = in-blocks c in omega arith
 
 sub-fall-at : tie.Need-sub-fall-at Inv-loop μ-loop
 sub-fall-at c = omega arith
@@ -67,12 +65,12 @@ loop-less c = omega arith
 loop-again : tie.Need-loop-again Inv-loop μ-loop
 loop-again c =
     let l = c .before .before .before .loop in
-    let v = now (c .before .before .before .before .before .args .volume) in
-    let size : c .before .word-at .result ≡ count v (l .i) = c .before .word-at .ensures in
+    let v = now (c .before .before .before .before .before .before .args .volume) in
+    let size : c .before .count-at .result ≡ count v (l .i) = c .before .count-at .ensures in
     let in-lists : l .i < listCount v = omega arith in (
       l .inv .0,
-      ⊎-elim (λ x. rw (x .2) (lists-some v (l .n) (l .end) (l .i) (c .before .word-at .result) (x .1 .result) (l .inv .1) in-lists size (x .0 .taken) (x .1 .ensures .1) (x .1 .ensures .0)))
-          (λ x. rw (x .1) (lists-none v (l .n) (l .end) (l .i) (c .before .word-at .result) (l .inv .1) in-lists size (x .0 .left))) (c .if1 .came),
+      ⊎-elim (λ x. rw (x .2) (lists-some v (l .n) (l .end) (l .i) (c .before .count-at .result) (x .1 .result) (l .inv .1) in-lists size (x .0 .taken) (x .1 .ensures .1) (x .1 .ensures .0)))
+          (λ x. rw (x .1) (lists-none v (l .n) (l .end) (l .i) (c .before .count-at .result) (l .inv .1) in-lists size (x .0 .left))) (c .if1 .came),
     )
 
 returns : tie.Need-returns Inv-loop μ-loop
@@ -87,12 +85,11 @@ list-falls-spec =
     (tie.spec
     Inv-loop
     μ-loop
-    add-end
+    lead-requires
     loop-holds
-    add-word-at
-    word-at-requires
+    count-at-requires
     cast-size
-    add-end-2
+    add-end
     sub-fall-at
     fall-at-requires
     cast-n

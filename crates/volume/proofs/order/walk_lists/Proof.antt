@@ -24,36 +24,35 @@ abbrev μ-loop : tie.MeasureT-loop
 μ-loop volume lists start₀ i₀ start i = lists - i
 
 -- the list that is read ends inside the blocks
-in-blocks : (c : tie.After-word-at Inv-loop μ-loop) → c .before .before .loop .start + c .word-at .result ≤ 126 * (length (now (c .before .before .before .before .args .volume)) / 512)
+in-blocks : (c : tie.After-count-at Inv-loop μ-loop)
+    → c .before .before .loop .start + c .count-at .result ≤ 126 * (length (now (c .before .before .before .before .before .args .volume)) / 512)
 in-blocks c =
     let l = c .before .before .loop in
-    let v = now (c .before .before .before .before .args .volume) in
-    let size : c .word-at .result ≡ count v (l .i) = c .word-at .ensures in
+    let v = now (c .before .before .before .before .before .args .volume) in
+    let size : c .count-at .result ≡ count v (l .i) = c .count-at .ensures in
     let w = list-within v (l .i) (omega arith) in
     omega arith
 
 -- what the walk of the list tells
-order-is : (c : tie.After-rising Inv-loop μ-loop) → orderWrong (now (c .before .before .before .before .before .args .volume)) (c .before .before .before .loop .i) ≡ not (c .rising .result)
+order-is : (c : tie.After-rising Inv-loop μ-loop)
+    → orderWrong (now (c .before .before .before .before .before .before .args .volume)) (c .before .before .before .loop .i) ≡ not (c .rising .result)
 unfolding orderWrong
 order-is c =
     let l = c .before .before .before .loop in
-    let v = now (c .before .before .before .before .before .args .volume) in
-    ap not (sym (c .rising .ensures ∙ ap₂ (λ (s n : ℕ). rises (run (word v) s n)) (l .inv .2) (c .before .word-at .ensures)))
+    let v = now (c .before .before .before .before .before .before .args .volume) in
+    ap not (sym (c .rising .ensures ∙ ap₂ (λ (s n : ℕ). rises (run (word v) s n)) (l .inv .2) (c .before .count-at .ensures)))
 
-add-start : tie.Need-add-start Inv-loop μ-loop
-add-start c = omega arith
+lead-requires : tie.Need-lead-requires Inv-loop μ-loop
+lead-requires c κs = omega arith
 
 loop-holds : tie.Need-loop-holds Inv-loop μ-loop
 unfolding sumTo
 loop-holds c =
-    let p = c .before .pre .0 in
+    let p = c .before .before .pre .0 in
     (p, omega arith, omega arith, ap (firstFrom (orderWrong _) 0) (sub-zero _ ∙ p))
 
-add-word-at : tie.Need-add-word-at Inv-loop μ-loop
-add-word-at c = omega arith
-
-word-at-requires : tie.Need-word-at-requires Inv-loop μ-loop
-word-at-requires c κs = omega arith
+count-at-requires : tie.Need-count-at-requires Inv-loop μ-loop
+count-at-requires c κs = omega arith
 
 cast-size : tie.Need-cast-size Inv-loop μ-loop
 cast-size c = omega arith
@@ -64,11 +63,11 @@ rising-requires c κs = in-blocks c
 returns : tie.Need-returns Inv-loop μ-loop
 returns c =
     let l = c .before .before .before .before .loop in
-    let a = c .before .before .before .before .before .before .args in
+    let a = c .before .before .before .before .before .before .before .args in
     sym (first-hit (orderWrong (now (a .volume))) (l .i) (a .lists) (c .before .before .before .loop-test .taken) (order-is (c .before) ∙ c .if1 .taken)) ∙ l .inv .3
 
-add-start-2 : tie.Need-add-start-2 Inv-loop μ-loop
-add-start-2 c = let w = in-blocks (c .before .before) in omega arith
+add-start : tie.Need-add-start Inv-loop μ-loop
+add-start c = let w = in-blocks (c .before .before) in omega arith
 
 add-i : tie.Need-add-i Inv-loop μ-loop
 add-i c = omega arith
@@ -79,10 +78,10 @@ loop-less c = omega arith
 loop-again : tie.Need-loop-again Inv-loop μ-loop
 loop-again c =
     let l = c .before .before .before .before .loop in
-    let a = c .before .before .before .before .before .before .args in
+    let a = c .before .before .before .before .before .before .before .args in
     let v = now (a .volume) in
     let step : sumTo (count v) (l .i + 1) ≡ sumTo (count v) (l .i) + count v (l .i) = sum-step (count v) (l .i) in
-    let size : c .before .before .word-at .result ≡ count v (l .i) = c .before .before .word-at .ensures in (
+    let size : c .before .before .count-at .result ≡ count v (l .i) = c .before .before .count-at .ensures in (
       l .inv .0,
       omega arith,
       omega arith,
@@ -92,7 +91,7 @@ loop-again c =
 returns-2 : tie.Need-returns-2 Inv-loop μ-loop
 returns-2 c =
     let l = c .before .loop in
-    let a = c .before .before .before .args in
+    let a = c .before .before .before .before .args in
     let e : l .i ≡ a .lists = omega arith in
     sym e ∙ sym (first-end (orderWrong (now (a .volume))) (l .i) (a .lists) (c .loop-test .left)) ∙ l .inv .3
 
@@ -102,14 +101,13 @@ walk-lists-spec =
     (tie.spec
     Inv-loop
     μ-loop
-    add-start
+    lead-requires
     loop-holds
-    add-word-at
-    word-at-requires
+    count-at-requires
     cast-size
     rising-requires
     returns
-    add-start-2
+    add-start
     add-i
     loop-less
     loop-again

@@ -1,10 +1,10 @@
 -- `reading::list_span` meets its contract: the counts of an accepted volume lie in its blocks. Assumes nothing.
 use native.Mathlib.Omega.{arith}
 use Prim.Native.Nat.{ℕ, _+_}
-use mathlib.Core.Path.{ap₂}
+use mathlib.Core.Path.{ap, ap₂, _∙_}
 use denote.Ref.{now}
-use Rattle.volume.specs.Layout.{start, count}
-use Rattle.volume.specs.declared.reading.Span.{Span}
+use Rattle.volume.specs.Layout.{lead, start, count}
+use Rattle.volume.specs.declared.layout.Span.{Span}
 use Rattle.volume.proofs.Laws.Check.{Good, good}
 use Rattle.volume.proofs.reading.list_span.Statement.{statement}
 use Rattle.volume.proofs.reading.list_span.Tie as tie
@@ -22,25 +22,23 @@ cast-lists c = omega arith
 count-sum-requires : tie.Need-count-sum-requires
 count-sum-requires c κs = let g = accepted (c .before .before) in omega arith
 
-add-word-at : tie.Need-add-word-at
-add-word-at c = omega arith
-
-word-at-requires-2 : tie.Need-word-at-requires-2
-word-at-requires-2 c κs = let g = accepted (c .before .before .before) in omega arith
+count-at-requires : tie.Need-count-at-requires
+count-at-requires c κs = let g = accepted (c .before .before .before) in omega arith
 
 cast-count : tie.Need-cast-count
 cast-count c = omega arith
 
+lead-requires : tie.Need-lead-requires
+lead-requires c κs = omega arith
+
 add-start : tie.Need-add-start
 add-start c = omega arith
-
-add-start-2 : tie.Need-add-start-2
-add-start-2 c = omega arith
 
 returns : tie.Need-returns
 returns c =
     let span : ℕ → ℕ → Span = λ s n. record { start = s; count = n } in
-    ap₂ span (ap₂ (λ (a b : ℕ). 2 + a + b) (c .before .before .word-at .ensures) (c .before .count-sum .ensures .0)) (c .word-at2 .ensures)
+    let front = c .lead .ensures ∙ ap (λ (n : ℕ). lead n) (c .before .before .before .word-at .ensures) in
+    ap₂ span (ap₂ (λ (a b : ℕ). a + b) front (c .before .before .count-sum .ensures .0)) (c .before .count-at .ensures)
 
 pub list-span-spec : {M : Type 1} → statement M
 list-span-spec =
@@ -49,9 +47,8 @@ list-span-spec =
     word-at-requires
     cast-lists
     count-sum-requires
-    add-word-at
-    word-at-requires-2
+    count-at-requires
     cast-count
+    lead-requires
     add-start
-    add-start-2
     returns)

@@ -10,7 +10,7 @@ use Rattle.seq.specs.Numbers.{run}
 use Rattle.seq.specs.Refusals.{answered}
 use Rattle.volume.specs.Answers.{Sizes, saidChecked}
 use Rattle.volume.specs.Layout.{word, listCount, count, start}
-use Rattle.volume.specs.declared.reading.Span.{Span}
+use Rattle.volume.specs.declared.layout.Span.{Span}
 use Rattle.volume.specs.Check.{verdict}
 use Rattle.volume.proofs.Laws.Check.{good, accepted-by, sizes-are}
 use Rattle.volume.proofs.Laws.Read.{read-volume, read-none, read-short, read-answer, read-kept, read-laid}
@@ -81,8 +81,8 @@ returns-2 c =
     let e = read-short (now (a .volume)) (a .list) (length (now (a .out))) (found (c .before .before .before .before)) (told (c .before .before .before .before)) (listed (c .before .before)) (omega arith) in
     (sym e, sym (read-kept (now (a .volume)) (a .list) (now (a .out)) 16 0 e))
 
-copy-words-requires : tie.Need-copy-words-requires
-copy-words-requires c κs = let w = within (c .before .before) in omega arith
+copy-postings-requires : tie.Need-copy-postings-requires
+copy-postings-requires c κs = let w = within (c .before .before) in omega arith
 
 cast-count : tie.Need-cast-count
 cast-count c = let w = within (c .before .before .before .before .before) in omega arith
@@ -104,7 +104,7 @@ returns-4 c =
     let n = count-is (c .before .before .before .before .before) in
     let e = read-answer v (a .list) (length (now (a .out))) _ (told (c .before .before .before .before .before .before .before .before)) (listed (c .before .before .before .before .before .before)) (omega arith) in (
       ap answered n ∙ sym e,
-      c .before .before .copy-words .ensures
+      c .before .before .copy-postings .ensures
           ∙ ap₂ (λ (s m : ℕ). run (word v) s m ++ drop m (now (a .out))) (start-is (c .before .before .before .before .before)) n ∙ sym (read-laid v (a .list) (now (a .out)) _ e),
     )
 
@@ -118,7 +118,7 @@ read-list-spec =
     returns
     list-span-requires
     returns-2
-    copy-words-requires
+    copy-postings-requires
     cast-count
     returns-3
     same-length

@@ -7,7 +7,7 @@ use denote.Ref.{now}
 use Rattle.seq.specs.Numbers.{sumTo}
 use Rattle.seq.proofs.Laws.Numbers.{sum-more}
 use Rattle.volume.specs.Layout.{word}
-use Rattle.volume.specs.Below.{belowOf, belowCount}
+use Rattle.volume.specs.Inner.Below.{belowOf, belowCount}
 use Rattle.volume.proofs.Laws.Stream.{word-near}
 use Rattle.volume.proofs.stream.below_in_window.Statement.{statement}
 use Rattle.volume.proofs.stream.below_in_window.Tie as tie

@@ -20,11 +20,8 @@ loop-holds : tie.Need-loop-holds Inv-loop μ-loop
 unfolding sumTo
 loop-holds c = omega arith
 
-add-word-at : tie.Need-add-word-at Inv-loop μ-loop
-add-word-at c = omega arith
-
-word-at-requires : tie.Need-word-at-requires Inv-loop μ-loop
-word-at-requires c κs = omega arith
+count-at-requires : tie.Need-count-at-requires Inv-loop μ-loop
+count-at-requires c κs = omega arith
 
 cast-sum : tie.Need-cast-sum Inv-loop μ-loop
 cast-sum c = omega arith
@@ -41,7 +38,7 @@ loop-less c = omega arith
 loop-again : tie.Need-loop-again Inv-loop μ-loop
 loop-again c =
     let l = c .before .before .loop in
-    (omega arith, omega arith, sum-more (count (now (c .before .before .before .before .args .volume))) (l .i) (l .sum) (c .word-at .result) (l .inv .2) (c .word-at .ensures))
+    (omega arith, omega arith, sum-more (count (now (c .before .before .before .before .args .volume))) (l .i) (l .sum) (c .count-at .result) (l .inv .2) (c .count-at .ensures))
 
 returns : tie.Need-returns Inv-loop μ-loop
 returns c =
@@ -56,8 +53,7 @@ count-sum-spec =
     Inv-loop
     μ-loop
     loop-holds
-    add-word-at
-    word-at-requires
+    count-at-requires
     cast-sum
     add-sum
     add-i

@@ -1,15 +1,14 @@
 -- `volume::writing::put_stream` meets its contract: behind the counts the stream's words are the postings.
 -- Assumes nothing.
-use Prim.Native.Nat.{_+_, _-_}
+use Prim.Native.Nat.{_-_}
 use native.Mathlib.Omega.{arith}
-use lib.ListN.{length}
 use denote.Ref.{now}
 use Rattle.volume.proofs.Laws.Write.{wordBytes-postings}
 use Rattle.volume.proofs.writing.put_stream.Statement.{statement}
 use Rattle.volume.proofs.writing.put_stream.Tie as tie
 
-add-lead : tie.Need-add-lead
-add-lead c = omega arith
+lead-requires : tie.Need-lead-requires
+lead-requires c κs = omega arith
 
 add-if2 : tie.Need-add-if2
 add-if2 c = omega arith
@@ -22,8 +21,9 @@ same-length c = omega arith
 
 returns : tie.Need-returns
 returns c =
-    let a = c .before .before .before .before .before .before .before .before .before .args in
-    rw (← wordBytes-postings (now (a .counts)) (now (a .postings)) (a .first) (a .first - (2 + length (now (a .counts)))) 126 (omega arith)) (c .before .before .put-postings .ensures)
+    let front = c .before .before .before .before .before .before in
+    let a = front .before .before .before .before .args in
+    rw (← wordBytes-postings (now (a .counts)) (now (a .postings)) (a .first) (a .first - front .lead .result) 126 (omega arith)) (c .before .before .put-postings .ensures)
 
 put-words-requires : tie.Need-put-words-requires
 put-words-requires c κs = omega arith
@@ -38,7 +38,7 @@ pub put-stream-spec : {M : Type 1} → statement M
 put-stream-spec =
     tie.close
     (tie.spec
-    add-lead
+    lead-requires
     add-if2
     put-postings-requires
     same-length

@@ -5,8 +5,8 @@ use Rattle.volume.proofs.Laws.Storing.{put-three}
 use Rattle.volume.proofs.writing.put_volume.Statement.{statement}
 use Rattle.volume.proofs.writing.put_volume.Tie as tie
 
-add-lead : tie.Need-add-lead
-add-lead c = omega arith
+lead-requires : tie.Need-lead-requires
+lead-requires c κs = omega arith
 
 add-least : tie.Need-add-least
 add-least c = omega arith
@@ -43,7 +43,7 @@ pub put-volume-spec : {M : Type 1} → statement M
 put-volume-spec =
     tie.close
     (tie.spec
-    add-lead
+    lead-requires
     add-least
     least-requires
     add-least-2

@@ -2,12 +2,13 @@
 -- Assumes nothing.
 use native.Mathlib.Omega.{arith}
 use borrow.Author.Tests.{ltb-true, ltb-false}
-use mathlib.Core.Path.{_≡_, refl, sym, _∙_}
+use mathlib.Core.Path.{_≡_, sym, ap, _∙_}
 use mathlib.Core.Logic.{inl, inr, ⊎-elim}
 use lib.ListN.{length}
 use denote.Ref.{now}
 use Rattle.seq.specs.Numbers.{sumTo}
 use Rattle.seq.specs.Lists.{at}
+use Rattle.volume.specs.Layout.{blocksFor}
 use Rattle.volume.proofs.Laws.WriteAnswer.{Ordered, refuses-counts, refuses-sum, refuses-order, refuses-large, refuses-short, answers}
 use Rattle.volume.proofs.writing.write.Statement.{statement}
 use Rattle.volume.proofs.writing.write.Tie as tie
@@ -44,14 +45,11 @@ cast-list c = omega (arith, ltb-false)
 returns-3 : tie.Need-returns-3
 returns-3 c = refuses-order _ _ _ (omega arith) (omega (arith, ltb-false)) (sum-is (c .before .before)) _ (c .before .bad-given .ensures) (c .if4 .taken)
 
-add-words : tie.Need-add-words
-add-words c = omega arith
-
-add-words-2 : tie.Need-add-words-2
-add-words-2 c = omega arith
+extent-of-requires : tie.Need-extent-of-requires
+extent-of-requires c κs = omega arith
 
 returns-4 : tie.Need-returns-4
-returns-4 c = refuses-large _ _ _ (ordered (c .before)) (c .if5 .taken)
+returns-4 c = refuses-large _ _ _ (ordered (c .before .before)) (rw (c .before .extent-of .ensures) at (c .if5 .taken))
 
 add-n : tie.Need-add-n
 add-n c = omega arith
@@ -60,7 +58,9 @@ mul-size : tie.Need-mul-size
 mul-size c = omega arith
 
 returns-5 : tie.Need-returns-5
-returns-5 c = refuses-short _ _ _ (ordered (c .before .before)) (c .before .if5 .left) (c .if6 .taken)
+returns-5 c =
+    let e = c .before .before .extent-of .ensures in
+    refuses-short _ _ _ (ordered (c .before .before .before)) (rw e at (c .before .if5 .left)) (rw e at (c .if6 .taken))
 
 put-volume-requires : tie.Need-put-volume-requires
 put-volume-requires c κs = omega (arith, ltb-false)
@@ -73,7 +73,9 @@ same-length c = omega arith
 
 returns-6 : tie.Need-returns-6
 returns-6 c =
-    answers _ _ _ (ordered (c .before .before .before .before .before .before)) (c .before .before .before .before .before .if5 .left) _ _ refl
+    let words = c .before .before .before .before .before .before in
+    let e = words .extent-of .ensures in
+    answers _ _ _ (ordered (words .before)) (rw e at (c .before .before .before .before .before .if5 .left)) _ _ (ap blocksFor e)
     (c .before .before .before .before .if6 .left) (c .before .before .put-volume .ensures)
 
 pub write-spec : {M : Type 1} → statement M
@@ -86,8 +88,7 @@ write-spec =
     bad-given-requires
     cast-list
     returns-3
-    add-words
-    add-words-2
+    extent-of-requires
     returns-4
     add-n
     mul-size

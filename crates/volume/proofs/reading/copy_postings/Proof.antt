@@ -1,4 +1,4 @@
--- `reading::copy_words` meets its contract. The loop's invariant: the first i words are copied, and the rest of the buffer is as it was.
+-- `reading::copy_postings` meets its contract. The loop's invariant: the first i postings are copied, and the rest of the buffer is as it was.
 -- The measure is what is left of n. Assumes nothing.
 use native.Mathlib.Omega.{arith}
 use Prim.Native.Nat.{ℕ, _+_, _-_, _≤_}
@@ -9,9 +9,10 @@ use lib.ListN.{length, set, drop, length-set}
 use Rattle.seq.specs.Numbers.{run}
 use Rattle.seq.proofs.Laws.Numbers.{run-snoc, length-run}
 use Rattle.seq.proofs.Laws.Stores.{put-next}
+use Rattle.volume.specs.declared.posting.Posting.{Posting}
 use Rattle.volume.specs.Layout.{word}
-use Rattle.volume.proofs.reading.copy_words.Statement.{statement}
-use Rattle.volume.proofs.reading.copy_words.Tie as tie
+use Rattle.volume.proofs.reading.copy_postings.Statement.{statement}
+use Rattle.volume.proofs.reading.copy_postings.Tie as tie
 
 abbrev Inv-loop : tie.InvT-loop
 Inv-loop volume from n out₀ i₀ out i = (i ≤ n) × (length out ≡ length out₀) × (out ≡ run (word volume) from i ++ drop i out₀)
@@ -23,11 +24,11 @@ loop-holds : tie.Need-loop-holds Inv-loop μ-loop
 unfolding run
 loop-holds c = (omega arith, refl, refl)
 
-add-word-at : tie.Need-add-word-at Inv-loop μ-loop
-add-word-at c = omega arith
+add-posting-at : tie.Need-add-posting-at Inv-loop μ-loop
+add-posting-at c = omega arith
 
-word-at-requires : tie.Need-word-at-requires Inv-loop μ-loop
-word-at-requires c κs = omega arith
+posting-at-requires : tie.Need-posting-at-requires Inv-loop μ-loop
+posting-at-requires c κs = omega arith
 
 mul-out : tie.Need-mul-out Inv-loop μ-loop
 mul-out c = omega arith
@@ -48,7 +49,7 @@ loop-again c =
     let f = word (now (a .volume)) in (
       omega arith,
       simp length-set (l .inv .1),
-      ap₂ (λ (xs : List ℕ) (x : ℕ). set xs (l .i) x) (l .inv .2) (c .word-at .ensures)
+      ap₂ (λ (xs : List ℕ) (x : ℕ). set xs (l .i) x) (l .inv .2) (ap (λ (p : Posting). p .bits) (c .posting-at .ensures))
           ∙ put-next (run f (a .from) (l .i)) (now (a .out)) (l .i) (f (a .from + l .i)) (length-run f (a .from) (l .i)) (omega arith)
           ∙ ap (λ (xs : List ℕ). xs ++ drop (l .i + 1) (now (a .out))) (sym (run-snoc f (a .from) (l .i))),
     )
@@ -62,15 +63,15 @@ returns c =
     let e : l .i ≡ c .before .before .before .before .args .n = omega arith in
     rw e at (l .inv .2)
 
-pub copy-words-spec : {M : Type 1} → statement M
-copy-words-spec =
+pub copy-postings-spec : {M : Type 1} → statement M
+copy-postings-spec =
     tie.close
     (tie.spec
     Inv-loop
     μ-loop
     loop-holds
-    add-word-at
-    word-at-requires
+    add-posting-at
+    posting-at-requires
     mul-out
     slice-write-out
     add-i

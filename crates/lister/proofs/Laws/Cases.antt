@@ -3,6 +3,7 @@
 -- are those below 3.
 --     plan-verdict, sample-work     the verdict on a plan over the sample volume, and what is searched, by the sample's lists
 --     none-later, docs-early        no posting from document 3 on, and no true document
+--     listed-quick, print-quick     listing, and what is printed, by the documents below 3
 --     told-quick                    what the definitions say to each question, by the documents below 3
 --     starred                       the table
 -- Assumes nothing.
@@ -20,6 +21,7 @@ use Rattle.seq.specs.Refusals.{Said, refused, answered, laid}
 use Rattle.seq.proofs.Laws.Tests.{below-or}
 use Rattle.seq.proofs.Laws.Totals.{total-ext}
 use Rattle.block.specs.Checksum.{sumA, sumB}
+use Rattle.volume.specs.Write.{volumeOf, written, blocksFrom, sealed, blockBody, wordBytes}
 use Rattle.volume.specs.Demands.{sampleLists}
 use Rattle.volume.proofs.Demands as volume
 use Rattle.plan.specs.Answers.{Sizes}
@@ -31,13 +33,16 @@ use Rattle.plan.proofs.Laws.CheckFirst.{check-sound}
 use Rattle.fulltext.specs.Positions.{limit, listOf, positionsIn, countIn}
 use Rattle.fulltext.specs.Matches.{holds, withEach, tuples, matches, leastIn}
 use Rattle.fulltext.specs.Documents.{found, matching, rowIn, postingsIn, Work, workOf, docsIn, rowsOfDocs, work}
 use Rattle.search.specs.Answers.{Page}
 use Rattle.search.specs.Pages.{portion}
 use Rattle.search.specs.Listing.{pageBy, pageOf, rowsFrom, listBy, listAnswer, listOut}
-use Rattle.search.specs.Cases.{sample, untouched, Question, zeroBytes, checkSample, list, Result, checked, listed, told, Case, table}
-use Rattle.search.specs.Demands.{Cases}
+use Rattle.lister.specs.Text.{line, doneWord, refusedWord}
+use Rattle.lister.specs.Printed.{planWords, docLines, listing, printed}
+use Rattle.lister.specs.Cases.{sample, fileOf, untouched, Question, zeroBytes, list, print, Result, listed, text, told, Case, table}
+use Rattle.lister.specs.Demands.{Cases}
 use Rattle.fulltext.proofs.Laws.Docs.{docs-parts, docs-none}
 use Rattle.fulltext.proofs.Laws.Skips.{skip}
+use Rattle.lister.proofs.Laws.Whole.{printed-short}
 
 -- a list of the sample has no posting from document 3 on
 list-later : (l : ℕ) → countIn 3 limit (listOf sampleLists l) ≡ 0
@@ -116,20 +121,43 @@ module _ (p : List ℕ) where
       ∙ listed-early start (untouched n)
       ∙ ap₂ (λ (s : Said Sizes) (w : Work). listedBy s w (docsIn w start 3) start (untouched n)) plan-verdict sample-work
 
+-- the text where the verdict on the plan, what is searched and the true documents are known
+abbrev textBy : Said Sizes → Work → List ℕ → List ℕ
+textBy (refused n q) w ds = line refusedWord (n ∷ q ∷ [])
+textBy (answered s) w ds = docLines w ds ++ line doneWord (w .postings 0 limit ∷ [])
+
+text-by : (s : Said Sizes) (w : Work) → listing s w ≡ textBy s w (docsIn w 0 limit)
+text-by (refused n q) w = refl
+text-by (answered s) w = refl
+
+sample-length : length sample ≡ 512
+unfolding volumeOf written blocksFrom joined sealed blockBody wordBytes run
+sample-length = refl
+
+text-early : (p : List ℕ) → textBy (verdict sample p) (work sample p) (docsIn (work sample p) 0 limit) ≡ textBy (verdict sample p) (work sample p) (docsIn (work sample p) 0 3)
+text-early p = ⊎-elim (λ (ok : Accepted sample p). rw (docs-early p ok 0)) (λ r. rw (r .2)) (check-sound sample p .total)
+
+print-quick : (b : List ℕ) → printed sample b ≡ textBy (planVerdict 3 (planWords b)) (works (planWords b)) (docsIn (works (planWords b)) 0 3)
+print-quick b =
+    printed-short sample b (verdict sample (planWords b)) (let n = sample-length in omega arith) refl
+    ∙ text-by (verdict sample (planWords b)) (work sample (planWords b))
+    ∙ text-early (planWords b)
+    ∙ ap₂ (λ (s : Said Sizes) (w : Work). textBy s w (docsIn w 0 3)) (plan-verdict (planWords b)) (sample-work (planWords b))
+
 -- what is said to each question, by the documents below 3
 abbrev quick : Question → Result
 quick (zeroBytes n) = told (zeroBytes n)
-quick checkSample = checked (answered (record { lists = 3; postings = 8 }))
 quick (list p start n) = listedBy (planVerdict 3 p) (works p) (docsIn (works p) start 3) start (untouched n)
+quick (print p) = let words = planWords (fileOf p) in text (textBy (planVerdict 3 words) (works words) (docsIn (works words) 0 3))
 
 told-quick : (q : Question) → told q ≡ quick q
 told-quick (zeroBytes n) = refl
-told-quick checkSample = ap checked (volume.sample .checks)
 told-quick (list p start n) = listed-quick p start n
+told-quick (print p) = ap text (print-quick (fileOf p))
 
 pub starred : Cases
 unfolding
     keep all total joined firstFrom run laid sumA sumB
     rowAt misused formWrong afterAll stateAt step patternsFrom answersFrom answer lengthWrong rowWrong rowFault rowsWrong unfinished sizes rowsVerdict planVerdict
-    positionsIn countIn holds withEach tuples matches leastIn found matching rowIn varsOf postingsIn workOf docsIn rowsOfDocs table Cases
+    positionsIn countIn holds withEach tuples matches leastIn found matching rowIn varsOf postingsIn workOf docsIn rowsOfDocs planWords docLines table Cases
 starred = ap (λ (f : Question → Result). map (λ (c : Case). f (c .asked)) table) (fun-ext told-quick)

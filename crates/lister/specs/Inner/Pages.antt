@@ -12,7 +12,7 @@ use Rattle.lister.specs.declared.pages.Paged.{Paged}
 use Rattle.lister.specs.declared.pages.Paged.the-variants.{Last, More}
 use Rattle.lister.specs.Text.{line, sceneWord, refusedWord}
 use Rattle.lister.specs.Turns.{Turn, turnOf, only}
-use Rattle.lister.specs.Stored.{put}
+use Rattle.lister.specs.Inner.Stored.{put}
 
 -- a line for each of the n rows at the front of a page
 unfoldable pub rowLines : ℕ → List ℕ → ℕ → List ℕ

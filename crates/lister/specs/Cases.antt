@@ -1,27 +1,33 @@
--- The starred cases of document 01 ("The printed listing") as rows of one table: what is asked, and what the definitions of the calls must say.
--- The volume is the bytes that the writer's definition gives for the sample's lists, a plan is the words that a caller lends, and every word of
--- a buffer is 99 before the call, which no row holds. Above its rows stands the paper's line with its star; the rows behind those go beyond it.
+-- The starred cases of document 01 ("The printed listing") as rows of one table: what is asked, and what the definitions must say.
+-- The volume is the bytes that the writer's definition gives for the sample's lists, a plan is the words that a caller lends, and every
+-- word of a buffer is 99 before the call, which no row holds. Above its rows stands the paper's line with its star. What the paper does
+-- not star is tested (`rust/tests`).
 --     Question, Result, told      what is asked, and what the definitions say
 --     voice .. firstNotSecond     the words of a plan's rows
 --     table                       the cases
 -- Assumes nothing.
 use Prim.Native.Nat.{ℕ}
-use mathlib.Core.List.{List, [], _∷_, _++_}
+use mathlib.Core.List.{List, [], _∷_, _++_, map}
 use lib.ListN.{length, replicate}
+use Rattle.seq.specs.Lists.{joined}
 use Rattle.seq.specs.Refusals.{Said, refused, answered}
+use Rattle.block.specs.Bytes.{bytes32}
 use Rattle.block.specs.Checksum.{checkA, checkB}
-use Rattle.volume.specs.Answers as volumes
-use Rattle.volume.specs.Check as volume
 use Rattle.volume.specs.Write.{volumeOf}
 use Rattle.volume.specs.Demands.{sampleLists}
 use Rattle.plan.specs.Answers.{Sizes}
-use Rattle.plan.specs.Check as plan
+use Rattle.plan.specs.Check.{verdict}
 use Rattle.search.specs.Answers.{Next, done, more, Page}
 use Rattle.search.specs.Listing.{listAnswer, listOut}
+use Rattle.lister.specs.Printed.{printed}
 
 -- the sample volume's bytes
 abbrev pub sample : List ℕ
 sample = volumeOf sampleLists
+
+-- a plan's words as the bytes of its file
+abbrev pub fileOf : List ℕ → List ℕ
+fileOf p = joined (map bytes32 p)
 
 -- so many words of a buffer that nobody has written to
 abbrev pub untouched : ℕ → List ℕ
@@ -31,25 +37,26 @@ untouched n = replicate n 99
 pub data Question : Type 0 where
   -- the checksum of so many zero bytes
   zeroBytes : ℕ → Question
-  -- checking the sample volume
-  checkSample : Question
   -- over the sample volume, with a plan, a start document and a buffer of so many words: checking the plan, and listing
   list : List ℕ → ℕ → ℕ → Question
+  -- the program's output for the files of the sample volume and of a plan
+  print : List ℕ → Question
 
 -- what is said
 pub data Result : Type 0 where
   -- A and B
   sums : ℕ → ℕ → Result
-  -- the verdict on a volume
-  checked : Said volumes.Sizes → Result
   -- the verdict on a plan; the answer to listing, and the buffer afterwards
   listed : Said Sizes → Said Page → List ℕ → Result
+  -- the bytes that are printed
+  text : List ℕ → Result
 
--- what the definitions say: those of the checksum, of `volume::check`, and of `plan::check` and `search::list`
+-- what the definitions say: those of the checksum, of `plan::check` and `search::list`, and of the printed listing
 abbrev pub told : Question → Result
 told (zeroBytes n) = sums (checkA (replicate n 0)) (checkB (replicate n 0))
-told checkSample = checked (volume.verdict sample)
-told (list p start n) = listed (plan.verdict sample p) (listAnswer sample p start (length (untouched n))) (listOut sample p start (untouched n))
+told (list p start n) =
+    listed (verdict sample p) (listAnswer sample p start (length (untouched n))) (listOut sample p start (untouched n))
+told (print p) = text (printed sample (fileOf p))
 
 -- a row of the table
 pub record Case : Type 0 where
@@ -75,12 +82,6 @@ span c = 5 ∷ 0 ∷ 0 ∷ c ∷ []
 abbrev pub end : List ℕ
 end = 6 ∷ 0 ∷ 0 ∷ 0 ∷ []
 
-abbrev pub both : List ℕ
-both = 7 ∷ 0 ∷ 0 ∷ 0 ∷ []
-
-abbrev pub either : List ℕ
-either = 8 ∷ 0 ∷ 0 ∷ 0 ∷ []
-
 abbrev pub firstNotSecond : List ℕ
 firstNotSecond = 9 ∷ 0 ∷ 0 ∷ 0 ∷ []
 
@@ -90,6 +91,17 @@ twoVoices conditions = voice 1 ++ voice 2 ++ conditions ++ end
 
 abbrev pub samplePlan : List ℕ
 samplePlan = twoVoices (before 0 1 ++ sameTitle 0 1)
+
+-- the sample listing
+--     scene 1 1 2 5
+--     scene 2 1 4 9
+--     done 6
+abbrev pub sampleText : List ℕ
+sampleText =
+    115 ∷ 99 ∷ 101 ∷ 110 ∷ 101 ∷ 32 ∷ 49 ∷ 32 ∷ 49 ∷ 32 ∷ 50 ∷ 32 ∷ 53 ∷ 10
+    ∷ 115 ∷ 99 ∷ 101 ∷ 110 ∷ 101 ∷ 32 ∷ 50 ∷ 32 ∷ 49 ∷ 32 ∷ 52 ∷ 32 ∷ 57 ∷ 10
+    ∷ 100 ∷ 111 ∷ 110 ∷ 101 ∷ 32 ∷ 54 ∷ 10
+    ∷ []
 
 -- a plan is accepted with so many patterns and variables (01: F and V)
 abbrev pub accepted : ℕ → ℕ → Said Sizes
@@ -105,7 +117,8 @@ case asked wanted = record { asked = asked; wanted = wanted }
 unfoldable pub table : List Case
 table =
     -- * The listing above.
-    case (list samplePlan 0 12) (listed (accepted 1 2) (page 2 6 done) (1 ∷ 1 ∷ 2 ∷ 5 ∷ 2 ∷ 1 ∷ 4 ∷ 9 ∷ untouched 4))
+    case (print samplePlan) (text sampleText)
+    ∷ case (list samplePlan 0 12) (listed (accepted 1 2) (page 2 6 done) (1 ∷ 1 ∷ 2 ∷ 5 ∷ 2 ∷ 1 ∷ 4 ∷ 9 ∷ untouched 4))
     -- * NEAR 0 1, c = 0: only scene 1, places 8 7.
     ∷ case (list (twoVoices (near 0 1 0)) 0 12) (listed (accepted 1 2) (page 1 6 done) (1 ∷ 1 ∷ 8 ∷ 7 ∷ untouched 8))
     -- * NEAR 0 1, c = 3: scene 2 absent.
@@ -128,22 +141,8 @@ table =
     -- * Buffer of 3: refusal 16.
     ∷ case (list samplePlan 0 3) (listed (accepted 1 2) (refused 16 0) (untouched 3))
     -- * BEFORE 0 1 FIRST NOT SECOND NEAR c = 0: the row 2 1 4 9 0 0 0 alone.
-    ∷ case (list (twoVoices (before 0 1) ++ twoVoices (near 0 1 0) ++ firstNotSecond) 0 14) (listed (accepted 2 4) (page 1 12 done) (2 ∷ 1 ∷ 4 ∷ 9 ∷ 0 ∷ 0 ∷ 0 ∷ untouched 7))
+    ∷ case (list (twoVoices (before 0 1) ++ twoVoices (near 0 1 0) ++ firstNotSecond) 0 14)
+    (listed (accepted 2 4) (page 1 12 done) (2 ∷ 1 ∷ 4 ∷ 9 ∷ 0 ∷ 0 ∷ 0 ∷ untouched 7))
     -- * 508 zero bytes give A = 1, B = 508.
     ∷ case (zeroBytes 508) (sums 1 508)
-    -- The sample volume is accepted: T = 3, S = 8.
-    ∷ case checkSample (checked (answered (record { lists = 3; postings = 8 })))
-    -- BEFORE 0 1 BOTH NEAR c = 0; the same with EITHER.
-    ∷ case (list (twoVoices (before 0 1) ++ twoVoices (near 0 1 0) ++ both) 0 14) (listed (accepted 2 4) (page 1 12 done) (1 ∷ 1 ∷ 2 ∷ 5 ∷ 1 ∷ 8 ∷ 7 ∷ untouched 7))
-    ∷ case (list (twoVoices (before 0 1) ++ twoVoices (near 0 1 0) ++ either) 0 14) (listed (accepted 2 4) (page 2 12 done) (1 ∷ 1 ∷ 2 ∷ 5 ∷ 1 ∷ 8 ∷ 7 ∷ 2 ∷ 1 ∷ 4 ∷ 9 ∷ 0 ∷ 0 ∷ 0 ∷ []))
-    -- From 65,535 on there is nothing. Start 65,536: refusal 15, in front of 16.
-    ∷ case (list samplePlan 65535 12) (listed (accepted 1 2) (page 0 0 done) (untouched 12))
-    ∷ case (list samplePlan 65536 3) (listed (accepted 1 2) (refused 15 0) (untouched 3))
-    -- 9: no row. 10: c over 65,535. 11: a list not below T. 12: a ninth voice. 13: a voice not there. 14: a figure open at the end.
-    ∷ case (list [] 0 12) (listed (refused 9 0) (refused 9 0) (untouched 12))
-    ∷ case (list (twoVoices (near 0 1 65536)) 0 12) (listed (refused 10 2) (refused 10 2) (untouched 12))
-    ∷ case (list (voice 1 ++ voice 3 ++ end) 0 12) (listed (refused 11 1) (refused 11 1) (untouched 12))
-    ∷ case (list (voice 1 ++ voice 1 ++ voice 1 ++ voice 1 ++ voice 1 ++ voice 1 ++ voice 1 ++ voice 1 ++ voice 1 ++ end) 0 12) (listed (refused 12 8) (refused 12 8) (untouched 12))
-    ∷ case (list (twoVoices (before 0 2)) 0 12) (listed (refused 13 2) (refused 13 2) (untouched 12))
-    ∷ case (list (voice 1 ++ voice 2) 0 12) (listed (refused 14 0) (refused 14 0) (untouched 12))
     ∷ []

@@ -1,11 +1,11 @@
--- Falls of the stream: what `src/order.rt` counts. No call's promise rests on this file alone. Assumes nothing.
+-- Falls of the stream: what `src/order.rt` counts. No call's promise rests on this file. Assumes nothing.
 use Prim.Native.Nat.{ℕ, _+_, _≤_}
 use mathlib.Core.Path.{_≡_}
 use mathlib.Core.Bool.{cond}
 use mathlib.Core.List.{List}
 use lib.Dec.{ltb}
 use Rattle.seq.specs.Numbers.{sumTo}
-use Rattle.volume.specs.Layout.{word, listCount, extent}
+use Rattle.volume.specs.Layout.{word, listCount, lead, extent}
 use Rattle.volume.specs.Check.{badList}
 
 -- 1 where y is not above x
@@ -23,5 +23,5 @@ fallsBefore v m = sumTo (fall (word v)) m
 -- n falls at the last postings of v's lists: no more than the lists have in all, and if as many then every list rises
 pub record ListFalls (v : List ℕ) (n : ℕ) : Type 0 where
   pub few : n ≤ 1024
-  pub within : fallsBefore v (2 + listCount v) + n ≤ fallsBefore v (extent v)
-  pub exact : fallsBefore v (2 + listCount v) + n ≡ fallsBefore v (extent v) → badList v ≡ listCount v
+  pub within : fallsBefore v (lead (listCount v)) + n ≤ fallsBefore v (extent v)
+  pub exact : fallsBefore v (lead (listCount v)) + n ≡ fallsBefore v (extent v) → badList v ≡ listCount v
