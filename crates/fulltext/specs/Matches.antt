@@ -1,16 +1,16 @@
--- A pattern in one document: its predicates as tests, the tuples of positions that match, and the least of them. Assumes nothing.
+-- A pattern in one document: its predicates as tests, the tuples of positions that match, and the least of them.
+-- Assumes nothing.
 use Prim.Native.Nat.{ℕ, _+_, _-_, min, max, _≤_}
 use mathlib.Core.Path.{_≡_}
 use mathlib.Core.Bool.{Bool, true, false, not, _&&_}
 use mathlib.Core.List.{List, [], _∷_, _++_, map}
 use mathlib.Core.Option.{Option}
-use lib.ListN.{length}
-use lib.Dec.{eqb, leb, ltb}
+use lib.Dec.{leb, ltb}
 use Rattle.seq.specs.Lists.{keep, all, elem, first}
 use Rattle.plan.specs.declared.row.Predicate.{Predicate}
 use Rattle.plan.specs.declared.row.Predicate.the-variants.{Distance, Ordered, Samepara, Window}
 use Rattle.plan.specs.Patterns.{Pattern}
-use Rattle.fulltext.specs.Positions.{limit, listOf, positionsIn}
+use Rattle.fulltext.specs.Positions.{listOf, positionsIn}
 use Rattle.fulltext.specs.Calculus.{at}
 
 -- how far two positions are apart
@@ -29,21 +29,21 @@ abbrev pub smallest : List ℕ → ℕ
 smallest [] = 0
 smallest (p ∷ ps) = smallestOf p ps
 
--- a start s parts two positions: smaller < s ≤ larger
-abbrev pub parts : ℕ → ℕ → ℕ → Bool
-parts p q s = ltb (min p q) s && leb s (max p q)
+-- a start s separates two positions: smaller < s ≤ larger
+abbrev pub separates : ℕ → ℕ → ℕ → Bool
+separates p q s = ltb (min p q) s && leb s (max p q)
 
--- no start parts them
+-- no start separates them
 abbrev pub together : List ℕ → ℕ → ℕ → Bool
-together starts p q = all (λ s. not (parts p q s)) starts
+together starts p q = all (λ s. not (separates p q s)) starts
 
 -- a predicate (01: condition) holds of the variables' positions, in a document with these starts
 unfoldable pub holds : List ℕ → Predicate → List ℕ → Bool
 unfolding all
-holds starts (Distance a b limit) ps = leb (apart (at ps a) (at ps b)) (limit + 1)
+holds starts (Distance a b c) ps = leb (apart (at ps a) (at ps b)) (c + 1)
 holds starts (Ordered a b) ps = ltb (at ps a) (at ps b)
 holds starts (Samepara a b) ps = together starts (at ps a) (at ps b)
-holds starts (Window limit) ps = leb (largest ps - smallest ps) (limit - 1)
+holds starts (Window c) ps = leb (largest ps - smallest ps) (c - 1)
 
 abbrev pub allHold : List ℕ → List Predicate → List ℕ → Bool
 allHold starts cs ps = all (λ c. holds starts c ps) cs
@@ -102,35 +102,7 @@ infix 40 _⊑_
 abbrev pub _⊑_ : List ℕ → List ℕ → Type 0
 ps ⊑ qs = (x : ℕ) → at ps x ≤ at qs x
 
--- the same as a test
-unfoldable pub reaches : List ℕ → List ℕ → Bool
-reaches [] qs = true
-reaches (p ∷ ps) [] = eqb p 0 && reaches ps []
-reaches (p ∷ ps) (q ∷ qs) = leb p q && reaches ps qs
-
--- a match that stands in each variable at bs or behind, and the least such match
-abbrev pub MatchFrom : List (List ℕ) → ℕ → Pattern → List ℕ → List ℕ → Type 0
-MatchFrom lists d f bs qs = (matchesAt lists d f qs ≡ true) × (bs ⊑ qs)
-
-unfoldable pub leastFrom : List (List ℕ) → ℕ → Pattern → List ℕ → Option (List ℕ)
-unfolding keep reaches matchesIn
-leastFrom lists d f bs = first (keep (reaches bs) (matchesIn lists d f))
-
 -- ps is the least match: it matches, and every match has in each variable a position at least as large
 pub record Least (lists : List (List ℕ)) (d : ℕ) (f : Pattern) (ps : List ℕ) : Type 0 where
   pub matching : matchesAt lists d f ps ≡ true
   pub least : (qs : List ℕ) → matchesAt lists d f qs ≡ true → ps ⊑ qs
-
--- variable x needs at least b: wherever the predicate holds and each variable is at least as far as in ps, x is at b or behind
-abbrev pub Needs : List ℕ → Predicate → List ℕ → ℕ → ℕ → Type 0
-Needs starts c ps x b = (qs : List ℕ) → length qs ≡ length ps → ps ⊑ qs → holds starts c qs ≡ true → b ≤ at qs x
-
--- the greatest of some numbers, or 65,536 where there is none
-abbrev pub greatest : List ℕ → ℕ
-greatest [] = limit
-greatest (s ∷ ss) = largest (s ∷ ss)
-
--- the start of the paragraph of position p: the greatest start not above it, or 65,536 where there is none
-unfoldable pub paraStart : List ℕ → ℕ → ℕ
-unfolding keep
-paraStart starts p = greatest (keep (λ s. leb s p) starts)

@@ -1,5 +1,4 @@
 -- Document 01's number and values for each answer of the crate's call. Assumes nothing.
-use Prim.Native.Nat.{ℕ}
 use mathlib.Core.Bool.{Bool}
 use Rattle.seq.specs.Refusals.{Said, refused, answered}
 use Rattle.plan.specs.Answers.{saidRefusal}

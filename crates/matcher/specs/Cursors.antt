@@ -1,15 +1,13 @@
--- Cursors on the lists of a volume: where they stand, and how they move. A cursor is a stream index and the end of its list. Assumes nothing.
+-- Cursors on the lists of a volume: where they stand, and how they move. A cursor is a stream index and the end of its list.
+-- Assumes nothing.
 use Prim.Native.Nat.{ℕ, _+_, _-_, _*_, _<_, _≤_}
 use mathlib.Core.Path.{_≡_}
-use mathlib.Core.List.{List, [], _∷_}
+use mathlib.Core.List.{List}
 use lib.Dec.{leb}
-use Rattle.seq.specs.Lists.{keep}
 use Rattle.seq.specs.Numbers.{firstFrom}
 use Rattle.volume.specs.Layout.{streamLength, word, count, start}
 use Rattle.matcher.specs.declared.cursor.Cursor.{Cursor}
 use Rattle.matcher.specs.declared.cursor.Document.{Document}
-use Rattle.fulltext.specs.Positions.{limit}
-use Rattle.fulltext.specs.Matches.{largest}
 
 -- the first stream index from i up to e whose word is not below target; e where there is none
 unfoldable pub seekFrom : List ℕ → ℕ → ℕ → ℕ → ℕ

@@ -17,6 +17,6 @@ pub data TestApplies (v p : List ℕ) (k d : ℕ) (ps : List ℕ) : ℕ → ℕ 
   wrongDoc : 65535 < d → TestApplies v p k d ps 17 0
   wrongPos : (i : ℕ) → i < length ps → 65535 < getD ps i 0 → TestApplies v p k d ps 17 0
 
--- the stages of the two calls
+-- the stages of the call
 abbrev pub testStages : List (List ℕ)
 testStages = planStages ++ ((17 ∷ []) ∷ [])

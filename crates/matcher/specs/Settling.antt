@@ -12,7 +12,7 @@ use Rattle.plan.specs.Patterns.{Pattern}
 use Rattle.plan.specs.Check.{Accepted, sizes}
 use Rattle.plan.specs.Accepted.{patternAt}
 use Rattle.fulltext.specs.Calculus.{at}
-use Rattle.fulltext.specs.Matches.{MatchFrom}
+use Rattle.fulltext.specs.Inner.Bounds.{MatchFrom}
 use Rattle.matcher.specs.declared.cursor.Document.{Document}
 use Rattle.matcher.specs.Cursors.{seekFrom, listEnd, Stands, AtDocument}
 use Rattle.matcher.specs.Shortfall.{InDocument}
@@ -26,13 +26,16 @@ use Rattle.fulltext.specs.Documents.{found}
 abbrev pub Among : ℕ → ℕ → ℕ → Type 0
 Among first n x = (first ≤ x) × (x < first + n)
 
--- pattern k can be found in document r and in none from document d up to r; its cursors stand there. r is 65,536 where no document is left
+-- pattern k can be found in document r and in none from document d up to r; its cursors stand there. r is 65,536 where no document is
+-- left
 pub record Candidate (v p ats ends : List ℕ) (k d r : ℕ) : Type 0 where
   pub from : d ≤ r
   pub to : r ≤ limit
   pub absent : (e : ℕ) → d ≤ e → e < r → found (listsOf v) e (patternAt p k) ≡ false
-  pub stands : (x : ℕ) → Among (varsBefore p k) (length (patternAt p k .vars)) x → Stands v (varAt p x) r (getD ats x 0) × (getD ends x 0 ≡ listEnd v (varAt p x))
-  pub here : r < limit → (x : ℕ) → Among (varsBefore p k) (length (patternAt p k .vars)) x → (getD ats x 0 < getD ends x 0) × (docOf (word v (getD ats x 0)) ≡ r)
+  pub stands : (x : ℕ) → Among (varsBefore p k) (length (patternAt p k .vars)) x
+      → Stands v (varAt p x) r (getD ats x 0) × (getD ends x 0 ≡ listEnd v (varAt p x))
+  pub here : r < limit → (x : ℕ) → Among (varsBefore p k) (length (patternAt p k .vars)) x
+      → (getD ats x 0 < getD ends x 0) × (docOf (word v (getD ats x 0)) ≡ r)
 
 -- stream index i is that of position q of document d in list l
 pub record AtPos (v : List ℕ) (l d i q : ℕ) : Type 0 where
@@ -41,15 +44,17 @@ pub record AtPos (v : List ℕ) (l d i q : ℕ) : Type 0 where
   pub small : q ≤ 65535
   pub word-is : word v i ≡ d * 65536 + q
 
--- variable x, at stream index i of a list that ends at e, seeks position b of document d: it is set to the first posting there that is not
--- below it, or stays where there is none in the document
+-- variable x, of a list that ends at e, seeks position b of document d: it is set to the first posting there that is not below it, or stays
+-- where there is none in the document
 abbrev pub Jumped : List ℕ → ℕ → ℕ → ℕ → ℕ → List ℕ → List ℕ → Bool → List ℕ → List ℕ → Type 0
 Jumped v d e b x here ps true here′ ps′ =
     (seekFrom v (d * 65536 + b) (getD here x 0) e < e)
     × ((docOf (word v (seekFrom v (d * 65536 + b) (getD here x 0) e)) ≡ d)
-    × ((here′ ≡ set here x (seekFrom v (d * 65536 + b) (getD here x 0) e)) × (ps′ ≡ set ps x (posOf (word v (seekFrom v (d * 65536 + b) (getD here x 0) e))))))
+    × ((here′ ≡ set here x (seekFrom v (d * 65536 + b) (getD here x 0) e))
+    × (ps′ ≡ set ps x (posOf (word v (seekFrom v (d * 65536 + b) (getD here x 0) e))))))
 Jumped v d e b x here ps false here′ ps′ =
-    ((e ≤ seekFrom v (d * 65536 + b) (getD here x 0) e) ⊎ ((seekFrom v (d * 65536 + b) (getD here x 0) e < e) × (docOf (word v (seekFrom v (d * 65536 + b) (getD here x 0) e)) ≢ d)))
+    ((e ≤ seekFrom v (d * 65536 + b) (getD here x 0) e)
+    ⊎ ((seekFrom v (d * 65536 + b) (getD here x 0) e < e) × (docOf (word v (seekFrom v (d * 65536 + b) (getD here x 0) e)) ≢ d)))
     × ((here′ ≡ here) × (ps′ ≡ ps))
 
 -- the variables of a pattern stand at positions of document d

@@ -9,7 +9,8 @@ use Rattle.matcher.specs.declared.predicates.Shortfall.{Shortfall}
 use Rattle.matcher.specs.declared.predicates.Shortfall.the-variants.{Holds, Short}
 use Rattle.fulltext.specs.Positions.{limit}
 use Rattle.fulltext.specs.Calculus.{at}
-use Rattle.fulltext.specs.Matches.{holds, Needs}
+use Rattle.fulltext.specs.Matches.{holds}
+use Rattle.fulltext.specs.Inner.Bounds.{Needs}
 
 -- all variables stand at positions of a document
 abbrev pub InDocument : List ℕ → Type 0

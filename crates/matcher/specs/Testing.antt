@@ -13,10 +13,12 @@ use Rattle.plan.specs.Patterns.{Pattern}
 use Rattle.plan.specs.Accepted.{patternAt}
 use Rattle.fulltext.specs.Matches.{matchesAt}
 
--- 17: pattern k is not below F, the number of positions is not that of the pattern's variables, or the document or a position is over 65,535
+-- 17: pattern k is not below F, the number of positions is not that of the pattern's variables, or the document or a position is over
+-- 65,535
 unfoldable pub outOfRange : ℕ → ℕ → Pattern → ℕ → List ℕ → Bool
 unfolding all
-outOfRange patterns k f d ps = leb patterns k || (not (eqb (length ps) (length (f .vars))) || (ltb 65535 d || not (all (λ q. leb q 65535) ps)))
+outOfRange patterns k f d ps =
+    leb patterns k || (not (eqb (length ps) (length (f .vars))) || (ltb 65535 d || not (all (λ q. leb q 65535) ps)))
 
 -- 1 to 14 of the volume and the plan; 17; or whether the positions match pattern f, number k, in document d
 abbrev pub testBy : Said Sizes → ℕ → Pattern → ℕ → List ℕ → Bool → Said Bool

@@ -1,8 +1,6 @@
 // Cursors on the posting lists of a volume.
 ghost use mathlib.Core.Path.{_≡_};
 ghost use Prim.Native.Nat.{_+_, _*_, _<_, _≤_};
-ghost use Rattle.volume.specs.Layout.{streamLength, word};
-ghost use Rattle.volume.specs.Posting.{docOf};
 ghost use Rattle.volume.specs.Check as volumes;
 ghost use Rattle.matcher.specs.Cursors.{seekFrom, listCursor, Stretch, sought, Forward};
 
@@ -39,7 +37,8 @@ fn lower_bound(volume: &[u8], from: usize, end: usize, target: u64) -> usize
 
 // The same, in steps that double from `first` on.
 fn leap(volume: &[u8], from: usize, end: usize, first: usize, target: u64) -> usize
-    requires { ⌜ Stretch (now volume) from end × (1 ≤ first) ⌝ }
+    requires { ⌜ Stretch (now volume) from end ⌝ }
+    requires { ⌜ 1 ≤ first ⌝ }
     ensures { λ r. ⌜ r ≡ seekFrom (now (volume .entry)) target from end ⌝ }
 {
     let mut low = from;
@@ -79,7 +78,8 @@ impl Cursor {
     // none.
     pub fn seek(self, volume: &[u8], doc: u32) -> Cursor
         requires { ⌜ Stretch (now volume) (self .at) (self .end) ⌝ }
-        ensures { λ r. ⌜ (r ≡ sought (now (volume .entry)) (doc * 65536) self) × Forward self r ⌝ }
+        ensures { λ r. ⌜ r ≡ sought (now (volume .entry)) (doc * 65536) self ⌝ }
+        ensures { λ r. ⌜ Forward self r ⌝ }
     {
         let at = gallop(volume, self.at, self.end, doc as u64 * 65536);
         Cursor { at, end: self.end }
@@ -89,7 +89,8 @@ impl Cursor {
     // where there is none.
     pub fn advance_past(self, volume: &[u8], doc: u32, pos: u32) -> Cursor
         requires { ⌜ Stretch (now volume) (self .at) (self .end) ⌝ }
-        ensures { λ r. ⌜ (r ≡ sought (now (volume .entry)) (doc * 65536 + pos + 1) self) × Forward self r ⌝ }
+        ensures { λ r. ⌜ r ≡ sought (now (volume .entry)) (doc * 65536 + pos + 1) self ⌝ }
+        ensures { λ r. ⌜ Forward self r ⌝ }
     {
         let at = gallop(
             volume,

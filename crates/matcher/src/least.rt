@@ -1,12 +1,12 @@
 // One pattern in one document: its least match.
 ghost use mathlib.Core.Path.{_≡_};
-ghost use mathlib.Core.List.{List, _∷_, _++_};
-ghost use Prim.Native.Nat.{ℕ, _+_, _*_, _<_, _≤_};
-ghost use lib.ListN.{length, getD, take, drop, replicate};
+ghost use mathlib.Core.List.{_∷_, _++_};
+ghost use Prim.Native.Nat.{ℕ, _+_, _<_, _≤_};
+ghost use lib.ListN.{length, getD, take, drop};
 ghost use Rattle.volume.specs.Posting.{posOf};
 ghost use Rattle.volume.specs.Layout.{word, streamLength, listsOf};
 ghost use Rattle.plan.specs.Accepted.{patternAt};
-ghost use Rattle.fulltext.specs.Matches.{leastFrom};
+ghost use Rattle.fulltext.specs.Inner.Bounds.{leastFrom};
 ghost use Rattle.fulltext.specs.Documents.{found, shownIn};
 ghost use Rattle.matcher.specs.Cursors.{Stretch};
 ghost use Rattle.matcher.specs.Settling.{Jumped, Standing, givenIf, Posed, Ready};
@@ -32,7 +32,9 @@ fn stand(
     requires { ⌜ ((x : ℕ) → x < n → getD (now ats) (first + x) 0 < streamLength (now volume)) ⌝ }
     ensures { λ _. ⌜ length (now (here .exit)) ≡ length (now (here .entry)) ⌝ }
     ensures { λ _. ⌜ length (now (positions .exit)) ≡ length (now (positions .entry)) ⌝ }
-    ensures { λ _. ⌜ ((x : ℕ) → x < n → (getD (now (here .exit)) x 0 ≡ getD (now (ats .entry)) (first + x) 0) × (getD (now (positions .exit)) x 0 ≡ posOf (word (now (volume .entry)) (getD (now (ats .entry)) (first + x) 0)))) ⌝ }
+    ensures { λ _. ⌜ ((x : ℕ) → x < n
+        → (getD (now (here .exit)) x 0 ≡ getD (now (ats .entry)) (first + x) 0)
+        × (getD (now (positions .exit)) x 0 ≡ posOf (word (now (volume .entry)) (getD (now (ats .entry)) (first + x) 0)))) ⌝ }
 {
     let mut x: usize = 0;
     while x < n {
@@ -59,7 +61,8 @@ fn jump(
     requires { ⌜ x < length (now positions) ⌝ }
     requires { ⌜ 1 ≤ need ⌝ }
     requires { ⌜ Stretch (now volume) (getD (now here) x 0) end ⌝ }
-    ensures { λ r. ⌜ Jumped (now (volume .entry)) doc end need x (now (here .entry)) (now (positions .entry)) r (now (here .exit)) (now (positions .exit)) ⌝ }
+    ensures { λ r. ⌜ Jumped (now (volume .entry)) doc end need x (now (here .entry)) (now (positions .entry)) r
+        (now (here .exit)) (now (positions .exit)) ⌝ }
 {
     let cursor = Cursor { at: here[x], end };
     let moved = cursor.advance_past(volume, doc, need - 1);

@@ -10,7 +10,8 @@ ghost use Rattle.plan.specs.State.{namesBelow};
 ghost use Rattle.plan.specs.Rows.{InRange};
 ghost use Rattle.plan.specs.declared.row.Predicate.the-variants.{Distance, Ordered, Samepara, Window};
 ghost use Rattle.plan.specs.declared.row.Kind.the-variants as kind;
-ghost use Rattle.fulltext.specs.Matches.{startsIn, paraStart};
+ghost use Rattle.fulltext.specs.Matches.{startsIn};
+ghost use Rattle.fulltext.specs.Inner.Paragraphs.{paraStart};
 ghost use Rattle.matcher.specs.Shortfall.{InDocument, Told};
 ghost use Rattle.matcher.specs.Cursors.{AtDocument};
 use super::cursor::Document;
@@ -66,7 +67,9 @@ fn distance(positions: &[u32], a: usize, b: usize, limit: u32) -> Shortfall
 
 // BEFORE: whether a stands in front of b; if not, b is left short.
 fn ordered(positions: &[u32], a: usize, b: usize) -> Shortfall
-    requires { ⌜ InDocument (now positions) × ((a < length (now positions)) × (b < length (now positions))) ⌝ }
+    requires { ⌜ InDocument (now positions) ⌝ }
+    requires { ⌜ a < length (now positions) ⌝ }
+    requires { ⌜ b < length (now positions) ⌝ }
     ensures { λ r. ⌜ ((ss : List ℕ) → Told ss (Ordered a b) (now (positions .entry)) r) ⌝ }
 {
     let first = positions[a];
@@ -106,7 +109,10 @@ fn samepara(volume: &[u8], document: Document, positions: &[u32], a: usize, b: u
 // SPAN: whether the largest and the smallest position differ by at most limit - 1; if not, a variable
 // at the smallest is left short.
 fn window(positions: &[u32], limit: u32) -> Shortfall
-    requires { ⌜ InDocument (now positions) × ((1 ≤ length (now positions)) × ((1 ≤ limit) × (limit ≤ 65536))) ⌝ }
+    requires { ⌜ InDocument (now positions) ⌝ }
+    requires { ⌜ 1 ≤ length (now positions) ⌝ }
+    requires { ⌜ 1 ≤ limit ⌝ }
+    requires { ⌜ limit ≤ 65536 ⌝ }
     ensures { λ r. ⌜ ((ss : List ℕ) → Told ss (Window limit) (now (positions .entry)) r) ⌝ }
 {
     let n = positions.len();

@@ -50,7 +50,10 @@ fn in_document(positions: &[u32]) -> bool
 
 // Whether a list holds a position of a document.
 fn list_holds(volume: &[u8], list: usize, doc: u32, pos: u32) -> bool
-    requires { ⌜ Accepted (now volume) × ((list < listCount (now volume)) × ((doc ≤ 65535) × (pos ≤ 65535))) ⌝ }
+    requires { ⌜ Accepted (now volume) ⌝ }
+    requires { ⌜ list < listCount (now volume) ⌝ }
+    requires { ⌜ doc ≤ 65535 ⌝ }
+    requires { ⌜ pos ≤ 65535 ⌝ }
     ensures { λ r. ⌜ r ≡ elem pos (positionsIn doc (listOf (listsOf (now (volume .entry))) list)) ⌝ }
 {
     let span = volume::list_span(volume, list);
@@ -113,7 +116,8 @@ fn predicate_holds(
 // Whether each predicate of a pattern holds.
 fn all_hold(volume: &[u8], plan: &[u32], outline: Outline, doc: u32, positions: &[u32]) -> bool
     requires { ⌜ Asked (now volume) (now plan) outline doc (now positions) ⌝ }
-    ensures { λ r. ⌜ r ≡ allHold (startsIn (listsOf (now (volume .entry))) doc) (patternAt (now (plan .entry)) (outline .pattern) .predicates) (now (positions .entry)) ⌝ }
+    ensures { λ r. ⌜ r ≡ allHold (startsIn (listsOf (now (volume .entry))) doc)
+        (patternAt (now (plan .entry)) (outline .pattern) .predicates) (now (positions .entry)) ⌝ }
 {
     let starts = starts_of(volume);
     let document = Document { doc, starts };
@@ -131,7 +135,8 @@ fn all_hold(volume: &[u8], plan: &[u32], outline: Outline, doc: u32, positions: 
 // Whether positions match a pattern in a document.
 fn is_match(volume: &[u8], plan: &[u32], outline: Outline, doc: u32, positions: &[u32]) -> bool
     requires { ⌜ Asked (now volume) (now plan) outline doc (now positions) ⌝ }
-    ensures { λ r. ⌜ r ≡ matchesAt (listsOf (now (volume .entry))) doc (patternAt (now (plan .entry)) (outline .pattern)) (now (positions .entry)) ⌝ }
+    ensures { λ r. ⌜ r ≡ matchesAt (listsOf (now (volume .entry))) doc (patternAt (now (plan .entry)) (outline .pattern))
+        (now (positions .entry)) ⌝ }
 {
     if !all_listed(volume, plan, outline, doc, positions) {
         return false;

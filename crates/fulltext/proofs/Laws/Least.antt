@@ -16,7 +16,7 @@
 -- The proof of `best` is an induction on the variables. The first tuple that passes has the least first position x that any has. The meet of it
 -- and another one that passes has x in front too, so what stands behind x in the first tuple is at most what stands there in the meet.
 -- Assumes nothing.
-use Prim.Native.Nat.{ℕ, zero, suc, _+_, min, _<_, _≤_}
+use Prim.Native.Nat.{ℕ, zero, suc, min, _<_, _≤_}
 use native.Mathlib.Omega.{arith}
 use mathlib.Core.Path.{_≡_, refl, sym, ap, _∙_, subst}
 use mathlib.Core.Bool.{Bool, true, false, _&&_, true≢false}
@@ -36,7 +36,8 @@ use Rattle.plan.specs.declared.row.Predicate.the-variants.{Window}
 use Rattle.plan.specs.Patterns.{Pattern}
 use Rattle.fulltext.specs.Positions.{listOf}
 use Rattle.fulltext.specs.Calculus.{at, In, Holds}
-use Rattle.fulltext.specs.Matches.{holds, allHold, fits, isMatch, withEach, tuples, matches, startsIn, varsIn, matchesAt, leastIn, _⊑_, reaches, matchesIn, MatchFrom, leastFrom, Least}
+use Rattle.fulltext.specs.Matches.{holds, allHold, fits, isMatch, withEach, tuples, matches, startsIn, varsIn, matchesAt, leastIn, _⊑_, Least}
+use Rattle.fulltext.specs.Inner.Bounds.{reaches, MatchFrom, leastFrom}
 use Rattle.fulltext.specs.Documents.{present, found}
 use Rattle.fulltext.proofs.Laws.Positions.{elem-decides, in-cons, in-later, in-here, rises-least, positions-hold, positions-rise}
 use Rattle.fulltext.proofs.Laws.Needs.{meet, meet-at, holds-meet}

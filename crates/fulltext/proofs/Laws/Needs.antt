@@ -22,7 +22,8 @@ use Rattle.seq.proofs.Laws.Lists.{all-each}
 use Rattle.plan.specs.declared.row.Predicate.{Predicate}
 use Rattle.plan.specs.declared.row.Predicate.the-variants.{Distance, Ordered, Samepara, Window}
 use Rattle.fulltext.specs.Calculus.{at, In}
-use Rattle.fulltext.specs.Matches.{apart, largest, smallestOf, smallest, parts, together, holds, Needs}
+use Rattle.fulltext.specs.Matches.{apart, largest, smallestOf, smallest, separates, together, holds}
+use Rattle.fulltext.specs.Inner.Bounds.{Needs}
 
 -- what a predicate says of the variables' positions, in a document with these starts
 abbrev pub Fact : List ℕ → Predicate → List ℕ → Type 0
@@ -45,17 +46,17 @@ module _ (p q s : ℕ) where
   unparted : (s ≤ p) ↔ (s ≤ q) → (min p q < s) × (s ≤ max p q) → ⊥
   unparted h w = ⊎-elim (λ (l : p < s). ⊎-elim (λ (k : q < s). omega arith) (λ (k : s ≤ q). omega (arith, h .1 k)) (below-or q s)) (λ (l : s ≤ p). omega (arith, h .0 l)) (below-or p s)
 
-  parts-decides : Decides (not (parts p q s)) ((s ≤ p) ↔ (s ≤ q))
-  parts-decides = same-decides (not-decides (and-decides (ltb-decides (min p q) s) (leb-decides s (max p q)))) alike unparted
+  separates-decides : Decides (not (separates p q s)) ((s ≤ p) ↔ (s ≤ q))
+  separates-decides = same-decides (not-decides (and-decides (ltb-decides (min p q) s) (leb-decides s (max p q)))) alike unparted
 
 together-decides : (ss : List ℕ) (p q : ℕ) → Decides (together ss p q) ((s : ℕ) → In s ss → (s ≤ p) ↔ (s ≤ q))
 together-decides ss p q = record {
-  yes = λ e s i. rw (i .2) at (parts-decides p q (getD ss (i .0) 0) .yes (each .0 e (i .0) (i .1)));
-  no = λ e h. contrary (each .1 (λ i l. decides.holds (parts-decides p q (getD ss i 0)) (h (getD ss i 0) (i, l, refl)))) e;
+  yes = λ e s i. rw (i .2) at (separates-decides p q (getD ss (i .0) 0) .yes (each .0 e (i .0) (i .1)));
+  no = λ e h. contrary (each .1 (λ i l. decides.holds (separates-decides p q (getD ss i 0)) (h (getD ss i 0) (i, l, refl)))) e;
 }
   where
-    each : (together ss p q ≡ true) ↔ ((i : ℕ) → i < length ss → not (parts p q (getD ss i 0)) ≡ true)
-    each = all-each (λ s. not (parts p q s)) 0 ss
+    each : (together ss p q ≡ true) ↔ ((i : ℕ) → i < length ss → not (separates p q (getD ss i 0)) ≡ true)
+    each = all-each (λ s. not (separates p q s)) 0 ss
 
 -- positions lie between the smallest and the largest, and so do the bounds of all positions
 pub at-largest : (ps : List ℕ) (x : ℕ) → at ps x ≤ largest ps

@@ -108,14 +108,19 @@ module _ (v : List ℕ) (target i e : ℕ) (s : Stretch v i e) where
   pub galloped-hit : (low m : ℕ) → Galloped v target i e low → low ≤ m → m < e → target ≤ word v m → seekFrom v target low m ≡ seekFrom v target i e
   galloped-hit low m g a b w =
       let r = seekFrom v target low m in
-      let q : seekFrom v target i e ≡ r = seek-is v target i e r (let f = g .from in let x = seek-ge v target low m in omega arith) (let x = seek-le v target low m a in omega arith) (λ j x y. ⊎-elim (λ (c : j < low). g .below j x c) (λ (c : low ≤ j). seek-below v target low m j c y) (below-or j low)) (λ l. ⊎-elim (λ (c : r < m). seek-at v target low m a c) (λ (c : m ≤ r). let x = seek-le v target low m a in let d : r ≡ m = omega arith in rw d w) (below-or r m)) in
+      let q : seekFrom v target i e ≡ r = seek-is v target i e r (let f = g .from in let x = seek-ge v target low m in omega arith)
+      (let x = seek-le v target low m a in omega arith)
+      (λ j x y. ⊎-elim (λ (c : j < low). g .below j x c) (λ (c : low ≤ j). seek-below v target low m j c y) (below-or j low))
+      (λ l. ⊎-elim (λ (c : r < m). seek-at v target low m a c) (λ (c : m ≤ r). let x = seek-le v target low m a in let d : r ≡ m = omega arith in rw d w) (below-or r m)) in
       omega arith
 
   -- found behind the last step
   pub galloped-end : (low : ℕ) → Galloped v target i e low → seekFrom v target low e ≡ seekFrom v target i e
   galloped-end low g =
       let r = seekFrom v target low e in
-      let q : seekFrom v target i e ≡ r = seek-is v target i e r (let f = g .from in let x = seek-ge v target low e in omega arith) (seek-le v target low e (g .to)) (λ j x y. ⊎-elim (λ (c : j < low). g .below j x c) (λ (c : low ≤ j). seek-below v target low e j c y) (below-or j low)) (λ l. seek-at v target low e (g .to) l) in
+      let q : seekFrom v target i e ≡ r = seek-is v target i e r (let f = g .from in let x = seek-ge v target low e in omega arith)
+      (seek-le v target low e (g .to))
+      (λ j x y. ⊎-elim (λ (c : j < low). g .below j x c) (λ (c : low ≤ j). seek-below v target low e j c y) (below-or j low)) (λ l. seek-at v target low e (g .to) l) in
       omega arith
 
 -- numbers of which the first k are 1 and the rest 0

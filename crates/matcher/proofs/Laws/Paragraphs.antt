@@ -23,7 +23,8 @@ use Rattle.volume.specs.Check.{Accepted}
 use Rattle.volume.proofs.Laws.Check.{good}
 use Rattle.fulltext.specs.Positions.{limit, listOf, positionsIn}
 use Rattle.fulltext.specs.Calculus.{at, In, Holds}
-use Rattle.fulltext.specs.Matches.{largest, startsIn, greatest, paraStart}
+use Rattle.fulltext.specs.Matches.{largest, startsIn}
+use Rattle.fulltext.specs.Inner.Paragraphs.{greatest, paraStart}
 use Rattle.matcher.specs.declared.cursor.Cursor.{Cursor}
 use Rattle.matcher.specs.declared.cursor.Document.{Document}
 use Rattle.matcher.specs.Cursors.{seekFrom, Stretch, sought, listEnd, Stands, AtDocument}

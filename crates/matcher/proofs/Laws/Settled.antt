@@ -20,7 +20,8 @@ use Rattle.plan.specs.Check.{sizes}
 use Rattle.plan.specs.Accepted.{patternAt, Given, WellMade}
 use Rattle.plan.proofs.Laws.Accepted.{given}
 use Rattle.matcher.specs.declared.cursor.Document.{Document}
-use Rattle.fulltext.specs.Matches.{leastIn, leastFrom}
+use Rattle.fulltext.specs.Matches.{leastIn}
+use Rattle.fulltext.specs.Inner.Bounds.{leastFrom}
 use Rattle.fulltext.specs.Documents.{present, found, shown, shownIn}
 use Rattle.matcher.specs.Cursors.{listEnd, Stands}
 use Rattle.plan.specs.declared.outline.Outline.{Outline}

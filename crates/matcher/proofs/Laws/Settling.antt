@@ -6,7 +6,7 @@
 --     low-done        where all predicates hold, the match is least
 --     Copied, Shown   cursors and positions copied; a row with positions stored in it
 -- Assumes nothing.
-use Prim.Native.Nat.{ℕ, suc, _+_, _-_, _*_, _<_, _≤_}
+use Prim.Native.Nat.{ℕ, suc, _+_, _*_, _<_, _≤_}
 use native.Mathlib.Omega.{arith}
 use mathlib.Core.Path.{_≡_, refl, sym, ap, _∙_}
 use mathlib.Core.Bool.{true}
@@ -14,7 +14,7 @@ use mathlib.Core.Logic.{_⊎_, ⊎-elim, _≢_}
 use mathlib.Core.List.{List, [], _∷_, _++_, append-nil, append-assoc}
 use mathlib.Core.Option.{none, some}
 use lib.ListN.{length, getD, set, take, drop, length-set, length-append, take-append-drop, List·getD-eq-default}
-use lib.Seq.{getD-set-same, getD-set-other, getD-take, length-take-le, take-suc, take-at, drop-set-lt}
+use lib.Seq.{getD-set-same, getD-set-other, getD-take, length-take-le, take-suc}
 use Rattle.seq.proofs.Laws.Tests.{both, both-true, below-or}
 use Rattle.seq.proofs.Laws.Decides.{decided, eqb-decides}
 use Rattle.seq.proofs.Laws.Stores.{put-next}
@@ -25,9 +25,10 @@ use Rattle.plan.specs.declared.row.Predicate.the-variants.{Window}
 use Rattle.plan.specs.Patterns.{Pattern}
 use Rattle.fulltext.specs.Positions.{limit, listOf}
 use Rattle.fulltext.specs.Calculus.{at, Holds}
-use Rattle.fulltext.specs.Matches.{holds, allHold, fits, startsIn, varsIn, matchesAt, _⊑_, MatchFrom, leastFrom}
+use Rattle.fulltext.specs.Matches.{holds, allHold, fits, startsIn, varsIn, matchesAt, _⊑_}
+use Rattle.fulltext.specs.Inner.Bounds.{MatchFrom, leastFrom}
 use Rattle.matcher.specs.Shortfall.{LeftShort}
-use Rattle.matcher.specs.Cursors.{seekFrom, Stretch, listEnd, Stands}
+use Rattle.matcher.specs.Cursors.{seekFrom, Stretch, listEnd}
 use Rattle.matcher.specs.Settling.{AtPos, Standing, Low}
 use Rattle.fulltext.proofs.Laws.Positions.{lists-rise}
 use Rattle.fulltext.proofs.Laws.Least.{fits-iff, allHold-iff, leastFrom-iff, unfoundFrom-iff}
@@ -103,15 +104,23 @@ module _ (v : List ℕ) (ok : Accepted v) (d : ℕ) (f : Pattern) (there : (x : 
           holds-at v ok (getD (f .vars) x 0) (there x h) d (at (take (length (f .vars)) ps) x) (getD here x 0) (omega arith) (s .from) (s .inside) (omega arith)
 
       matching : matchesAt (listsOf v) d f (take (length (f .vars)) ps) ≡ true
-      matching = both-true (fits (varsIn (listsOf v) d (f .vars)) (take (length (f .vars)) ps)) (allHold (startsIn (listsOf v) d) (f .predicates) (take (length (f .vars)) ps)) (fits-iff (listsOf v) d (f .vars) (take (length (f .vars)) ps) .1 (size, holding)) (allHold-iff (startsIn (listsOf v) d) (f .predicates) (take (length (f .vars)) ps) .1 true-all)
+      matching =
+          both-true (fits (varsIn (listsOf v) d (f .vars)) (take (length (f .vars)) ps)) (allHold (startsIn (listsOf v) d) (f .predicates) (take (length (f .vars)) ps))
+          (fits-iff (listsOf v) d (f .vars) (take (length (f .vars)) ps) .1 (size, holding))
+          (allHold-iff (startsIn (listsOf v) d) (f .predicates) (take (length (f .vars)) ps) .1 true-all)
 
       from : bs ⊑ take (length (f .vars)) ps
       from x = ⊎-elim (λ (h : x < length (f .vars)). let e = value x h in let k = l .above x h in omega arith) (λ (h : length (f .vars) ≤ x). let o : at bs x ≡ 0 = List·getD-eq-default bs 0 (omega arith) in omega arith) (below-or x (length (f .vars)))
 
       least : (qs : List ℕ) → MatchFrom (listsOf v) d f bs qs → take (length (f .vars)) ps ⊑ qs
-      least qs m x = ⊎-elim (λ (h : x < length (f .vars)). let e = value x h in let k = l .low qs m x h in omega arith) (λ (h : length (f .vars) ≤ x). let e = size in let o : at (take (length (f .vars)) ps) x ≡ 0 = List·getD-eq-default (take (length (f .vars)) ps) 0 (omega arith) in omega arith) (below-or x (length (f .vars)))
+      least qs m x =
+          ⊎-elim (λ (h : x < length (f .vars)). let e = value x h in let k = l .low qs m x h in omega arith)
+          (λ (h : length (f .vars) ≤ x). let e = size in let o : at (take (length (f .vars)) ps) x ≡ 0 = List·getD-eq-default (take (length (f .vars)) ps) 0 (omega arith) in omega arith)
+          (below-or x (length (f .vars)))
 
-  module _ (bs here ps : List ℕ) (room : length (f .vars) ≤ length ps) (room-here : length (f .vars) ≤ length here) (l : Low v d f bs here ps) (j : ℕ) (inside : j < length (f .predicates)) (x b : ℕ) (short : LeftShort (startsIn (listsOf v) d) (getD (f .predicates) j (Window 1)) (take (length (f .vars)) ps) x b) where
+  module _ (bs here ps : List ℕ) (room : length (f .vars) ≤ length ps) (room-here : length (f .vars) ≤ length here) (l : Low v d f bs here ps)
+      (j : ℕ) (inside : j < length (f .predicates)) (x b : ℕ)
+      (short : LeftShort (startsIn (listsOf v) d) (getD (f .predicates) j (Window 1)) (take (length (f .vars)) ps) x b) where
     size : length (take (length (f .vars)) ps) ≡ length (f .vars)
     size = length-take-le (length (f .vars)) ps room
 
@@ -128,7 +137,10 @@ module _ (v : List ℕ) (ok : Accepted v) (d : ℕ) (f : Pattern) (there : (x : 
         short .needs qs (w .0 .0 ∙ sym size) above (allHold-iff (startsIn (listsOf v) d) (f .predicates) qs .0 (w .1) j inside)
       where
         above : take (length (f .vars)) ps ⊑ qs
-        above y = ⊎-elim (λ (h : y < length (f .vars)). let e = getD-take (length (f .vars)) ps y 0 h in let k = l .low qs m y h in omega arith) (λ (h : length (f .vars) ≤ y). let e = size in let o : at (take (length (f .vars)) ps) y ≡ 0 = List·getD-eq-default (take (length (f .vars)) ps) 0 (omega arith) in omega arith) (below-or y (length (f .vars)))
+        above y =
+            ⊎-elim (λ (h : y < length (f .vars)). let e = getD-take (length (f .vars)) ps y 0 h in let k = l .low qs m y h in omega arith)
+            (λ (h : length (f .vars) ≤ y). let e = size in let o : at (take (length (f .vars)) ps) y ≡ 0 = List·getD-eq-default (take (length (f .vars)) ps) 0 (omega arith) in omega arith)
+            (below-or y (length (f .vars)))
 
     module _ (i : ℕ) (is : i ≡ seekFrom v (d * 65536 + b) (getD here x 0) (listEnd v (getD (f .vars) x 0))) where
       pub low-stretch : Stretch v (getD here x 0) (listEnd v (getD (f .vars) x 0))
@@ -151,7 +163,10 @@ module _ (v : List ℕ) (ok : Accepted v) (d : ℕ) (f : Pattern) (there : (x : 
           (below-or y (getD here x 0))
 
       pub low-end : listEnd v (getD (f .vars) x 0) ≤ i → leastFrom (listsOf v) d f bs ≡ none
-      low-end out = unfoundFrom-iff (listsOf v) (lists-rise v ok) d f bs .1 (λ qs m. let w = index qs (m .0) x low-var .1 in let e : word v (w .0) ≡ d * 65536 + at qs x = w .1 .1 .1 in let r : word v (w .0) < d * 65536 + at qs x = passed qs m (w .0) (w .1 .0) (let k = w .1 .1 .0 in omega arith) in omega arith)
+      low-end out = unfoundFrom-iff (listsOf v) (lists-rise v ok) d f bs .1 (λ qs m.
+          let w = index qs (m .0) x low-var .1 in
+          let e : word v (w .0) ≡ d * 65536 + at qs x = w .1 .1 .1 in
+          let r : word v (w .0) < d * 65536 + at qs x = passed qs m (w .0) (w .1 .0) (let k = w .1 .1 .0 in omega arith) in omega arith)
 
       module _ (in-list : i < listEnd v (getD (f .vars) x 0)) where
         start-le : start v (getD (f .vars) x 0) ≤ i

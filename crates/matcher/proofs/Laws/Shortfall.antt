@@ -25,7 +25,8 @@ use Rattle.plan.specs.declared.row.Kind.the-variants as kind
 use Rattle.plan.specs.Rows.{InRange}
 use Rattle.plan.specs.State.{namesBelow}
 use Rattle.fulltext.specs.Calculus.{at}
-use Rattle.fulltext.specs.Matches.{holds, paraStart}
+use Rattle.fulltext.specs.Matches.{holds}
+use Rattle.fulltext.specs.Inner.Paragraphs.{paraStart}
 use Rattle.matcher.specs.Shortfall.{InDocument, LeftShort}
 use Rattle.matcher.specs.declared.cursor.Document.{Document}
 use Rattle.matcher.specs.Cursors.{AtDocument}

@@ -30,7 +30,8 @@ use Rattle.plan.specs.Accepted.{patternAt, Given, WellMade}
 use Rattle.plan.proofs.Laws.Accepted.{given}
 use Rattle.plan.specs.declared.outline.Outline.{Outline}
 use Rattle.matcher.specs.declared.cursor.Document.{Document}
-use Rattle.fulltext.specs.Matches.{holds, startsIn, leastFrom}
+use Rattle.fulltext.specs.Matches.{holds, startsIn}
+use Rattle.fulltext.specs.Inner.Bounds.{leastFrom}
 use Rattle.matcher.specs.Shortfall.{LeftShort}
 use Rattle.matcher.specs.Cursors.{seekFrom, Stretch, listEnd, AtDocument}
 use Rattle.matcher.specs.Settling.{Jumped, Standing, Low, Posed}
@@ -207,5 +208,6 @@ module _ (v p : List ℕ) (o : Outline) (doc : Document) (ends : List ℕ) (q : 
 
   pub tried-done : (here₀ ps₀ here ps : List ℕ) (row : ℕ) → n ≤ length ps₀ → Tried v p o (doc .doc) here₀ ps₀ here ps row → last ≤ row → leastFrom (listsOf v) d (patternAt p k) (take n ps₀) ≡ some (take n ps)
   tried-done here₀ ps₀ here ps row room m h =
-      low-done v ok d (patternAt p k) there (take n ps₀) here ps (length-take-le n ps₀ room ∙ many) (let e = many in let w = m .ps-length in omega arith) (m .low) (λ j s. subst (λ (i : ℕ). holds (startsIn (listsOf v) d) (getD (patternAt p k .predicates) j (Window 1)) (take i ps) ≡ true) many (m .holding j (let e = q .entry .last-is in omega arith)))
+      low-done v ok d (patternAt p k) there (take n ps₀) here ps (length-take-le n ps₀ room ∙ many) (let e = many in let w = m .ps-length in omega arith) (m .low)
+      (λ j s. subst (λ (i : ℕ). holds (startsIn (listsOf v) d) (getD (patternAt p k .predicates) j (Window 1)) (take i ps) ≡ true) many (m .holding j (let e = q .entry .last-is in omega arith)))
       ∙ ap (λ (i : ℕ). some (take i ps)) (sym many)

@@ -19,7 +19,7 @@ mul-positions c = omega arith
 
 -- where the cursor stands
 at-is : (c : tie.After-advance-past)
-    → c .advance-past .result .at ≡ seekFrom (now (c .before .before .before .before .before .args .volume)) (c .before .before .before .before .before .args .doc * 65536 + c .before .before .before .before .before .args .need) (getD (now (c .before .before .before .before .before .args .here)) (c .before .before .before .before .before .args .x) 0) (c .before .before .before .before .before .args .end)
+    → let a = c .before .before .before .before .before .args in c .advance-past .result .at ≡ seekFrom (now (a .volume)) (a .doc * 65536 + a .need) (getD (now (a .here)) (a .x) 0) (a .end)
 at-is c =
     let a = c .before .before .before .before .before in
     let n = a .pre .1 .1 .0 in

@@ -108,7 +108,8 @@ returns c =
     let p = asked (jumping j) in
     let l = turn p .loop in
     let s = start (turn p) .pre in (
-      tried-out _ _ _ _ _ (s .0) (l .row) (l .inv .from) (p .before .if1 .taken) _ (p .predicate-at .ensures) _ _ _ _ (l .inv) (s .1 .0) (s .1 .1 .0) _ _ (short (jumping j)) (j .jump .result) (j .jump .last .1 .1 .1 .1 .1 .0) (j .jump .last .1 .1 .1 .1 .1 .1 .0) (j .jump .ensures) (not-true _ (c .if2 .taken)),
+      tried-out _ _ _ _ _ (s .0) (l .row) (l .inv .from) (p .before .if1 .taken) _ (p .predicate-at .ensures) _ _ _ _ (l .inv) (s .1 .0) (s .1 .1 .0) _ _ (short (jumping j))
+          (j .jump .result) (j .jump .last .1 .1 .1 .1 .1 .0) (j .jump .last .1 .1 .1 .1 .1 .1 .0) (j .jump .ensures) (not-true _ (c .if2 .taken)),
       j .jump .kept .1 .1 .1 .1 .1 .1 .0 ∙ l .inv .ps-length,
     )
 
@@ -122,7 +123,8 @@ moved c =
     let p = asked (jumping j) in
     let l = turn p .loop in
     let s = start (turn p) .pre in
-    tried-jump _ _ _ _ _ (s .0) (l .row) (l .inv .from) (p .before .if1 .taken) _ (p .predicate-at .ensures) _ _ _ _ (l .inv) (s .1 .0) (s .1 .1 .0) _ _ (short (jumping j)) (j .jump .result) (j .jump .last .1 .1 .1 .1 .1 .0) (j .jump .last .1 .1 .1 .1 .1 .1 .0) (j .jump .ensures) (not-false _ (c .if2 .left))
+    tried-jump _ _ _ _ _ (s .0) (l .row) (l .inv .from) (p .before .if1 .taken) _ (p .predicate-at .ensures) _ _ _ _ (l .inv) (s .1 .0) (s .1 .1 .0) _ _ (short (jumping j))
+    (j .jump .result) (j .jump .last .1 .1 .1 .1 .1 .0) (j .jump .last .1 .1 .1 .1 .1 .1 .0) (j .jump .ensures) (not-false _ (c .if2 .left))
 
 loop-less-2 : tie.Need-loop-less-2 Inv-loop μ-loop
 loop-less-2 c =

@@ -30,7 +30,8 @@ doc-requires c κs = search needs
 
 returns-2 : tie.Need-returns-2
 returns-2 c =
-    para-other (c .before .before .before .before .before .before .before .before .pre) (c .before .before .before .before .before .advance-past .ensures .0) (c .before .before .before .if1 .left) (ap (λ (r : Posting). r .bits) (c .before .before .posting-at .ensures))
+    let moved = c .before .before .before .before .before in
+    para-other (moved .before .before .before .pre) (moved .advance-past .ensures .0) (c .before .before .before .if1 .left) (ap (λ (r : Posting). r .bits) (c .before .before .posting-at .ensures))
     (λ e. c .if2 .taken (c .before .doc .ensures ∙ e))
 
 pos-requires : tie.Need-pos-requires
@@ -38,8 +39,9 @@ pos-requires c κs = search needs
 
 returns-3 : tie.Need-returns-3
 returns-3 c =
+    let moved = c .before .before .before .before .before .before in
     c .pos .ensures
-    ∙ para-last (c .before .before .before .before .before .before .before .before .before .pre) (c .before .before .before .before .before .before .advance-past .ensures .0) (c .before .before .before .before .if1 .left) (ap (λ (r : Posting). r .bits) (c .before .before .before .posting-at .ensures))
+    ∙ para-last (moved .before .before .before .pre) (moved .advance-past .ensures .0) (c .before .before .before .before .if1 .left) (ap (λ (r : Posting). r .bits) (c .before .before .before .posting-at .ensures))
     (sym (c .before .before .doc .ensures) ∙ c .before .if2 .left)
 
 pub para-start-spec : {M : Type 1} → statement M

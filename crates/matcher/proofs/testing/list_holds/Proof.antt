@@ -59,12 +59,15 @@ new-requires c κs = search needs
 
 returns-2 : tie.Need-returns-2
 returns-2 c =
+    let moved = c .before .before .before .before .before .before in
+    let start = moved .before .before .before .before in
+    let a = start .args in
+    let p = start .pre in
+    let s = moved .before .before .list-span in
     let l = c .before .before .before .posting-at in
-    ap (eqb (l .result .bits)) (ap (λ (r : Posting). r .bits) (c .before .before .new .ensures)) ∙
-    let a = c .before .before .before .before .before .before .before .before .before .before .args in
-    let p = c .before .before .before .before .before .before .before .before .before .before .pre in
-    let s = c .before .before .before .before .before .before .before .before .list-span in
-    list-with (now (a .volume)) (p .0) (a .list) (p .1 .0) (s .result) (s .ensures) (a .doc) (a .pos) _ (p .1 .1 .1) (c .before .before .before .before .before .before .advance-past .ensures .0) (l .result .bits) (ap (λ (r : Posting). r .bits) (l .ensures)) (c .before .before .before .before .if1 .left)
+    ap (eqb (l .result .bits)) (ap (λ (r : Posting). r .bits) (c .before .before .new .ensures))
+    ∙ list-with (now (a .volume)) (p .0) (a .list) (p .1 .0) (s .result) (s .ensures) (a .doc) (a .pos) _ (p .1 .1 .1) (moved .advance-past .ensures .0)
+    (l .result .bits) (ap (λ (r : Posting). r .bits) (l .ensures)) (c .before .before .before .before .if1 .left)
 
 pub list-holds-spec : {M : Type 1} → statement M
 list-holds-spec =

@@ -9,7 +9,7 @@ use Rattle.plan.specs.Check.{sizes}
 use Rattle.plan.specs.Accepted.{patternAt}
 use Rattle.plan.proofs.Laws.Accepted.{given}
 use Rattle.fulltext.specs.Matches.{matchesAt}
-use Rattle.matcher.proofs.Laws.Testing.{small-decides, laid, test-number, test-doc, test-small, test-answer}
+use Rattle.matcher.proofs.Laws.Testing.{small-decides, LaidOut, laid, test-number, test-doc, test-small, test-answer}
 use Rattle.matcher.proofs.testing.test_pattern.Statement.{statement}
 use Rattle.matcher.proofs.testing.test_pattern.Tie as tie
 
@@ -31,35 +31,45 @@ outline-at-requires c κs =
     let l = c .before .before .lay-out .kept .1 .1 .0 in
     omega arith
 
+-- from the outline to the function's start
+abbrev start-of : tie.After-outline-at → tie.Start
+start-of c = c .before .before .before .before .before .before .before .before
+
+-- it is that of the pattern
+outline : (c : tie.After-outline-at) → let a = start-of c .args in LaidOut (now (a .plan)) (a .pattern) (c .outline-at .result)
+outline c =
+    let l = c .before .before .before .lay-out in
+    laid (l .last .1 .1 .0) (l .ensures) (start-of c .args .pattern) (let p = start-of c .pre in omega arith) (c .outline-at .ensures)
+
 returns : tie.Need-returns
 returns c =
-    sym (
-    let a = c .before .before .before .before .before .before .before .before .before .args in
-    let o = laid (c .before .before .before .before .lay-out .last .1 .1 .0) (c .before .before .before .before .lay-out .ensures) (c .before .before .before .before .before .before .before .before .before .args .pattern) (omega arith) (c .before .outline-at .ensures) in
-    test-number (now (a .volume)) (now (a .plan)) (a .pattern) (a .doc) (now (a .positions)) (sizes (now (a .plan))) (c .before .before .before .before .before .before .before .before .before .pre .0) (omega arith) (λ e. c .if1 .taken (omega arith)))
+    let o = outline (c .before) in
+    let s = start-of (c .before) in
+    let a = s .args in
+    sym (test-number (now (a .volume)) (now (a .plan)) (a .pattern) (a .doc) (now (a .positions)) (sizes (now (a .plan))) (s .pre .0) (omega arith) (λ e. c .if1 .taken (omega arith)))
 
 returns-2 : tie.Need-returns-2
 returns-2 c =
-    sym (
-    let a = c .before .before .before .before .before .before .before .before .before .before .args in
-    let o = laid (c .before .before .before .before .before .lay-out .last .1 .1 .0) (c .before .before .before .before .before .lay-out .ensures) (c .before .before .before .before .before .before .before .before .before .before .args .pattern) (omega arith) (c .before .before .outline-at .ensures) in
-    test-doc (now (a .volume)) (now (a .plan)) (a .pattern) (a .doc) (now (a .positions)) (sizes (now (a .plan))) (c .before .before .before .before .before .before .before .before .before .before .pre .0) (omega arith) (omega arith) (c .if2 .taken))
+    let o = outline (c .before .before) in
+    let s = start-of (c .before .before) in
+    let a = s .args in
+    sym (test-doc (now (a .volume)) (now (a .plan)) (a .pattern) (a .doc) (now (a .positions)) (sizes (now (a .plan))) (s .pre .0) (omega arith) (omega arith) (c .if2 .taken))
 
 in-document-requires : tie.Need-in-document-requires
 in-document-requires c κs = omega arith
 
 returns-3 : tie.Need-returns-3
 returns-3 c =
-    sym (
-    let a = c .before .before .before .before .before .before .before .before .before .before .before .before .args in
-    let o = laid (c .before .before .before .before .before .before .before .lay-out .last .1 .1 .0) (c .before .before .before .before .before .before .before .lay-out .ensures) (c .before .before .before .before .before .before .before .before .before .before .before .before .args .pattern) (omega arith) (c .before .before .before .before .outline-at .ensures) in
-    test-small (now (a .volume)) (now (a .plan)) (a .pattern) (a .doc) (now (a .positions)) (sizes (now (a .plan))) (c .before .before .before .before .before .before .before .before .before .before .before .before .pre .0) (omega arith) (omega arith) (omega arith) (sym (c .before .in-document .ensures) ∙ not-true _ (c .if3 .taken)))
+    let o = outline (c .before .before .before .before) in
+    let s = start-of (c .before .before .before .before) in
+    let a = s .args in
+    sym (test-small (now (a .volume)) (now (a .plan)) (a .pattern) (a .doc) (now (a .positions)) (sizes (now (a .plan))) (s .pre .0) (omega arith) (omega arith) (omega arith)
+    (sym (c .before .in-document .ensures) ∙ not-true _ (c .if3 .taken)))
 
 is-match-requires : tie.Need-is-match-requires
 is-match-requires c κs =
-    let s = c .before .before .before .before .before .before .before .before .before .before .before .before in
-    let a = s .args in
-    let o = laid (c .before .before .before .before .before .before .before .lay-out .last .1 .1 .0) (c .before .before .before .before .before .before .before .lay-out .ensures) (c .before .before .before .before .before .before .before .before .before .before .before .before .args .pattern) (omega arith) (c .before .before .before .before .outline-at .ensures) in
+    let o = outline (c .before .before .before .before) in
+    let s = start-of (c .before .before .before .before) in
     let v = o .entry .vars-are in
     let k = o .pattern-is in
     record {
@@ -68,15 +78,17 @@ is-match-requires c κs =
       entry = o .entry;
       number = omega arith;
       doc-small = omega arith;
-      small = small-decides (now (a .positions)) .yes (sym (c .before .in-document .ensures) ∙ not-false _ (c .if3 .left));
+      small = small-decides (now (s .args .positions)) .yes (sym (c .before .in-document .ensures) ∙ not-false _ (c .if3 .left));
     }
 
 returns-4 : tie.Need-returns-4
 returns-4 c =
-    sym (
-    let a = c .before .before .before .before .before .before .before .before .before .before .before .before .before .args in
-    let o = laid (c .before .before .before .before .before .before .before .before .lay-out .last .1 .1 .0) (c .before .before .before .before .before .before .before .before .lay-out .ensures) (c .before .before .before .before .before .before .before .before .before .before .before .before .before .args .pattern) (omega arith) (c .before .before .before .before .before .outline-at .ensures) in
-    test-answer (now (a .volume)) (now (a .plan)) (a .pattern) (a .doc) (now (a .positions)) (sizes (now (a .plan))) (c .before .before .before .before .before .before .before .before .before .before .before .before .before .pre .0) (omega arith) (omega arith) (omega arith) (sym (c .before .before .in-document .ensures) ∙ not-false _ (c .before .if3 .left)) _ (c .is-match .ensures ∙ ap (λ (k : ℕ). matchesAt (listsOf (now (a .volume))) (a .doc) (patternAt (now (a .plan)) k) (now (a .positions))) (o .pattern-is)))
+    let o = outline (c .before .before .before .before .before) in
+    let s = start-of (c .before .before .before .before .before) in
+    let a = s .args in
+    sym (test-answer (now (a .volume)) (now (a .plan)) (a .pattern) (a .doc) (now (a .positions)) (sizes (now (a .plan))) (s .pre .0) (omega arith) (omega arith) (omega arith)
+    (sym (c .before .before .in-document .ensures) ∙ not-false _ (c .before .if3 .left)) _
+    (c .is-match .ensures ∙ ap (λ (k : ℕ). matchesAt (listsOf (now (a .volume))) (a .doc) (patternAt (now (a .plan)) k) (now (a .positions))) (o .pattern-is)))
 
 pub test-pattern-spec : {M : Type 1} → statement M
 test-pattern-spec =

@@ -1,0 +1,5 @@
+-- What serves contracts inside the engine only.
+--     Bounds        matches that stand at bounds or behind, and what a predicate needs
+--     Paragraphs    the start of a position's paragraph
+pub mod Bounds
+pub mod Paragraphs
