@@ -22,7 +22,8 @@ use block::read32;
 
 // 1 where y, which stands behind x, is not above it.
 pub fn fall_of(x: u32, y: u32) -> u32
-    ensures { λ r. ⌜ (r ≡ fallOf x y) × (r ≤ 1) ⌝ }
+    ensures { λ r. ⌜ r ≡ fallOf x y ⌝ }
+    ensures { λ r. ⌜ r ≤ 1 ⌝ }
 {
     if x < y { 0 } else { 1 }
 }
@@ -46,8 +47,10 @@ pub fn falls_in(volume: &[u8], k: usize) -> u32
 
 // Whether there is a fall at stream index i.
 pub fn fall_at(volume: &[u8], i: usize) -> u32
-    requires { ⌜ Whole (now volume) × (i < streamLength (now volume)) ⌝ }
-    ensures { λ r. ⌜ (r ≡ fall (word (now (volume .entry))) i) × (r ≤ 1) ⌝ }
+    requires { ⌜ Whole (now volume) ⌝ }
+    requires { ⌜ i < streamLength (now volume) ⌝ }
+    ensures { λ r. ⌜ r ≡ fall (word (now (volume .entry))) i ⌝ }
+    ensures { λ r. ⌜ r ≤ 1 ⌝ }
 {
     let next = i + 1;
     if next == BLOCK_WORDS * (volume.len() / BLOCK_BYTES) {
@@ -58,7 +61,9 @@ pub fn fall_at(volume: &[u8], i: usize) -> u32
 
 // The falls from stream index `from` up to `end`.
 fn falls_from(volume: &[u8], from: usize, end: usize) -> usize
-    requires { ⌜ Whole (now volume) × (from ≤ end) × (end ≤ streamLength (now volume)) ⌝ }
+    requires { ⌜ Whole (now volume) ⌝ }
+    requires { ⌜ from ≤ end ⌝ }
+    requires { ⌜ end ≤ streamLength (now volume) ⌝ }
     ensures { λ r. ⌜ fallsBefore (now (volume .entry)) from + r ≡ fallsBefore (now (volume .entry)) end ⌝ }
     ensures { λ r. ⌜ r ≤ end - from ⌝ }
 {
