@@ -17,6 +17,7 @@ use super::layout::BLOCK_WORDS;
 use super::layout::LAST_WORD;
 use super::layout::lead;
 use super::stream::count_at;
+use super::stream::posting_at;
 use super::stream::word_at;
 use block::read32;
 
@@ -98,7 +99,7 @@ fn list_falls(volume: &[u8], lists: usize) -> usize
     n
 }
 
-// Whether the words from `from` on, n of them, rise.
+// Whether the postings from stream index `from` on, n of them, rise.
 fn rising(volume: &[u8], from: usize, n: usize) -> bool
     requires { ⌜ from + n ≤ streamLength (now volume) ⌝ }
     ensures { λ r. ⌜ r ≡ rises (run (word (now (volume .entry))) from n) ⌝ }
@@ -107,10 +108,10 @@ fn rising(volume: &[u8], from: usize, n: usize) -> bool
         return true;
     }
     let end = from + n;
-    let mut last = word_at(volume, from);
+    let mut last = posting_at(volume, from).bits;
     let mut i = from + 1;
     while i < end {
-        let next = word_at(volume, i);
+        let next = posting_at(volume, i).bits;
         if next <= last {
             return false;
         }
