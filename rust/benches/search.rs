@@ -129,8 +129,8 @@ impl<'a> Listing<'a> {
         }
     }
 
-    /// Times a check and a listing on each side, in odd rounds the yardstick first. The check before
-    /// them, which is not timed, brings the volume near.
+    /// Times a check and a listing on each side, in odd rounds the yardstick first. The check
+    /// before them, which is not timed, brings the volume near.
     fn time(&mut self, round: usize) {
         let (volume, plan, out) = (black_box(self.volume), black_box(&self.plan), &mut self.out);
         for side in [round, round + 1] {
@@ -164,8 +164,8 @@ impl<'a> Listing<'a> {
     }
 }
 
-/// Times the listings, so many rounds. The walks of the yardstick alone come behind all of them: a walk
-/// between two listings would make the second one faster.
+/// Times the listings, so many rounds. The walks of the yardstick alone come behind all of them: a
+/// walk between two listings would make the second one faster.
 fn time_listings(listings: &mut [Listing], rounds: usize) {
     for round in 0..rounds {
         listings.iter_mut().for_each(|listing| listing.time(round));

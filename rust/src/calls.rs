@@ -1,9 +1,11 @@
-//! The calls of `include/lihambozy.h` on slices, one function for each, for a program that keeps its
-//! own buffers. Every call takes any input. One that does not fit is answered by a [`Refusal`], or
-//! in [`pattern_rows`] by an empty part, and what was lent for writing then is exactly as it was.
+//! The calls of `include/lihambozy.h` on slices, one function for each, for a program that keeps
+//! its own buffers. Every call takes any input. One that does not fit is answered by a [`Refusal`],
+//! or in [`pattern_rows`] by an empty part, and what was lent for writing then is exactly as it
+//! was.
 //!
-//! A posting is a word here, document * 65,536 + position ([`Posting::word`](crate::Posting::word)),
-//! and a plan is the words of its rows ([`Plan::words`](crate::Plan::words)).
+//! A posting is a word here, document * 65,536 + position
+//! ([`Posting::word`](crate::Posting::word)), and a plan is the words of its rows
+//! ([`Plan::words`](crate::Plan::words)).
 
 use crate::{ffi, Refusal, BLOCK_BYTES, BLOCK_WORDS, MAX_WORDS};
 

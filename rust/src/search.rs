@@ -11,8 +11,8 @@ use std::sync::Arc;
 ///
 /// It pages by itself: a listing call fills a buffer with rows, and when they are used up the next
 /// call goes on from the document that the last one named. That the rows of all calls together are
-/// exactly those of all matching documents, whatever the buffer, is proved of the library (`Demand3`
-/// in `crates/search/specs/Demands.antt`).
+/// exactly those of all matching documents, whatever the buffer, is proved of the library
+/// (`Demand3` in `crates/search/specs/Demands.antt`).
 ///
 /// ```
 /// use lihambozy::row::{voice, END};

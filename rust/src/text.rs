@@ -185,8 +185,8 @@ fn is_number(word: &str) -> bool {
 
 /// Where a text of lists earns a refusal of its volume: the first posting that does not rise in the
 /// list of a 7, the first list that is too many for a 5 or the end of the text where there is none,
-/// the first posting that is too many for a 19. `None` for any other refusal, or where the text does
-/// not earn it.
+/// the first posting that is too many for a 19. `None` for any other refusal, or where the text
+/// does not earn it.
 ///
 /// ```
 /// use lihambozy::{text, Volume};

@@ -45,8 +45,8 @@ impl<'a> Volume<'a> {
 
     /// The one volume that reads as these lists, list 0 first.
     ///
-    /// Refused with 5 (number of lists), 7 (a list does not rise, at the lowest one) or 19 (too many
-    /// postings for a volume).
+    /// Refused with 5 (number of lists), 7 (a list does not rise, at the lowest one) or 19 (too
+    /// many postings for a volume).
     ///
     /// ```
     /// use lihambozy::{Posting, Volume};
@@ -139,11 +139,11 @@ impl<'a> Volume<'a> {
         }
     }
 
-    /// Whether positions pass: one for each variable of the pattern, in their order, in the document
-    /// `doc`.
+    /// Whether positions pass: one for each variable of the pattern, in their order, in the
+    /// document `doc`.
     ///
-    /// Refused with 9 to 14 as by [`Volume::check`], then with 17 (no pattern of that number, not as
-    /// many positions as it has variables, or a document or position over 65,535).
+    /// Refused with 9 to 14 as by [`Volume::check`], then with 17 (no pattern of that number, not
+    /// as many positions as it has variables, or a document or position over 65,535).
     pub fn test(
         &self,
         plan: &Plan,

@@ -1,30 +1,31 @@
 -- Where the rows of each pattern lie in a plan. Assumes nothing.
 use Prim.Native.Nat.{ℕ, zero, suc, _+_, _-_, _*_}
-use mathlib.Core.Bool.{cond}
+use mathlib.Core.Bool.{Bool, cond}
 use mathlib.Core.List.{List, [], _∷_, _++_, map}
 use lib.ListN.{take, drop}
-use lib.Dec.{eqb, leb}
+use lib.Dec.{leb}
 use Rattle.seq.specs.Numbers.{firstFrom}
 use Rattle.seq.specs.Refusals.{Said, refused, answered}
 use Rattle.plan.specs.declared.row.Predicate.{Predicate}
+use Rattle.plan.specs.declared.row.Kind.{Kind}
 use Rattle.plan.specs.declared.row.Kind.the-variants as kind
 use Rattle.plan.specs.declared.row.Row.{Row}
 use Rattle.plan.specs.declared.showing.Span.{Span}
 use Rattle.plan.specs.Answers.{Sizes}
-use Rattle.plan.specs.Rows.{rowCount, kindAt}
+use Rattle.plan.specs.Rows.{rowCount, rowAt, isVoice, isEnd}
 use Rattle.plan.specs.Patterns.{Pattern}
 use Rattle.plan.specs.Check.{verdict}
 
--- the first row of a kind from row i on; where there is none, the number of rows, or i if that is larger
-unfoldable pub firstOfKind : List ℕ → ℕ → ℕ → ℕ
-firstOfKind p k i = firstFrom (λ j. eqb (kindAt p j) k) i (rowCount p - i)
+-- the first row of a sort from row i on; where there is none, the number of rows, or i if that is larger
+unfoldable pub firstOf : (Kind → Bool) → List ℕ → ℕ → ℕ
+firstOf sort p i = firstFrom (λ j. sort (rowAt p j .kind)) i (rowCount p - i)
 
 -- the first VOICE from row i on, and the first END from there on
 abbrev pub opening : List ℕ → ℕ → ℕ
-opening p i = firstOfKind p 1 i
+opening p i = firstOf isVoice p i
 
 abbrev pub ending : List ℕ → ℕ → ℕ
-ending p i = firstOfKind p 6 (opening p i)
+ending p i = firstOf isEnd p (opening p i)
 
 -- the row behind the first k patterns
 unfoldable pub behind : List ℕ → ℕ → ℕ

@@ -3,8 +3,8 @@
 // `code_of` gives the number and the place of a refusal.
 //
 // None of the three has a `requires`, nor has `pattern_span`. What each one answers is an equation
-// with a definition of `specs/`. `row_at`, `span_at`, `lay_out`, `outline_at`, `predicate_at`,
-// `has_samepara` and `answer_of` serve the crates above, on a plan that they have checked.
+// with a definition of `specs/`. `row_at`, `list_at`, `predicate_at`, `has_samepara`, `lay_out`,
+// `outline_at` and `answer_of` serve the crates above, on a plan that they have checked.
 mod answers;
 mod checking;
 mod codes;
@@ -31,6 +31,7 @@ pub use outline::Outline;
 pub use outline::lay_out;
 pub use outline::outline_at;
 pub use reading::has_samepara;
+pub use reading::list_at;
 pub use reading::predicate_at;
 pub use row::Kind;
 pub use row::Operator;
@@ -40,5 +41,4 @@ pub use row::row_at;
 pub use showing::Span;
 pub use showing::pattern_rows;
 pub use showing::pattern_span;
-pub use showing::span_at;
 pub use stack::answer_of;

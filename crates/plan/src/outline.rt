@@ -4,7 +4,9 @@ ghost use mathlib.Core.List.{List};
 ghost use Prim.Native.Nat.{ℕ, _+_, _*_, _≤_};
 ghost use lib.ListN.{length};
 ghost use Rattle.plan.specs.Check.{Accepted, sizes};
-ghost use Rattle.plan.specs.Inner.Outline.{behindVoices, outlineAt, Tabled};
+ghost use Rattle.plan.specs.Inner.Outline.{outlineAt, Tabled};
+use super::reading::Sort;
+use super::reading::first_of;
 use super::showing::span_at;
 
 // A pattern's number, its first variable among those of the plan, how many it has, the row of its
@@ -15,22 +17,6 @@ pub struct Outline {
     pub vars: usize,
     pub condition: usize,
     pub last: usize,
-}
-
-// The first row from row `from` on that is no VOICE; where there is none, the number of rows, or
-// `from` if that is larger.
-fn behind_voices(plan: &[u32], from: usize) -> usize
-    ensures { λ r. ⌜ r ≡ behindVoices (now (plan .entry)) from ⌝ }
-{
-    let n = plan.len() / 4;
-    let mut i = from;
-    while i < n {
-        if plan[4 * i] != 1 {
-            return i;
-        }
-        i += 1;
-    }
-    i
 }
 
 // The outlines of a plan's patterns, in a table of four numbers for each pattern.
@@ -45,7 +31,7 @@ pub fn lay_out(plan: &[u32], patterns: usize, table: &mut [usize])
     while k < patterns {
         let span = span_at(plan, k);
         let first = span.start / 4;
-        let condition = behind_voices(plan, first);
+        let condition = first_of(plan, Sort::Other, first);
         let count = condition - first;
         let at = 4 * k;
         table[at] = vars;

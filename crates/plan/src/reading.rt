@@ -1,14 +1,117 @@
-// What rows of a plan carry.
+// Reading the rows of an accepted plan.
 ghost use mathlib.Core.Path.{_≡_};
 ghost use mathlib.Core.Bool.{false};
-ghost use Prim.Native.Nat.{_<_};
+ghost use mathlib.Core.List.{List};
+ghost use Prim.Native.Nat.{ℕ, _<_};
 ghost use Rattle.plan.specs.declared.row.Predicate.{Predicate};
 ghost use Rattle.plan.specs.declared.row.Kind.the-variants as kind;
-ghost use Rattle.plan.specs.Rows.{rowCount, rowAt, formWrongAt};
-ghost use Rattle.plan.specs.Inner.Outline.{hasSamepara};
+ghost use Rattle.plan.specs.Rows.{rowCount, rowAt, formWrongAt, isVoice, isEnd};
+ghost use Rattle.plan.specs.Check.{Accepted};
+ghost use Rattle.plan.specs.Parts.{firstOf};
+ghost use Rattle.plan.specs.Inner.Reading.{isSamepara, isOf, hasSamepara};
 use super::row::Kind;
 use super::row::Predicate;
 use super::row::row_at;
+
+// A sort of rows that is looked for.
+pub enum Sort {
+    Voice,
+    // Any row but a VOICE.
+    Other,
+    End,
+    // SAME TITLE.
+    Samepara,
+}
+
+fn is_voice(kind: Kind) -> bool
+    ensures { λ r. ⌜ r ≡ isVoice kind ⌝ }
+{
+    match kind {
+        Kind::Voice(_) => true,
+        Kind::Condition(_) => false,
+        Kind::End => false,
+        Kind::Operator(_) => false,
+    }
+}
+
+fn is_end(kind: Kind) -> bool
+    ensures { λ r. ⌜ r ≡ isEnd kind ⌝ }
+{
+    match kind {
+        Kind::Voice(_) => false,
+        Kind::Condition(_) => false,
+        Kind::End => true,
+        Kind::Operator(_) => false,
+    }
+}
+
+fn is_samepara(kind: Kind) -> bool
+    ensures { λ r. ⌜ r ≡ isSamepara kind ⌝ }
+{
+    match kind {
+        Kind::Voice(_) => false,
+        Kind::Condition(predicate) => match predicate {
+            Predicate::Distance {
+                a: _,
+                b: _,
+                limit: _,
+            } => false,
+            Predicate::Ordered { a: _, b: _ } => false,
+            Predicate::Samepara { a: _, b: _ } => true,
+            Predicate::Window { limit: _ } => false,
+        },
+        Kind::End => false,
+        Kind::Operator(_) => false,
+    }
+}
+
+// Whether a row is of a sort, by its kind.
+fn is_of(sort: Sort, kind: Kind) -> bool
+    ensures { λ r. ⌜ r ≡ isOf sort kind ⌝ }
+{
+    match sort {
+        Sort::Voice => is_voice(kind),
+        Sort::Other => !is_voice(kind),
+        Sort::End => is_end(kind),
+        Sort::Samepara => is_samepara(kind),
+    }
+}
+
+// The first row of a sort from row `from` on; where there is none, the number of rows, or `from` if
+// that is larger.
+pub fn first_of(plan: &[u32], sort: Sort, from: usize) -> usize
+    requires { ⌜ ((v : List ℕ) × Accepted v (now plan)) ⌝ }
+    ensures { λ r. ⌜ r ≡ firstOf (isOf sort) (now (plan .entry)) from ⌝ }
+{
+    let n = plan.len() / 4;
+    let mut i = from;
+    while i < n {
+        let row = row_at(plan, i);
+        let kind = row.kind;
+        if is_of(sort, kind) {
+            return i;
+        }
+        i += 1;
+    }
+    i
+}
+
+// The list of a row that is a VOICE.
+pub fn list_at(plan: &[u32], row: usize) -> u32
+    requires { ⌜ row < rowCount (now plan) ⌝ }
+    requires { ⌜ formWrongAt (now plan) row ≡ false ⌝ }
+    requires { ⌜ ((list : ℕ) × (rowAt (now plan) row .kind ≡ kind.Voice list)) ⌝ }
+    ensures { λ r. ⌜ rowAt (now (plan .entry)) row .kind ≡ kind.Voice r ⌝ }
+{
+    let row = row_at(plan, row);
+    let kind = row.kind;
+    match kind {
+        Kind::Voice(list) => list,
+        Kind::Condition(_) => 0,
+        Kind::End => 0,
+        Kind::Operator(_) => 0,
+    }
+}
 
 // The predicate of a row that is a condition.
 pub fn predicate_at(plan: &[u32], row: usize) -> Predicate
@@ -29,15 +132,8 @@ pub fn predicate_at(plan: &[u32], row: usize) -> Predicate
 
 // Whether a plan has a SAME TITLE row.
 pub fn has_samepara(plan: &[u32]) -> bool
+    requires { ⌜ ((v : List ℕ) × Accepted v (now plan)) ⌝ }
     ensures { λ r. ⌜ r ≡ hasSamepara (now (plan .entry)) ⌝ }
 {
-    let n = plan.len() / 4;
-    let mut i: usize = 0;
-    while i < n {
-        if plan[4 * i] == 4 {
-            return true;
-        }
-        i += 1;
-    }
-    false
+    first_of(plan, Sort::Samepara, 0) < plan.len() / 4
 }

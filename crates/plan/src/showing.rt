@@ -1,10 +1,13 @@
 // A pattern's own rows.
 ghost use mathlib.Core.Path.{_≡_};
-ghost use Prim.Native.Nat.{_<_, _≤_};
-ghost use lib.ListN.{length};
-ghost use Rattle.plan.specs.Parts.{firstOfKind, spanAt, spanOf, partOf};
+ghost use mathlib.Core.List.{List};
+ghost use Prim.Native.Nat.{ℕ, _<_};
+ghost use Rattle.plan.specs.Check.{Accepted, sizes};
+ghost use Rattle.plan.specs.Parts.{spanAt, spanOf, partOf};
 use super::answers::Checked;
 use super::checking::check;
+use super::reading::Sort;
+use super::reading::first_of;
 
 // Where the rows of a pattern lie in the plan, in words.
 pub struct Span {
@@ -12,38 +15,23 @@ pub struct Span {
     pub len: usize,
 }
 
-// The first row of a kind from row `from` on; where there is none, the number of rows, or `from` if
-// that is larger.
-fn first_of_kind(plan: &[u32], kind: u32, from: usize) -> usize
-    ensures { λ r. ⌜ r ≡ firstOfKind (now (plan .entry)) kind from ⌝ }
-{
-    let n = plan.len() / 4;
-    let mut i = from;
-    while i < n {
-        if plan[4 * i] == kind {
-            return i;
-        }
-        i += 1;
-    }
-    i
-}
-
 // The span of pattern number `pattern`: from the first VOICE behind the pattern before it to the
 // next END.
 pub fn span_at(plan: &[u32], pattern: usize) -> Span
-    requires { ⌜ (length (now plan) ≤ 256) × (pattern ≤ 8) ⌝ }
+    requires { ⌜ ((v : List ℕ) × Accepted v (now plan)) ⌝ }
+    requires { ⌜ pattern < sizes (now plan) .patterns ⌝ }
     ensures { λ r. ⌜ r ≡ spanAt (now (plan .entry)) pattern ⌝ }
 {
     let mut behind: usize = 0;
     let mut k: usize = 0;
     while k < pattern {
-        let first = first_of_kind(plan, 1, behind);
-        let last = first_of_kind(plan, 6, first);
+        let first = first_of(plan, Sort::Voice, behind);
+        let last = first_of(plan, Sort::End, first);
         behind = last + 1;
         k += 1;
     }
-    let first = first_of_kind(plan, 1, behind);
-    let last = first_of_kind(plan, 6, first);
+    let first = first_of(plan, Sort::Voice, behind);
+    let last = first_of(plan, Sort::End, first);
     Span {
         start: 4 * first,
         len: 4 * (last + 1 - first),

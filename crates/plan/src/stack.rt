@@ -1,62 +1,65 @@
-// The answer of a plan in one document.
+// The answer of a plan in one document, by a stack of answers that are the bits of a number.
 ghost use mathlib.Core.Path.{_≡_};
 ghost use mathlib.Core.Bool.{Bool};
 ghost use mathlib.Core.List.{List};
-ghost use Prim.Native.Nat.{ℕ, _<_, _≤_};
-ghost use lib.ListN.{length, getD};
+ghost use Prim.Native.Nat.{ℕ, _≤_};
+ghost use lib.ListN.{length};
 ghost use Rattle.plan.specs.Rows.{rowsOf};
+ghost use Rattle.plan.specs.Patterns as patterns;
 ghost use Rattle.plan.specs.Patterns.{Pattern, answer};
-ghost use Rattle.plan.specs.Check.{Accepted, sizes};
-ghost use Rattle.plan.specs.Inner.Stack.{Flags, joinsTwo, operated};
+ghost use Rattle.plan.specs.Check.{Accepted};
+ghost use Rattle.plan.specs.Inner.Stack.{bitsOf, foundBits, joinsTwo};
+use super::row::Kind;
+use super::row::Operator;
+use super::row::row_at;
 
-// Whether the operator of a kind, 7 to 9, answers yes to the two bits of its answers, the second
-// answer the lower one.
-fn joins_two(kind: u32, two: u32) -> bool
-    ensures { λ r. ⌜ r ≡ joinsTwo kind two ⌝ }
+// Whether an operator answers yes to the two bits of its answers, the second answer the lower one.
+fn joins_two(operator: Operator, two: u32) -> bool
+    ensures { λ r. ⌜ r ≡ joinsTwo operator two ⌝ }
 {
-    if kind == 7 {
-        return two == 3;
+    match operator {
+        Operator::Both => two == 3,
+        Operator::Either => two != 0,
+        Operator::FirstNotSecond => two == 2,
     }
-    if kind == 8 {
-        return two != 0;
-    }
-    two == 2
 }
 
-// The bits of some answers, the top one the lowest, behind the operator of a kind.
-fn operate(kind: u32, stack: u32) -> u32
-    ensures { λ r. ⌜ r ≡ operated kind stack ⌝ }
+// The bits of some answers, the top one the lowest, behind an operator.
+fn operate(operator: Operator, stack: u32) -> u32
+    ensures { λ r. ⌜ ((ts : List Bool) → 2 ≤ length ts → stack ≡ bitsOf ts → r ≡ bitsOf (patterns.operate operator ts)) ⌝ }
 {
     let rest = stack / 4 * 2;
-    if joins_two(kind, stack % 4) {
+    if joins_two(operator, stack % 4) {
         return rest + 1;
     }
     rest
 }
 
-// The one answer left, where the flag of each pattern is 1 if it is found and 0 if not.
-pub fn answer_of(plan: &[u32], flags: &[u32]) -> bool
+// The one answer left, where `bits` has a bit for each pattern, the first one the lowest: 1 if it is
+// found and 0 if not.
+pub fn answer_of(plan: &[u32], bits: u32) -> bool
     requires { ⌜ ((v : List ℕ) × Accepted v (now plan)) ⌝ }
-    requires { ⌜ sizes (now plan) .patterns ≤ length (now flags) ⌝ }
-    requires { ⌜ ((k : ℕ) → k < sizes (now plan) .patterns → getD (now flags) k 0 ≤ 1) ⌝ }
-    ensures { λ r. ⌜ ((found : Pattern → Bool) → Flags found (now (plan .entry)) (now (flags .entry)) → r ≡ answer found (rowsOf (now (plan .entry)))) ⌝ }
+    ensures { λ r. ⌜ ((found : Pattern → Bool) → bits ≡ foundBits found (now (plan .entry)) → r ≡ answer found (rowsOf (now (plan .entry)))) ⌝ }
 {
     let n = plan.len() / 4;
     let mut stack: u32 = 0;
-    let mut k: usize = 0;
+    let mut rest = bits;
     let mut i: usize = 0;
     while i < n {
-        let kind = plan[4 * i];
+        let row = row_at(plan, i);
+        let kind = row.kind;
+        match kind {
+            Kind::Voice(_) => {}
+            Kind::Condition(_) => {}
+            Kind::End => {
+                stack = stack * 2 + rest % 2;
+                rest = rest / 2;
+            }
+            Kind::Operator(operator) => {
+                stack = operate(operator, stack);
+            }
+        }
         i += 1;
-        if kind < 6 {
-            continue;
-        }
-        if kind == 6 {
-            stack = stack * 2 + flags[k];
-            k += 1;
-            continue;
-        }
-        stack = operate(kind, stack);
     }
     stack % 2 == 1
 }

@@ -14,18 +14,25 @@ use Rattle.plan.specs.Rows.{rowsOf}
 use Rattle.plan.specs.Check.{verdict}
 use Rattle.fulltext.specs.Positions.{limit}
 use Rattle.fulltext.specs.Documents.{Work, docsIn, rowsOfDocs, work}
-use Rattle.search.specs.Answers.{Page, done, more}
+use Rattle.search.specs.Pages.{Portion, portion}
+use Rattle.search.specs.Answers.{Next, Page, done, more}
 
--- by the number of true documents that remain, and the first of them behind the m that fit: all are written and DONE, with the postings to
--- the end; or m are written and MORE with that document, with the postings up to it
-abbrev pub pageBy : Work → ℕ → ℕ → ℕ → Option ℕ → Page
-pageBy w start m remain none = record { rows = remain; tally = w .postings start limit; next = done }
-pageBy w start m remain (some s) = record { rows = m; tally = w .postings start s; next = more s }
+-- behind the rows that are written: DONE, with the postings to the end, or MORE and the first document left, with the postings up to it
+abbrev pub nextBy : Option ℕ → Next
+nextBy none = done
+nextBy (some s) = more s
 
--- what is answered from document `start` on where m rows fit
+abbrev pub tallyBy : Work → ℕ → Option ℕ → ℕ
+tallyBy w start none = w .postings start limit
+tallyBy w start (some s) = w .postings start s
+
+abbrev pub pageBy : Work → ℕ → Portion ℕ → Page
+pageBy w start p = record { rows = p .written; tally = tallyBy w start (p .left); next = nextBy (p .left) }
+
+-- what is answered from document `start` on where m rows fit: of the true documents that remain, those that fit are written
 unfoldable pub pageOf : Work → ℕ → ℕ → Page
 unfolding docsIn
-pageOf w start m = let remain = docsIn w start limit in pageBy w start m (length remain) (first (drop m remain))
+pageOf w start m = pageBy w start (portion m (docsIn w start limit))
 
 -- the words that are written
 unfoldable pub rowsFrom : Work → ℕ → ℕ → List ℕ
@@ -35,7 +42,10 @@ rowsFrom w start m = rowsOfDocs w (take m (docsIn w start limit))
 -- 1 to 14 of the volume and the plan; 15: the start is over 65,535; 16: the buffer is shorter than a row; or the page
 abbrev pub listBy : Said Sizes → Work → ℕ → ℕ → Said Page
 listBy (refused n q) w start room = refused n q
-listBy (answered s) w start room = cond (ltb 65535 start) (refused 15 0) (cond (ltb room (w .width)) (refused 16 0) (answered (pageOf w start (room / w .width))))
+listBy (answered s) w start room =
+    cond (ltb 65535 start) (refused 15 0)
+    (cond (ltb room (w .width)) (refused 16 0)
+    (answered (pageOf w start (room / w .width))))
 
 -- the answer to listing from document `start` on into a buffer of so many words
 unfoldable pub listAnswer : List ℕ → List ℕ → ℕ → ℕ → Said Page

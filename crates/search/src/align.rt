@@ -4,7 +4,7 @@ ghost use Prim.Native.Nat.{ℕ, _+_, _<_, _≤_};
 ghost use lib.ListN.{length, getD};
 ghost use Rattle.matcher.specs.Cursors.{Stretch};
 ghost use Rattle.matcher.specs.Settling.{Among};
-ghost use Rattle.search.specs.Walk.{Aligned, turned};
+ghost use Rattle.search.specs.Inner.Walk.{Aligned, turned};
 use matcher::Cursor;
 
 // The variable behind variable i of n, in turn.
@@ -51,7 +51,8 @@ pub fn align(
         if end <= at {
             return 65536;
         }
-        let here = volume::word_at(volume, at) / 65536;
+        let posting = volume::posting_at(volume, at);
+        let here = posting.doc();
         i = turn(i, n);
         if here == d {
             standing += 1;

@@ -12,6 +12,7 @@ mod align;
 mod answers;
 mod listing;
 mod setup;
+mod store;
 mod walk;
 
 pub use answers::Listed;

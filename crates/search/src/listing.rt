@@ -1,37 +1,31 @@
 // The listing call: one forward pass over the documents.
 ghost use mathlib.Core.Path.{_≡_};
-ghost use mathlib.Core.List.{List, _++_};
-ghost use Prim.Native.Nat.{ℕ, _+_, _*_, _<_, _≤_};
-ghost use lib.ListN.{length, getD, take, drop};
+ghost use Prim.Native.Nat.{ℕ, _*_, _≤_};
+ghost use lib.ListN.{length};
 ghost use Rattle.volume.specs.Layout.{listsOf};
 ghost use Rattle.plan.specs.Rows.{rowsOf};
+ghost use Rattle.plan.specs.Limits.{rowWords};
 ghost use Rattle.plan.specs.Check.{Accepted, sizes};
 ghost use Rattle.fulltext.specs.Documents.{postingsIn};
 ghost use Rattle.search.specs.Answers.{saidListed};
 ghost use Rattle.search.specs.Search.{Kept};
 ghost use Rattle.matcher.specs.Tables.{Cursors};
-ghost use Rattle.search.specs.Walk.{Walks};
+ghost use Rattle.search.specs.Inner.Walk.{Walks};
 use super::answers::Listed;
 use super::setup::set_cursors;
+use super::store::put_row;
 use super::walk::Walk;
 use super::walk::visit;
 use matcher::Cursor;
 use matcher::starts_of;
 use plan::Checked;
+use plan::MOST_PATTERNS;
+use plan::MOST_ROW_WORDS;
+use plan::MOST_VARS;
 use plan::has_samepara;
 use plan::lay_out;
-
-// Copies the first n words of a row into out from `to` on.
-fn put_row(row: &[u32], n: usize, out: &mut [u32], to: usize)
-    requires { ⌜ (n ≤ length (now row)) × (to + n ≤ length (now out)) ⌝ }
-    ensures { λ _. ⌜ now (out .exit) ≡ take to (now (out .entry)) ++ take n (now (row .entry)) ++ drop (to + n) (now (out .entry)) ⌝ }
-{
-    let mut i: usize = 0;
-    while i < n {
-        out[to + i] = row[i];
-        i += 1;
-    }
-}
+use plan::row_words;
+use volume::Posting;
 
 // How many postings the lists of all variables have from document `start` up to document `doc`, doc
 // not counted. `ats` has the index of each list's first posting in document `start` or a later one.
@@ -76,16 +70,16 @@ fn list_docs(
     requires { ⌜ start ≤ 65535 ⌝ }
     requires { ⌜ Cursors (now volume) (now plan) start (now firsts) (now ends) ⌝ }
     requires { ⌜ now ats ≡ now firsts ⌝ }
-    requires { ⌜ 1 + sizes (now plan) .patterns + sizes (now plan) .vars ≤ length (now out) ⌝ }
+    requires { ⌜ rowWords (sizes (now plan) .patterns) (sizes (now plan) .vars) ≤ length (now out) ⌝ }
     ensures { λ r. ⌜ Kept (now (volume .entry)) (now (plan .entry)) start (record { lent = now (out .entry); says = saidListed r; back = now (out .exit) }) ⌝ }
 {
     let patterns = table.len() / 4;
-    let width = 1 + patterns + firsts.len();
+    let width = row_words(patterns as u32, firsts.len() as u32);
     let room = out.len() / width;
     let paras = has_samepara(plan);
     let mut starts = starts_of(volume);
-    let mut docs: [u32; 8] = [0; 8];
-    let mut row: [u32; 64] = [0; 64];
+    let mut docs: [u32; MOST_PATTERNS] = [0; MOST_PATTERNS];
+    let mut row: [u32; MOST_ROW_WORDS] = [0; MOST_ROW_WORDS];
     let mut rows: usize = 0;
     let mut from = start;
     loop {
@@ -137,13 +131,13 @@ fn list_from(
     requires { ⌜ patterns ≡ sizes (now plan) .patterns ⌝ }
     requires { ⌜ vars ≡ sizes (now plan) .vars ⌝ }
     requires { ⌜ start ≤ 65535 ⌝ }
-    requires { ⌜ 1 + patterns + vars ≤ length (now out) ⌝ }
+    requires { ⌜ rowWords patterns vars ≤ length (now out) ⌝ }
     ensures { λ r. ⌜ Kept (now (volume .entry)) (now (plan .entry)) start (record { lent = now (out .entry); says = saidListed r; back = now (out .exit) }) ⌝ }
 {
-    let mut table: [usize; 32] = [0; 32];
+    let mut table: [usize; 4 * MOST_PATTERNS] = [0; 4 * MOST_PATTERNS];
     lay_out(plan, patterns, &mut table);
-    let mut firsts: [usize; 64] = [0; 64];
-    let mut ends: [usize; 64] = [0; 64];
+    let mut firsts: [usize; MOST_VARS] = [0; MOST_VARS];
+    let mut ends: [usize; MOST_VARS] = [0; MOST_VARS];
     set_cursors(
         volume,
         plan,
@@ -174,10 +168,10 @@ pub fn list(volume: &[u8], plan: &[u32], start: u32, out: &mut [u32]) -> Listed
     match checked {
         Checked::Refused(why) => Listed::Refused(why),
         Checked::Accepted(patterns, vars) => {
-            if 65535 < start {
+            if Posting::LAST_DOC < start {
                 return Listed::Start;
             }
-            if out.len() < 1 + patterns as usize + vars as usize {
+            if out.len() < row_words(patterns, vars) {
                 return Listed::Short;
             }
             list_from(volume, plan, patterns as usize, vars as usize, start, out)

@@ -1,12 +1,11 @@
 // What is laid out of a plan before its documents are walked.
 ghost use mathlib.Core.Path.{_≡_};
-ghost use mathlib.Core.List.{List};
-ghost use Prim.Native.Nat.{ℕ, _*_, _<_, _≤_};
+ghost use Prim.Native.Nat.{_*_, _<_, _≤_};
 ghost use lib.ListN.{length};
 ghost use Rattle.volume.specs.Layout.{listCount};
 ghost use Rattle.volume.specs.Check as volumes;
+ghost use Rattle.plan.specs.Limits.{mostVars};
 ghost use Rattle.plan.specs.Check.{Accepted, sizes};
-ghost use Rattle.matcher.specs.Cursors.{listCursor};
 ghost use Rattle.plan.specs.Inner.Outline.{Tabled};
 ghost use Rattle.matcher.specs.Tables.{cursorOn, Cursors};
 use matcher::Cursor;
@@ -40,8 +39,8 @@ pub fn set_cursors(
     requires { ⌜ Tabled (now plan) (now table) ⌝ }
     requires { ⌜ 4 * patterns ≤ length (now table) ⌝ }
     requires { ⌜ start ≤ 65535 ⌝ }
-    requires { ⌜ 51 ≤ length (now ats) ⌝ }
-    requires { ⌜ 51 ≤ length (now ends) ⌝ }
+    requires { ⌜ mostVars ≤ length (now ats) ⌝ }
+    requires { ⌜ mostVars ≤ length (now ends) ⌝ }
     ensures { λ _. ⌜ Cursors (now (volume .entry)) (now (plan .entry)) start (now (ats .exit)) (now (ends .exit)) ⌝ }
 {
     let mut k: usize = 0;

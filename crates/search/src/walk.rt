@@ -6,13 +6,14 @@ ghost use Prim.Native.Nat.{ℕ, _+_, _<_, _≤_};
 ghost use lib.ListN.{length, getD, take, drop};
 ghost use Rattle.volume.specs.Layout.{listsOf};
 ghost use Rattle.plan.specs.Rows.{rowsOf};
+ghost use Rattle.plan.specs.Limits.{rowWords};
 ghost use Rattle.plan.specs.Check.{sizes};
 ghost use Rattle.plan.specs.Accepted.{patternAt};
 ghost use Rattle.fulltext.specs.Documents.{found, shownIn, rowIn};
 ghost use Rattle.matcher.specs.Cursors.{Stretch, listEnd, Stands};
 ghost use Rattle.plan.specs.Inner.Stack.{flagOf, Flags};
 ghost use Rattle.matcher.specs.Settling.{Ready, Candidate};
-ghost use Rattle.search.specs.Walk.{Pending, Brought, LeastDoc, Walks, Walking, Visited};
+ghost use Rattle.search.specs.Inner.Walk.{Pending, Brought, LeastDoc, Walks, Walking, Visited};
 use super::align::align;
 use matcher::Cursor;
 use matcher::settle;
@@ -148,11 +149,11 @@ fn fill_row(
     requires { ⌜ patterns ≡ sizes (now plan) .patterns ⌝ }
     requires { ⌜ patterns ≤ length (now docs) ⌝ }
     requires { ⌜ patterns ≤ length (now flags) ⌝ }
-    requires { ⌜ 1 + sizes (now plan) .patterns + sizes (now plan) .vars ≤ length (now row) ⌝ }
+    requires { ⌜ rowWords (sizes (now plan) .patterns) (sizes (now plan) .vars) ≤ length (now row) ⌝ }
     requires { ⌜ ((k : ℕ) → k < patterns → Ready (now volume) (now plan) (now table) (now ats) (now ends) k doc (getD (now docs) k 0) starts) ⌝ }
     ensures { λ _. ⌜ length (now (row .exit)) ≡ length (now (row .entry)) ⌝ }
     ensures { λ _. ⌜ length (now (flags .exit)) ≡ length (now (flags .entry)) ⌝ }
-    ensures { λ _. ⌜ take (1 + sizes (now (plan .entry)) .patterns + sizes (now (plan .entry)) .vars) (now (row .exit)) ≡ rowIn (listsOf (now (volume .entry))) (rowsOf (now (plan .entry))) doc ⌝ }
+    ensures { λ _. ⌜ take (rowWords (sizes (now (plan .entry)) .patterns) (sizes (now (plan .entry)) .vars)) (now (row .exit)) ≡ rowIn (listsOf (now (volume .entry))) (rowsOf (now (plan .entry))) doc ⌝ }
     ensures { λ _. ⌜ Flags (found (listsOf (now (volume .entry))) doc) (now (plan .entry)) (now (flags .exit)) ⌝ }
 {
     row[0] = doc;
@@ -191,7 +192,7 @@ pub fn visit(
 ) -> Seen
     requires { ⌜ Walks (now volume) (now plan) (now table) (now ends) ⌝ }
     requires { ⌜ Walking (now volume) (now plan) (now ends) (now ats) (now docs) (walk .from) (walk .fresh) (walk .starts) ⌝ }
-    requires { ⌜ 1 + sizes (now plan) .patterns + sizes (now plan) .vars ≤ length (now row) ⌝ }
+    requires { ⌜ rowWords (sizes (now plan) .patterns) (sizes (now plan) .vars) ≤ length (now row) ⌝ }
     ensures { λ r. ⌜ Visited (now (volume .entry)) (now (plan .entry)) (now (ends .entry)) (walk .from) r (now (ats .exit)) (now (docs .exit)) (now (row .exit)) ⌝ }
 {
     next_docs(volume, plan, table, walk.fresh, walk.from, ats, ends, docs);

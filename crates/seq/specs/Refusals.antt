@@ -24,17 +24,30 @@ unfolding elem
 stageIn [] n = 0
 stageIn (g ∷ gs) n = let rest = suc (stageIn gs n) in cond (elem n g) 0 rest
 
--- refusal m at q comes before refusal n at p: by the stage of the call, in a stage by place, at a place by number
-abbrev pub Before : (ℕ → ℕ) → ℕ → ℕ → ℕ → ℕ → Type 0
-Before stage m q n p = (stage m < stage n) ⊎ ((stage m ≡ stage n) × ((q < p) ⊎ ((q ≡ p) × (m < n))))
+-- refusal m at place q of stage s comes before refusal n at place p of stage t: by the stage of the call, in a stage by place, at a place by number
+abbrev pub Precedes : ℕ → ℕ → ℕ → ℕ → ℕ → ℕ → Type 0
+Precedes s m q t n p = (s < t) ⊎ ((s ≡ t) × ((q < p) ⊎ ((q ≡ p) × (m < n))))
 
--- refusal n applies at p, and none that comes before it applies
-pub record First (stage : ℕ → ℕ) (Applies : ℕ → ℕ → Type 0) (n p : ℕ) : Type 0 where
-  pub applies : Applies n p
-  pub nothing-before : (m q : ℕ) → Applies m q → Before stage m q n p → ⊥
+-- the refusals of a call are a relation: `Applies s n p`, refusal n applies at stage s and place p. One number may stand at several stages.
+-- Refusal n at p is the first: it applies, and none that comes before it applies
+pub record FirstOf (Applies : ℕ → ℕ → ℕ → Type 0) (n p : ℕ) : Type 0 where
+  pub stage : ℕ
+  pub applies : Applies stage n p
+  pub nothing-before : (s m q : ℕ) → Applies s m q → Precedes s m q stage n p → ⊥
 
 -- a call answers the first refusal that applies, and its value exactly if none applies
-pub record FirstRefusal {A : Type 0} (stage : ℕ → ℕ) (Applies : ℕ → ℕ → Type 0) (value : A) (said : Said A) : Type 0 where
-  pub refuses : (n p : ℕ) → (said ≡ refused n p) ↔ First stage Applies n p
-  pub answers : (said ≡ answered value) ↔ ((n p : ℕ) → Applies n p → ⊥)
+pub record FirstRefusalOf {A : Type 0} (Applies : ℕ → ℕ → ℕ → Type 0) (value : A) (said : Said A) : Type 0 where
+  pub refuses : (n p : ℕ) → (said ≡ refused n p) ↔ FirstOf Applies n p
+  pub answers : (said ≡ answered value) ↔ ((s n p : ℕ) → Applies s n p → ⊥)
   pub either : (said ≡ answered value) ⊎ ((n : ℕ) × (p : ℕ) × (said ≡ refused n p))
+
+-- the relation where each number has one stage: refusal n, which applies at p, stands at stage s
+abbrev pub Staged : (ℕ → ℕ) → (ℕ → ℕ → Type 0) → ℕ → ℕ → ℕ → Type 0
+Staged stage Applies s n p = (s ≡ stage n) × Applies n p
+
+-- the first refusal there, and a call that answers it
+abbrev pub First : (ℕ → ℕ) → (ℕ → ℕ → Type 0) → ℕ → ℕ → Type 0
+First stage Applies n p = FirstOf (Staged stage Applies) n p
+
+abbrev pub FirstRefusal : {A : Type 0} → (ℕ → ℕ) → (ℕ → ℕ → Type 0) → A → Said A → Type 0
+FirstRefusal stage Applies value said = FirstRefusalOf (Staged stage Applies) value said

@@ -71,11 +71,11 @@ pub fn season(seed: u32, list_count: usize, length: usize) -> Lists {
     Lists::new(&lists)
 }
 
-/// An archive like one of real titles. Documents lie one to five apart; each has 2 to 10 titles, one
-/// in forty ten times as many, of 2 to 9 words each. Two words out of three are drawn from all lists,
-/// the n-th of them with a weight of 1 / (n + 1); the third is drawn from four neighbouring lists,
-/// the same throughout the document. One word in fifty stands in a second list too, and one in eight
-/// is followed by a position that no list has.
+/// An archive like one of real titles. Documents lie one to five apart; each has 2 to 10 titles,
+/// one in forty ten times as many, of 2 to 9 words each. Two words out of three are drawn from all
+/// lists, the n-th of them with a weight of 1 / (n + 1); the third is drawn from four neighbouring
+/// lists, the same throughout the document. One word in fifty stands in a second list too, and one
+/// in eight is followed by a position that no list has.
 pub fn repertory(seed: u64, list_count: usize, posting_count: usize) -> Lists {
     let mut rng = Rng::new(seed);
     let words = list_count as u64 - 1;

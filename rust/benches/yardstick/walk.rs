@@ -3,10 +3,10 @@
 //!
 //! The pass: a cursor is what is left of a list. Each pattern joins the lists of its variables: its
 //! cursors leap in turn to the document that the furthest has reached, until all of them stand in
-//! one. The least of these documents over the patterns is the next to look at, since no plan is true
-//! where no pattern has all its variables. Each pattern that stands there is settled: from the first
-//! positions on, a predicate that fails moves the variable that it leaves short, and where all hold
-//! the match is the least. The pattern's cursors stay where they are meanwhile.
+//! one. The least of these documents over the patterns is the next to look at, since no plan is
+//! true where no pattern has all its variables. Each pattern that stands there is settled: from the
+//! first positions on, a predicate that fails moves the variable that it leaves short, and where
+//! all hold the match is the least. The pattern's cursors stay where they are meanwhile.
 
 use super::late::{self, Refused};
 
@@ -92,9 +92,9 @@ pub fn walk(volume: &[u8], plan: &[u32], start: u32, out: &mut [u32]) -> Result<
     Ok(Listing { rows: rows as u32, tally: tally.sum::<usize>() as u32, next })
 }
 
-/// What is left of a list that rises, from its first number on that is not below `bound`. Most leaps
-/// are short, and how short is hard to foretell, so that the first eight numbers are counted without
-/// a branch; then come steps that double, then halves.
+/// What is left of a list that rises, from its first number on that is not below `bound`. Most
+/// leaps are short, and how short is hard to foretell, so that the first eight numbers are counted
+/// without a branch; then come steps that double, then halves.
 fn seek(left: &[u32], bound: u32) -> &[u32] {
     if let Some(first) = left.first_chunk::<8>() {
         if first[7] >= bound {

@@ -362,7 +362,7 @@ fn random_runs() {
     let seed = 509;
     let mut rng = Rng::new(seed);
     let [mut listed, mut short] = [0; 2];
-    for _ in 0..150 {
+    for _ in 0..60 {
         let subject = random_subject(&mut rng);
         let (volume, plan) = (subject.volume(), word_bytes(subject.plan()));
         let width = subject.searcher().width();
@@ -381,5 +381,5 @@ fn random_runs() {
             }
         }
     }
-    assert!(listed > 90 && short > 8, "seed {seed}: {listed} {short}");
+    assert!(listed > 36 && short > 3, "seed {seed}: {listed} {short}");
 }

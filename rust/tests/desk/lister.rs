@@ -85,16 +85,16 @@ fn prints(case: &str, volume: Entry, plan: Entry, output: &str) {
     assert_eq!(run(volume, plan), output, "{case}");
 }
 
-/// A volume of one word, which has a position in each of so many documents, 4 apart, the last of them
-/// document 65,535.
+/// A volume of one word, which has a position in each of so many documents, 4 apart, the last of
+/// them document 65,535.
 fn documents(count: u32) -> Lists {
     let doc = |i: u32| 65_535 - 4 * (count - 1 - i);
     let word = (0..count).map(|i| doc(i) * 65_536 + i * 2_654_435 % 65_536).collect();
     Lists::new(&[vec![], word])
 }
 
-/// Lists of which the volume has 128 blocks, 65,536 bytes: a word in 16,000 documents, and behind it
-/// one that fills the stream but for `free` words.
+/// Lists of which the volume has 128 blocks, 65,536 bytes: a word in 16,000 documents, and behind
+/// it one that fills the stream but for `free` words.
 fn longest(free: u32) -> Lists {
     let mut lists = vec![vec![], documents(16_000).postings];
     lists.push((0..16_128 - 5 - 16_000 - free).collect());
@@ -232,8 +232,8 @@ fn refusals_of_a_plan() {
     }
 }
 
-/// A volume file of 65,536 bytes is read, whatever it holds; one byte more is too long, whatever the
-/// plan is.
+/// A volume file of 65,536 bytes is read, whatever it holds; one byte more is too long, whatever
+/// the plan is.
 #[test]
 fn long_volumes() {
     let plan = plan_bytes(&[voice(2), END]);

@@ -1,5 +1,5 @@
 //! What lies on a reader's desk: the guide, the header and the example in C, the program
-//! `lister`, and the Makefile.
+//! `lister`, the Makefile, and the edits that must be refused.
 
 #[path = "../plain/mod.rs"]
 mod plain;
@@ -7,6 +7,7 @@ mod plain;
 mod support;
 
 mod c_example;
+mod edits;
 mod guide;
 mod header;
 mod lister;

@@ -226,7 +226,7 @@ must-fail)
     for edit in crates/*/must-fail/*.edit; do
         case $edit in
         */refused*) echo "rt: must-fail $edit: refused, as it must be (1 s)" ;;
-        *.edit) echo "rt: must-fail $edit: BAD EDIT: an 'old:' text is not in src/lib.rt"; status=1 ;;
+        *.edit) echo "rt: must-fail $edit: BAD EDIT: its text is absent"; status=1 ;;
         esac
     done
     exit "${status:-0}"

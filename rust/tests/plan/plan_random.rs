@@ -27,7 +27,7 @@ fn plans_in_order() {
     let volumes = volumes(&mut rng);
     let mut met = BTreeMap::new();
     let (mut largest, mut most_vars) = (0, 0);
-    for round in 0..20_000 {
+    for round in 0..10_000 {
         let (volume, lists) = &volumes[rng.below(volumes.len())];
         let rows = random_plan(&mut rng, *lists);
         trial.case = format!("seed {seed}, round {round}, {rows:?}");
@@ -38,8 +38,8 @@ fn plans_in_order() {
         largest += usize::from(rows.len() == 64);
         most_vars = vars.max(most_vars);
     }
-    assert!(met.keys().copied().eq(1..=8) && met.values().all(|&times| times > 200), "{met:?}");
-    assert!(largest > 200 && most_vars == 51, "{largest} of 64 rows, {most_vars} variables");
+    assert!(met.keys().copied().eq(1..=8) && met.values().all(|&times| times > 100), "{met:?}");
+    assert!(largest > 100 && most_vars == 51, "{largest} of 64 rows, {most_vars} variables");
 }
 
 /// One to three changes in a plan that is in order.
@@ -49,14 +49,14 @@ fn plans_nearly_in_order() {
     let mut rng = Rng::new(seed);
     let mut trial = Trial::default();
     let volumes = volumes(&mut rng);
-    for round in 0..60_000 {
+    for round in 0..20_000 {
         let (volume, lists) = &volumes[rng.below(volumes.len())];
         let changes = rng.pick(&[1, 1, 2, 3]);
         let plan = spoiled_plan(&mut rng, *lists, changes);
         trial.case = format!("seed {seed}, round {round}, {plan:?}");
         let _ = trial.plan(volume, &plan);
     }
-    trial.assert_met(Call::Plan, 1_000, &[0, 9, 10, 11, 12, 13, 14]);
+    trial.assert_met(Call::Plan, 300, &[0, 9, 10, 11, 12, 13, 14]);
     trial.assert_met_at(Call::Plan, 50, &[10, 11, 12, 13]);
 }
 
@@ -67,13 +67,13 @@ fn nonsense() {
     let mut rng = Rng::new(seed);
     let mut trial = Trial::default();
     let volumes = volumes(&mut rng);
-    for round in 0..60_000 {
+    for round in 0..20_000 {
         let (volume, lists) = &volumes[rng.below(volumes.len())];
         let plan = nonsense_plan(&mut rng, *lists);
         trial.case = format!("seed {seed}, round {round}, {plan:?}");
         let _ = trial.plan(volume, &plan);
     }
-    trial.assert_met(Call::Plan, 100, &[0, 9, 10, 11, 12, 13, 14]);
+    trial.assert_met(Call::Plan, 30, &[0, 9, 10, 11, 12, 13, 14]);
     trial.assert_met_at(Call::Plan, 6, &[10, 11, 12, 13]);
 }
 

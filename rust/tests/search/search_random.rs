@@ -46,7 +46,7 @@ fn whole_searches() {
     let mut rng = Rng::new(seed);
     let mut trial = Trial::default();
     let mut met = Met::default();
-    for round in 0..60_000 {
+    for round in 0..20_000 {
         let subject = random_subject(&mut rng);
         trial.case = format!("seed {seed}, round {round}, {:?}", subject.plan());
         for _ in 0..2 {
@@ -55,31 +55,31 @@ fn whole_searches() {
         other_starts(&mut rng, &mut trial, &subject, 3);
         count_rows(&mut met, &subject);
     }
-    trial.assert_met(Call::List, 10_000, &[0, 15, 16]);
+    trial.assert_met(Call::List, 3_000, &[0, 15, 16]);
     met.assert_at_least(&[
-        ("searches", 100_000),
-        ("searches to done", 50_000),
-        ("searches of several calls", 10_000),
-        ("more", 20_000),
-        ("several rows and more", 5_000),
-        ("done with no row", 10_000),
-        ("short buffers", 5_000),
-        ("a buffer used again", 10_000),
-        ("no document matches", 5_000),
-        ("more than one block", 5_000),
-        ("rows", 50_000),
-        ("zeros under EITHER", 10_000),
-        ("zeros beside FIRST NOT SECOND", 10_000),
-        ("found at first positions", 20_000),
-        ("found further on", 5_000),
-        ("NEAR found", 5_000),
-        ("NEAR missed", 1_000),
-        ("BEFORE found", 5_000),
-        ("BEFORE missed", 5_000),
-        ("SAME TITLE found", 5_000),
-        ("SAME TITLE missed", 1_000),
-        ("SPAN found", 5_000),
-        ("SPAN missed", 1_000),
+        ("searches", 33_000),
+        ("searches to done", 16_000),
+        ("searches of several calls", 3_300),
+        ("more", 6_600),
+        ("several rows and more", 1_600),
+        ("done with no row", 3_300),
+        ("short buffers", 1_600),
+        ("a buffer used again", 3_300),
+        ("no document matches", 1_600),
+        ("more than one block", 1_600),
+        ("rows", 16_000),
+        ("zeros under EITHER", 3_300),
+        ("zeros beside FIRST NOT SECOND", 3_300),
+        ("found at first positions", 6_600),
+        ("found further on", 1_600),
+        ("NEAR found", 1_600),
+        ("NEAR missed", 330),
+        ("BEFORE found", 1_600),
+        ("BEFORE missed", 1_600),
+        ("SAME TITLE found", 1_600),
+        ("SAME TITLE missed", 330),
+        ("SPAN found", 1_600),
+        ("SPAN missed", 330),
     ]);
     let made = trial.made(Call::List);
     assert!(made >= 100_000, "{made} comparisons");

@@ -1,5 +1,5 @@
-//! For the programs that print a listing: folders and plan files for them, and what document 01 says
-//! that is printed.
+//! For the programs that print a listing: folders and plan files for them, and what document 01
+//! says that is printed.
 
 use super::plans::Row;
 use crate::plain::search::Searcher;

@@ -1,8 +1,8 @@
 //! What the tests share: a seeded generator, lists and damage made with it, plans (in `plans`), and
 //! the comparison of the library with the plain reader and writer, call by call. `searches` has the
 //! same for listing documents and testing positions, and whole searches. `refused` has volumes and
-//! plans that are refused, `files` what the programs that print a listing are run with; `command` runs
-//! programs, and `cc` compiles those in C.
+//! plans that are refused, `files` what the programs that print a listing are run with; `command`
+//! runs programs, and `cc` compiles those in C.
 
 #![allow(dead_code)]
 
@@ -109,7 +109,8 @@ impl Lists {
         volume
     }
 
-    /// The text of the lists: a line for each, its postings as `scene:place`, or `-` where it is empty.
+    /// The text of the lists: a line for each, its postings as `scene:place`, or `-` where it is
+    /// empty.
     pub fn text(&self) -> String {
         let posting = |&word: &u32| format!("{}:{}", word / 65_536, word % 65_536);
         let line = |list: &&[u32]| match list {

@@ -313,7 +313,7 @@ fn random_damage() {
     let seed = 8_191;
     let mut rng = Rng::new(seed);
     let mut trial = Trial::default();
-    for round in 0..50_000 {
+    for round in 0..20_000 {
         trial.case = format!("seed {seed}, round {round}");
         let most = rng.pick(&[2, 10, 30]);
         let lists = random_lists(&mut rng, most);
@@ -323,6 +323,6 @@ fn random_damage() {
         }
         let _ = trial.examine(&volume);
     }
-    trial.assert_met(Call::Check, 1_000, &[0, 1, 2, 3, 4, 5, 6, 7, 8]);
-    trial.assert_met(Call::Read, 1_000, &[0, 1, 2, 3, 4, 5, 6, 7, 8, 16, 17]);
+    trial.assert_met(Call::Check, 400, &[0, 1, 2, 3, 4, 5, 6, 7, 8]);
+    trial.assert_met(Call::Read, 400, &[0, 1, 2, 3, 4, 5, 6, 7, 8, 16, 17]);
 }

@@ -50,6 +50,6 @@ heard-flat v p start out = go (listAnswer v p start (length out)) refl
 
     go : (said : Said Page) → listAnswer v p start (length out) ≡ said → heard (flatListing said) ≡ said
     go (refused n q) e =
-        let h = list-number v p start (length out) n q (list-sound v p start (length out) .first n q e .applies) .0 in
+        let h = list-number v p start (length out) n q (list-sound v p start (length out) .first n q e .applies .1) .0 in
         heard-refused (flatListing (refused n q)) (λ z. let y : ⊥ = omega arith in y)
     go (answered page) e = next-of (page .rows) (page .tally) (page .next) e

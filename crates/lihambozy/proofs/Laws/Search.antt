@@ -139,7 +139,7 @@ heard-each v p w (c ∷ cs) s k a = (
 accepted : (v p : List ℕ) → flatPlan (plan.verdict v p) .refusal ≡ 0 → plan.Accepted v p
 accepted v p e = ⊎-elim (λ a. a) (λ (w : (n : ℕ) × (q : ℕ) × (plan.verdict v p ≡ refused n q)).
     let z : w .0 ≡ 0 = rw (w .2) at e in
-    let h = plan-number v p (w .0) (w .1) (check-sound v p .first (w .0) (w .1) (w .2) .applies) .0 in
+    let h = plan-number v p (w .0) (w .1) (check-sound v p .first (w .0) (w .1) (w .2) .applies .1) .0 in
     absurd (let y : ⊥ = omega arith in y)) (check-sound v p .total)
 
 pub holds3 : (v p : List ℕ) → IsBytes v → flatSizes (volume.verdict v) .refusal ≡ 0 → flatPlan (plan.verdict v p) .refusal ≡ 0 → Holds3 v p

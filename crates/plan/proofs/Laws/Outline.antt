@@ -12,12 +12,10 @@ use native.Mathlib.Numerals.{add-one}
 use native.Mathlib.Omega.{arith}
 use mathlib.Core.Path.{_≡_, refl, sym, ap, ap₂, _∙_}
 use mathlib.Core.Bool.{Bool, true, false, not}
-use mathlib.Core.Logic.{_≢_, ⊎-elim}
+use mathlib.Core.Logic.{⊎-elim}
 use mathlib.Core.List.{List, [], _∷_, _++_, map}
 use lib.ListN.{length, getD, set, take, length-append, length-map, length-set, List·getD-append}
 use lib.Seq.{take-all, take-suc, getD-append-add, getD-set-same, getD-set-other}
-use lib.Dec.{eqb}
-use borrow.Author.Tests.{eq-eqb, ne-eqb}
 use Rattle.seq.specs.Lists.{total}
 use Rattle.seq.specs.Numbers.{firstFrom, run}
 use Rattle.seq.proofs.Laws.Lists.{total-snoc}
@@ -25,18 +23,19 @@ use Rattle.seq.proofs.Laws.Numbers.{first-ge, first-at, first-before, length-ru
 use Rattle.seq.proofs.Laws.Tests.{contrary, below-or}
 use Rattle.volume.specs.Layout.{listCount}
 use Rattle.plan.specs.declared.row.Predicate.{Predicate}
-use Rattle.plan.specs.declared.row.Predicate.the-variants.{Distance, Ordered, Samepara, Window}
+use Rattle.plan.specs.declared.row.Predicate.the-variants.{Window}
+use Rattle.plan.specs.declared.row.Kind.{Kind}
 use Rattle.plan.specs.declared.row.Kind.the-variants as kind
 use Rattle.plan.specs.declared.row.Row.{Row}
 use Rattle.plan.specs.declared.showing.Span.{Span}
-use Rattle.plan.specs.Rows.{rowCount, kindAt, rowAt, rowsOf}
+use Rattle.plan.specs.Rows.{rowCount, rowAt, rowsOf, isVoice}
 use Rattle.plan.specs.Patterns.{Pattern, noRow, patternsOf}
-use Rattle.plan.specs.Parts.{firstRow, lastRow, spanAt, patternRows}
+use Rattle.plan.specs.Parts.{firstOf, firstRow, lastRow, spanAt, patternRows}
 use Rattle.plan.specs.Check.{Accepted, sizes}
 use Rattle.plan.specs.Accepted.{patternAt}
 use Rattle.plan.proofs.Laws.Passed.{Passed}
 use Rattle.plan.proofs.Laws.Check.{verdict-passed}
-use Rattle.plan.proofs.Laws.Rows.{numberOf, number-at, rows-slice}
+use Rattle.plan.proofs.Laws.Rows.{rows-slice}
 use Rattle.plan.proofs.Laws.Parts.{span-within, span-rises, part-rows}
 use Rattle.plan.specs.Inner.Outline.{behindVoices, varsBefore, outlineAt, Entry, Tabled}
 
@@ -120,24 +119,18 @@ module _ (f : Pattern) where
       ∙ getD-append-add (map voice (f .vars) ++ map condition (f .predicates)) (end ∷ []) 0 end
 
   -- the row behind the variables is no VOICE
-  rows-behind : numberOf (getD (patternRows f) (varCount f) end .kind) ≢ 1
-  rows-behind e = ⊎-elim some none (below-or 0 (predicateCount f))
+  rows-behind : isVoice (getD (patternRows f) (varCount f) end .kind) ≡ false
+  rows-behind = ⊎-elim some none (below-or 0 (predicateCount f))
     where
-      number : (c : Predicate) → numberOf (kind.Condition c) ≢ 1
-      number (Distance a b limit) q = let z : ⊥ = omega arith in z
-      number (Ordered a b) q = let z : ⊥ = omega arith in z
-      number (Samepara a b) q = let z : ⊥ = omega arith in z
-      number (Window limit) q = let z : ⊥ = omega arith in z
+      some : 0 < predicateCount f → isVoice (getD (patternRows f) (varCount f) end .kind) ≡ false
+      some h =
+          ap (λ (n : ℕ). isVoice (getD (patternRows f) n end .kind)) (sym (add-zero (varCount f)))
+          ∙ ap (λ (r : Row). isVoice (r .kind)) (rows-condition 0 h)
 
-      some : 0 < predicateCount f → ⊥
-      some h = number (getD (f .predicates) 0 (Window 1)) (ap (λ (r : Row). numberOf (r .kind)) (sym (rows-condition 0 h)) ∙ ap (λ (n : ℕ). numberOf (getD (patternRows f) n end .kind)) (add-zero (varCount f)) ∙ e)
-
-      none : predicateCount f ≤ 0 → ⊥
+      none : predicateCount f ≤ 0 → isVoice (getD (patternRows f) (varCount f) end .kind) ≡ false
       none h =
-          let n : varCount f + predicateCount f ≡ varCount f = omega arith in
-          let q : numberOf (kind.End) ≡ 1 = ap (λ (r : Row). numberOf (r .kind)) (sym rows-end) ∙ ap (λ (n : ℕ). numberOf (getD (patternRows f) n end .kind)) n ∙ e in
-          let z : ⊥ = omega arith in
-          z
+          let n : varCount f ≡ varCount f + predicateCount f = omega arith in
+          ap (λ (n : ℕ). isVoice (getD (patternRows f) n end .kind)) n ∙ ap (λ (r : Row). isVoice (r .kind)) rows-end
 
 -- the only index at which a test holds with none before
 first-is : (test : ℕ → Bool) (i n k : ℕ) → i ≤ k → k < n → test k ≡ true → ((j : ℕ) → i ≤ j → j < k → test j ≡ false) → firstFrom test i (n - i) ≡ k
@@ -185,28 +178,21 @@ module _ (v p : List ℕ) (accepted : Accepted v p) (k : ℕ) (h : k < sizes p .
   condition-row : (j : ℕ) → j < predicateCount (patternAt p k) → rowAt p (firstRow p k + (varCount (patternAt p k) + j)) .kind ≡ kind.Condition (getD (patternAt p k .predicates) j (Window 1))
   condition-row j l = ap (λ (r : Row). r .kind) (row-is (varCount (patternAt p k) + j) (omega arith) ∙ rows-condition (patternAt p k) j l)
 
-  number-is : (i : ℕ) → i ≤ varCount (patternAt p k) + predicateCount (patternAt p k) → numberOf (rowAt p (firstRow p k + i) .kind) ≡ kindAt p (firstRow p k + i)
-  number-is i l =
-      let e = last-row in
-      let s = span-order in
-      number-at p (firstRow p k + i) (passed .formed (firstRow p k + i) (omega arith))
-
   behindVoices-is : behindVoices p (firstRow p k) ≡ firstRow p k + varCount (patternAt p k)
-  unfolding behindVoices
+  unfolding firstOf
   behindVoices-is =
       let e = last-row in
       let s = span-order in
-      first-is (λ j. not (eqb (kindAt p j) 1)) (firstRow p k) (rowCount p) (firstRow p k + varCount (patternAt p k)) (omega arith) (omega arith)
-      (ap not (ne-eqb (kindAt p (firstRow p k + varCount (patternAt p k))) 1 behind)) voices
+      first-is (λ j. not (isVoice (rowAt p j .kind))) (firstRow p k) (rowCount p) (firstRow p k + varCount (patternAt p k)) (omega arith) (omega arith)
+      behind voices
     where
-      behind : kindAt p (firstRow p k + varCount (patternAt p k)) ≢ 1
-      behind q = rows-behind (patternAt p k) (ap (λ (r : Row). numberOf (r .kind)) (sym (row-is (varCount (patternAt p k)) (omega arith))) ∙ number-is (varCount (patternAt p k)) (omega arith) ∙ q)
+      behind : not (isVoice (rowAt p (firstRow p k + varCount (patternAt p k)) .kind)) ≡ true
+      behind = ap not (ap (λ (r : Row). isVoice (r .kind)) (row-is (varCount (patternAt p k)) (omega arith)) ∙ rows-behind (patternAt p k))
 
-      voices : (j : ℕ) → firstRow p k ≤ j → j < firstRow p k + varCount (patternAt p k) → not (eqb (kindAt p j) 1) ≡ false
+      voices : (j : ℕ) → firstRow p k ≤ j → j < firstRow p k + varCount (patternAt p k) → not (isVoice (rowAt p j .kind)) ≡ false
       voices j a b =
-          let i : firstRow p k + (j - firstRow p k) ≡ j = omega arith in
-          let q : kindAt p (firstRow p k + (j - firstRow p k)) ≡ 1 = sym (number-is (j - firstRow p k) (omega arith)) ∙ ap numberOf (voice-row (j - firstRow p k) (omega arith)) in
-          ap not (eq-eqb (kindAt p j) 1 (rw i at q))
+          let i : j ≡ firstRow p k + (j - firstRow p k) = omega arith in
+          ap (λ (n : ℕ). not (isVoice (rowAt p n .kind))) i ∙ ap (λ (x : Kind). not (isVoice x)) (voice-row (j - firstRow p k) (omega arith))
 
   entry-is : (first vars behind last : ℕ) → first ≡ varsBefore p k → vars ≡ varCount (patternAt p k) → behind ≡ firstRow p k + varCount (patternAt p k) → last ≡ lastRow p k → Entry p (record { pattern = k; first = first; vars = vars; condition = behind; last = last })
   entry-is first vars behind last a b c d =

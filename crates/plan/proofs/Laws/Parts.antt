@@ -18,7 +18,7 @@ use Rattle.seq.specs.Lists.{all, joined}
 use Rattle.seq.specs.Numbers.{run}
 use Rattle.seq.proofs.Laws.Tests.{below-or}
 use Rattle.plan.specs.declared.row.Row.{Row}
-use Rattle.plan.specs.Rows.{rowCount, rowAt, rowsOf, planOf, isOperator}
+use Rattle.plan.specs.Rows.{rowCount, rowAt, rowsOf, planOf, isVoice, isEnd, isOperator}
 use Rattle.plan.specs.State.{stateAt}
 use Rattle.plan.specs.Patterns.{noRow, patternsFrom, patternsOf}
 use Rattle.plan.specs.Parts.{opening, behind, firstRow, lastRow, spanAt, partAt, gap, patternRows}
@@ -85,8 +85,8 @@ module _ (t : ℕ) (p : List ℕ) (ok : Passed t p) where
   pub span-rises : (k : ℕ) → k < patternCount p → firstRow p k < lastRow p k
   span-rises k h =
       let a = span-within k h in
-      let b = found-ge p 6 (firstRow p k) in
-      end-behind t p ok (firstRow p k) (omega arith) (found-at p 1 (behind p k) (omega arith))
+      let b = found-ge isEnd p (firstRow p k) in
+      end-behind t p ok (firstRow p k) (omega arith) (found-at isVoice p (behind p k) (omega arith))
 
   idle-behind : (k : ℕ) → k ≤ patternCount p → stateAt p (behind p k) .vars ≡ 0
   idle-behind k h = left k h .idle
@@ -95,7 +95,7 @@ module _ (t : ℕ) (p : List ℕ) (ok : Passed t p) where
   last-opening : firstRow p (patternCount p) ≡ rowCount p
   last-opening =
       let l = left (patternCount p) (omega arith) in
-      let a = found-le p 1 (behind p (patternCount p)) (l .within) in
+      let a = found-le isVoice p (behind p (patternCount p)) (l .within) in
       ⊎-elim
       (λ (g : firstRow p (patternCount p) < rowCount p).
       let (f, w) = piece t p ok (behind p (patternCount p)) (l .within) (l .idle) g in
@@ -129,19 +129,19 @@ module _ (t : ℕ) (p : List ℕ) (ok : Passed t p) where
   unfolding gap
   gaps-operate k h =
       let l = behind-le k h in
-      let a = found-le p 1 (behind p k) l in
-      let b = found-ge p 1 (behind p k) in
+      let a = found-le isVoice p (behind p k) l in
+      let b = found-ge isVoice p (behind p k) in
       ap (all (λ (r : Row). isOperator (r .kind))) (rows-slice t p ok (behind p k) (firstRow p k - behind p k) (omega arith))
       ∙ operators t p ok (behind p k) l (idle-behind k h)
 
   -- the front of the plan with the gap behind it, and with the part behind that
   front-gap : (k : ℕ) → take (4 * behind p k) p ++ gap p k ≡ take (4 * firstRow p k) p
   unfolding gap
-  front-gap k = let a = found-ge p 1 (behind p k) in take-slice p (4 * behind p k) (4 * (firstRow p k - behind p k)) (4 * firstRow p k) (omega arith)
+  front-gap k = let a = found-ge isVoice p (behind p k) in take-slice p (4 * behind p k) (4 * (firstRow p k - behind p k)) (4 * firstRow p k) (omega arith)
 
   front-part : (k : ℕ) → take (4 * firstRow p k) p ++ partAt p (spanAt p k) ≡ take (4 * behind p (k + 1)) p
   front-part k =
-      let a = found-ge p 6 (firstRow p k) in
+      let a = found-ge isEnd p (firstRow p k) in
       let e : behind p (k + 1) ≡ lastRow p k + 1 = behind-next p k in
       take-slice p (4 * firstRow p k) (4 * (lastRow p k + 1 - firstRow p k)) (4 * behind p (k + 1)) (omega arith)
 

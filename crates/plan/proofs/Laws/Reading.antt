@@ -1,4 +1,5 @@
 -- The patterns that rows in order are read as, and the rows that say them. No contract cites this file.
+--     voice-of, end-of                   a kind that is told to be a VOICE, or END, is it
 --     patterns-pass                      operators close no pattern
 --     Opened                             rows that are read as the open pattern, and say it
 --     opened-first, opened-next          the VOICE that opens a pattern; one more row that may stand there
@@ -9,7 +10,6 @@ use Prim.Native.Nat.{ℕ, _≤_}
 use native.Mathlib.Omega.{arith}
 use mathlib.Core.Path.{_≡_, refl, sym, ap, _∙_}
 use mathlib.Core.Bool.{true, false, true≢false}
-use mathlib.Core.Logic.{_≢_}
 use mathlib.Core.List.{List, [], _∷_, _++_, map, map-append, append-assoc, append-nil}
 use lib.Seq.{append-snoc}
 use Rattle.seq.specs.Lists.{all}
@@ -21,10 +21,21 @@ use Rattle.plan.specs.declared.row.Row.{Row}
 use Rattle.plan.specs.declared.state.State.{State}
 use Rattle.plan.specs.State.{after, orderWrong}
 use Rattle.plan.specs.Patterns.{Pattern, noRow, openAfter, closed, patternsFrom}
-use Rattle.plan.specs.Rows.{isOperator}
+use Rattle.plan.specs.Rows.{isVoice, isEnd, isOperator}
 use Rattle.plan.specs.Parts.{patternRows}
-use Rattle.plan.proofs.Laws.Rows.{numberOf}
 use Rattle.plan.proofs.Laws.State.{condition-stands, end-stands, operator-stands}
+
+pub voice-of : (k : Kind) → isVoice k ≡ true → (list : ℕ) × (k ≡ kind.Voice list)
+voice-of (kind.Voice list) e = (list, refl)
+voice-of (kind.Condition c) e = absurd (true≢false (sym e))
+voice-of kind.End e = absurd (true≢false (sym e))
+voice-of (kind.Operator o) e = absurd (true≢false (sym e))
+
+pub end-of : (k : Kind) → isEnd k ≡ true → k ≡ kind.End
+end-of (kind.Voice list) e = absurd (true≢false (sym e))
+end-of (kind.Condition c) e = absurd (true≢false (sym e))
+end-of kind.End e = refl
+end-of (kind.Operator o) e = absurd (true≢false (sym e))
 
 -- operators close no pattern and leave the open one as it is
 pub patterns-pass : (f : Pattern) (xs rest : List Row) → all (λ (r : Row). isOperator (r .kind)) xs ≡ true → patternsFrom f (xs ++ rest) ≡ patternsFrom f rest
@@ -95,13 +106,13 @@ module _ (s : State) (f : Pattern) (rows : List Row) (o : Opened s f rows) where
   }
 
   -- a row that may stand there and is no END goes on with the pattern
-  pub opened-next : (r : Row) → orderWrong s (r .kind) ≡ false → numberOf (r .kind) ≢ 6 → Opened (after s (r .kind)) (openAfter f (r .kind)) (rows ++ (r ∷ []))
+  pub opened-next : (r : Row) → orderWrong s (r .kind) ≡ false → isEnd (r .kind) ≡ false → Opened (after s (r .kind)) (openAfter f (r .kind)) (rows ++ (r ∷ []))
   opened-next r = go (r .kind)
     where
-      go : (k : Kind) → orderWrong s k ≡ false → numberOf k ≢ 6 → Opened (after s k) (openAfter f k) (rows ++ (record { kind = k } ∷ []))
+      go : (k : Kind) → orderWrong s k ≡ false → isEnd k ≡ false → Opened (after s k) (openAfter f k) (rows ++ (record { kind = k } ∷ []))
       go (kind.Voice list) e n = next-voice list e
       go (kind.Condition c) e n = next-condition c
-      go kind.End e n = absurd (n refl)
+      go kind.End e n = absurd (true≢false n)
       go (kind.Operator x) e n =
           let z : s .vars ≡ 0 = operator-stands s x e .0 in
           let l = o .some-vars in
@@ -116,8 +127,8 @@ module _ (s : State) (f : Pattern) (rows : List Row) (o : Opened s f rows) where
   opened-rows = ap (λ (l : List Row). l ++ (record { kind = kind.End } ∷ [])) (sym (o .says))
 
 -- where no pattern is open a row that may stand there and is no VOICE is an operator, and no pattern is open behind it
-pub idle-row : (s : State) (k : Kind) → s .vars ≡ 0 → orderWrong s k ≡ false → numberOf k ≢ 1 → (isOperator k ≡ true) × (after s k .vars ≡ 0)
-idle-row s (kind.Voice list) z e n = absurd (n refl)
+pub idle-row : (s : State) (k : Kind) → s .vars ≡ 0 → orderWrong s k ≡ false → isVoice k ≡ false → (isOperator k ≡ true) × (after s k .vars ≡ 0)
+idle-row s (kind.Voice list) z e n = absurd (true≢false n)
 idle-row s (kind.Condition c) z e n = absurd (condition-stands s c e .0 z)
 idle-row s kind.End z e n = absurd (end-stands s e z)
 idle-row s (kind.Operator o) z e n = (refl, z)

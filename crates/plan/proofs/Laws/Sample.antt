@@ -11,7 +11,7 @@ use Rattle.plan.specs.Rows.{rowAt, misused, formWrong}
 use Rattle.plan.specs.State.{afterAll, stateAt, step}
 use Rattle.plan.specs.Patterns.{patternsFrom}
 use Rattle.plan.specs.Check.{lengthWrong, rowWrong, rowFault, rowsWrong, unfinished, sizes, rowsVerdict, planVerdict, verdictBy, verdict}
-use Rattle.plan.specs.Parts.{firstOfKind, behind, spanBy, spanAt, spanOf, partAt, partOf}
+use Rattle.plan.specs.Parts.{firstOf, behind, spanBy, spanAt, spanOf, partAt, partOf}
 use Rattle.plan.specs.Demands.{samplePlan, Sample}
 
 -- the verdict on the plan, the volume's being known
@@ -20,7 +20,7 @@ unfolding joined total firstFrom run rowAt misused formWrong afterAll stateAt st
 plan-checks = ap (λ s. verdictBy s samplePlan) (volume.sample .checks)
 
 pub sample : Sample
-unfolding joined total firstFrom run rowAt patternsFrom firstOfKind behind spanOf partOf
+unfolding joined total firstFrom run rowAt patternsFrom firstOf behind spanOf partOf
 sample = record {
   words = refl;
   checks = plan-checks;

@@ -25,7 +25,7 @@ use Rattle.plan.proofs.Laws.CheckFirst.{check-sound}
 module _ (v p : List ℕ) (k : ℕ) where
   -- a refusal applies where the part is empty
   refusal-of : partOf v p k ≡ [] → (n : ℕ) × (q : ℕ) × PartApplies v p k n q
-  refusal-of e = ⊎-elim answers (λ w. (w .0, w .1, ofPlan (w .0) (w .1) (check-sound v p .first (w .0) (w .1) (w .2) .applies))) (check-sound v p .total)
+  refusal-of e = ⊎-elim answers (λ w. (w .0, w .1, ofPlan (w .0) (w .1) (check-sound v p .first (w .0) (w .1) (w .2) .applies .1))) (check-sound v p .total)
     where
       answers : Accepted v p → (n : ℕ) × (q : ℕ) × PartApplies v p k n q
       answers a =

@@ -1,24 +1,22 @@
 -- Where each pattern of a plan lies: its rows, and its variables among those of the plan. Assumes nothing.
 use Prim.Native.Nat.{ℕ, _+_, _-_, _*_, _<_, _≤_}
 use mathlib.Core.Path.{_≡_}
-use mathlib.Core.Bool.{Bool, not}
+use mathlib.Core.Bool.{not}
 use mathlib.Core.List.{List}
-use lib.Dec.{eqb, ltb}
 use lib.ListN.{length, getD, take}
 use Rattle.seq.specs.Lists.{total}
-use Rattle.seq.specs.Numbers.{firstFrom}
 use Rattle.plan.specs.declared.row.Predicate.the-variants.{Window}
 use Rattle.plan.specs.declared.row.Kind.the-variants as kind
 use Rattle.plan.specs.declared.outline.Outline.{Outline}
-use Rattle.plan.specs.Rows.{rowCount, kindAt, rowAt, rowsOf}
+use Rattle.plan.specs.Rows.{rowCount, rowAt, rowsOf, isVoice}
 use Rattle.plan.specs.Patterns.{Pattern, patternsOf}
+use Rattle.plan.specs.Parts.{firstOf}
 use Rattle.plan.specs.Check.{sizes}
 use Rattle.plan.specs.Accepted.{patternAt}
 
 -- the first row from row i on that is no VOICE; where there is none, the number of rows, or i if that is larger
-unfoldable pub behindVoices : List ℕ → ℕ → ℕ
-unfolding firstFrom
-behindVoices p i = firstFrom (λ j. not (eqb (kindAt p j) 1)) i (rowCount p - i)
+abbrev pub behindVoices : List ℕ → ℕ → ℕ
+behindVoices p i = firstOf (λ k. not (isVoice k)) p i
 
 -- how many variables stand in front of pattern k
 unfoldable pub varsBefore : List ℕ → ℕ → ℕ
@@ -52,8 +50,3 @@ outlineAt table k = record {
 -- a table with the outline of each pattern
 abbrev pub Tabled : List ℕ → List ℕ → Type 0
 Tabled p table = (k : ℕ) → k < sizes p .patterns → Entry p (outlineAt table k)
-
--- a plan has a SAME TITLE row
-unfoldable pub hasSamepara : List ℕ → Bool
-unfolding firstFrom
-hasSamepara p = ltb (firstFrom (λ i. eqb (kindAt p i) 4) 0 (rowCount p)) (rowCount p)

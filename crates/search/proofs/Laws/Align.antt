@@ -23,7 +23,7 @@ use Rattle.volume.specs.Layout.{word}
 use Rattle.fulltext.specs.Positions.{limit}
 use Rattle.matcher.specs.Cursors.{seekFrom, Stretch}
 use Rattle.matcher.specs.Settling.{Among}
-use Rattle.search.specs.Walk.{Has, Moved, Aligned, turned}
+use Rattle.search.specs.Inner.Walk.{Has, Moved, Aligned, turned}
 use Rattle.matcher.proofs.Laws.Cursors.{seek-ge, seek-le, seek-at, seek-below}
 
 -- two numbers are the same or not

@@ -32,6 +32,7 @@ use Rattle.fulltext.specs.Positions.{limit, listOf, positionsIn, countIn}
 use Rattle.fulltext.specs.Matches.{holds, withEach, tuples, matches, leastIn}
 use Rattle.fulltext.specs.Documents.{found, matching, rowIn, postingsIn, Work, workOf, docsIn, rowsOfDocs, work}
 use Rattle.search.specs.Answers.{Page}
+use Rattle.search.specs.Pages.{portion}
 use Rattle.search.specs.Listing.{pageBy, pageOf, rowsFrom, listBy, listAnswer, listOut}
 use Rattle.search.specs.Cases.{sample, untouched, Question, zeroBytes, checkSample, list, Result, checked, listed, told, Case, table}
 use Rattle.search.specs.Demands.{Cases}
@@ -51,7 +52,7 @@ abbrev answerBy : Said Sizes → Work → List ℕ → ℕ → ℕ → Said Page
 answerBy (refused n q) w remain start room = refused n q
 answerBy (answered s) w remain start room =
     let m = room / w .width in
-    cond (ltb 65535 start) (refused 15 0) (cond (ltb room (w .width)) (refused 16 0) (answered (pageBy w start m (length remain) (first (drop m remain)))))
+    cond (ltb 65535 start) (refused 15 0) (cond (ltb room (w .width)) (refused 16 0) (answered (pageBy w start (portion m remain))))
 
 answer-by : (s : Said Sizes) (w : Work) (start room : ℕ) → listBy s w start room ≡ answerBy s w (docsIn w start limit) start room
 unfolding pageOf

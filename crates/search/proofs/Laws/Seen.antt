@@ -36,7 +36,7 @@ use Rattle.matcher.proofs.Laws.Volume.{list-stretch}
 use Rattle.plan.proofs.Laws.Outline.{vars-within}
 use Rattle.search.specs.declared.walk.Seen.{Seen}
 use Rattle.plan.specs.Inner.Stack.{Flags}
-use Rattle.search.specs.Walk.{Stood, Pending, Brought, LeastDoc, Walks, Walking, Visited}
+use Rattle.search.specs.Inner.Walk.{Stood, Pending, Brought, LeastDoc, Walks, Walking, Visited}
 use Rattle.search.proofs.Laws.Tally.{var-there}
 
 -- the words of a row, by the plan's sizes

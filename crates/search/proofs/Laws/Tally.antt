@@ -29,7 +29,7 @@ use Rattle.fulltext.specs.Positions.{limit, listOf, countIn}
 use Rattle.fulltext.specs.Documents.{postingsIn}
 use Rattle.matcher.specs.Cursors.{seekFrom, Stretch, listEnd}
 use Rattle.matcher.specs.Tables.{varAt, Cursors}
-use Rattle.search.specs.Walk.{LeastDoc}
+use Rattle.search.specs.Inner.Walk.{LeastDoc}
 use Rattle.matcher.proofs.Laws.Cursors.{seek-ge, seek-le, seek-below, stretch-within, galloped-end}
 use Rattle.fulltext.proofs.Laws.Counts.{count-index}
 use Rattle.matcher.proofs.Laws.Volume.{list-is, list-stretch}

@@ -34,7 +34,7 @@ use Rattle.fulltext.proofs.Laws.Counts.{work-even, work-wide}
 use Rattle.search.specs.declared.walk.Seen.{Seen}
 use Rattle.search.specs.Answers.{done, more}
 use Rattle.search.specs.Search.{Kept}
-use Rattle.search.specs.Walk.{Walks, Walking, Visited}
+use Rattle.search.specs.Inner.Walk.{Walks, Walking, Visited}
 use Rattle.search.proofs.Laws.Loop.{Progress, begins, same-size, room-rows, over, wrote}
 use Rattle.search.proofs.Laws.Listing.{stops-kept, ends-kept}
 use Rattle.search.proofs.Laws.Seen.{work-words}

@@ -25,7 +25,7 @@ use Rattle.matcher.specs.Cursors.{Stretch, Stands}
 use Rattle.plan.specs.Inner.Outline.{varsBefore, Entry, outlineAt}
 use Rattle.matcher.specs.Tables.{varAt}
 use Rattle.matcher.specs.Settling.{Among, Candidate}
-use Rattle.search.specs.Walk.{Has, Aligned, Stood, Pending, Walks}
+use Rattle.search.specs.Inner.Walk.{Has, Aligned, Stood, Pending, Walks}
 use Rattle.fulltext.proofs.Laws.Positions.{lists-rise}
 use Rattle.fulltext.proofs.Laws.Least.{fits-iff, found-iff}
 use Rattle.matcher.proofs.Laws.Volume.{list-stretch, held}

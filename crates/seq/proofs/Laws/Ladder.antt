@@ -1,7 +1,6 @@
 -- A ladder of tests answers the first refusal that applies, stage by stage. No contract cites this file.
---     Clear          no refusal of an earlier stage applies
---     clear-next     nor one of this stage
---     first-of       the first refusal, by what applies in its own stage
+--     ClearOf, clear-next-of, first-by    no refusal of an earlier stage applies; nor one of this stage; the first, by what applies in its own stage
+--     Clear, clear-next, first-of         the same where each number has one stage
 --     alone          the same where a stage has one number
 --     single         a rung of such a stage, at place 0
 --     searched       a rung of such a stage, at the lowest place
@@ -9,25 +8,50 @@
 -- Assumes nothing.
 use Prim.Native.Nat.{ℕ, suc, _<_, _≤_}
 use native.Mathlib.Omega.{arith}
-use mathlib.Core.Path.{_≡_, refl}
+use mathlib.Core.Path.{_≡_, refl, sym, subst}
 use mathlib.Core.Bool.{Bool, true, false, cond, true≢false}
 use mathlib.Core.Logic.{_⊎_, ⊎-elim, _≢_}
-use Rattle.seq.specs.Refusals.{Said, refused, First}
+use Rattle.seq.specs.Refusals.{Said, refused, FirstOf, Staged, First}
 use Rattle.seq.proofs.Laws.Refusals.{Sound, rung}
 use Rattle.seq.proofs.Laws.Decides.{Decides}
 
+module _ (Applies : ℕ → ℕ → ℕ → Type 0) where
+  -- no refusal of a stage below k applies
+  abbrev pub ClearOf : ℕ → Type 0
+  ClearOf k = (s m q : ℕ) → Applies s m q → k ≤ s
+
+  -- nor one of stage k
+  pub clear-next-of : (k : ℕ) → ClearOf k → ((m q : ℕ) → Applies k m q → ⊥) → ClearOf (suc k)
+  clear-next-of k c none s m q a =
+      let h = c s m q a in
+      let n : s ≢ k = λ e. none m q (subst (λ (x : ℕ). Applies x m q) e a) in
+      omega arith
+
+  -- the first refusal, by what applies in its own stage
+  pub first-by : (s n p : ℕ) → ClearOf s → Applies s n p → ((m q : ℕ) → Applies s m q → ((q < p) ⊎ ((q ≡ p) × (m < n))) → ⊥) → FirstOf Applies n p
+  first-by s n p c a none = record {
+    stage = s;
+    applies = a;
+    nothing-before = λ t m q x b.
+        ⊎-elim (λ (h : t < s). let l = c t m q x in omega arith) (λ e. none m q (subst (λ (y : ℕ). Applies y m q) (e .0) x) (e .1)) b;
+  }
+
+-- where each number has one stage
 module _ (stage : ℕ → ℕ) (Applies : ℕ → ℕ → Type 0) where
   -- no refusal of a stage below k applies
   abbrev pub Clear : ℕ → Type 0
   Clear k = (m q : ℕ) → Applies m q → k ≤ stage m
 
+  clear-staged : (k : ℕ) → Clear k → ClearOf (Staged stage Applies) k
+  clear-staged k c s m q a = let h = c m q (a .1) in let e : s ≡ stage m = a .0 in omega arith
+
   -- nor one of stage k
   pub clear-next : (k : ℕ) → Clear k → ((m q : ℕ) → Applies m q → stage m ≡ k → ⊥) → Clear (suc k)
-  clear-next k c none m q a = let h = c m q a in let n : stage m ≢ k = none m q a in omega arith
+  clear-next k c none m q a = clear-next-of (Staged stage Applies) k (clear-staged k c) (λ n p x. none n p (x .1) (sym (x .0))) (stage m) m q (refl, a)
 
   -- the first refusal, by what applies in its own stage
   pub first-of : (n p : ℕ) → Clear (stage n) → Applies n p → ((m q : ℕ) → Applies m q → stage m ≡ stage n → ((q < p) ⊎ ((q ≡ p) × (m < n))) → ⊥) → First stage Applies n p
-  first-of n p c a none = record { applies = a; nothing-before = λ m q x b. ⊎-elim (λ (h : stage m < stage n). let l = c m q x in omega arith) (λ e. none m q x (e .0) (e .1)) b }
+  first-of n p c a none = first-by (Staged stage Applies) (stage n) n p (clear-staged (stage n) c) (refl, a) (λ m q x. none m q (x .1) (sym (x .0)))
 
   -- the first refusal, where its stage has one number, n, which applies at the places of P
   pub alone : (n p : ℕ) (P : ℕ → Type 0) → Clear (stage n) → ((m q : ℕ) → Applies m q → stage m ≡ stage n → (m ≡ n) × P q) → Applies n p → ((q : ℕ) → P q → q < p → ⊥) → First stage Applies n p

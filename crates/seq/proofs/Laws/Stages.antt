@@ -7,13 +7,13 @@
 -- Assumes nothing.
 use Prim.Native.Nat.{ℕ, suc, _<_, _≤_}
 use native.Mathlib.Omega.{arith}
-use mathlib.Core.Path.{_≡_, refl, ap}
+use mathlib.Core.Path.{_≡_, refl, ap, _∙_}
 use mathlib.Core.Bool.{Bool, true, false, cond, true≢false}
 use mathlib.Core.Logic.{_⊎_, inl, inr, ⊎-elim}
 use mathlib.Core.List.{List, [], _∷_, _++_}
 use lib.ListN.{length}
 use Rattle.seq.specs.Lists.{elem}
-use Rattle.seq.specs.Refusals.{Said, refused, stageIn, Before, First}
+use Rattle.seq.specs.Refusals.{Said, refused, stageIn, Precedes, Staged, First}
 use Rattle.seq.proofs.Laws.Refusals.{Sound, rung}
 use Rattle.seq.proofs.Laws.Ladder.{Clear}
 
@@ -40,24 +40,26 @@ module _ (gs hs : List (List ℕ)) (A B : ℕ → ℕ → Type 0) (o : Over gs h
 
   -- the first refusal of A is the first of B
   over-first : (n p : ℕ) → First (stageIn gs) A n p → First (stageIn (gs ++ hs)) B n p
-  over-first n p f = record { applies = o .joins n p (f .applies); nothing-before = before }
+  over-first n p f = record { stage = stageIn (gs ++ hs) n; applies = (refl, o .joins n p (f .applies .1)); nothing-before = before }
     where
       here : stageIn (gs ++ hs) n ≡ stageIn gs n
-      here = same n p (f .applies)
+      here = same n p (f .applies .1)
 
-      late : (m q : ℕ) → length gs ≤ stageIn (gs ++ hs) m → Before (stageIn (gs ++ hs)) m q n p → ⊥
-      late m q h b =
+      late : (s m q : ℕ) → s ≡ stageIn (gs ++ hs) m → length gs ≤ stageIn (gs ++ hs) m → Precedes s m q (stageIn (gs ++ hs) n) n p → ⊥
+      late s m q d h b =
           let e = here in
-          let l = o .early n p (f .applies) in
-          ⊎-elim (λ (x : stageIn (gs ++ hs) m < stageIn (gs ++ hs) n). omega arith) (λ x. let y : stageIn (gs ++ hs) m ≡ stageIn (gs ++ hs) n = x .0 in omega arith) b
+          let l = o .early n p (f .applies .1) in
+          ⊎-elim (λ (x : s < stageIn (gs ++ hs) n). omega arith) (λ x. let y : s ≡ stageIn (gs ++ hs) n = x .0 in omega arith) b
 
-      moved : (m q : ℕ) → stageIn (gs ++ hs) m ≡ stageIn gs m → Before (stageIn (gs ++ hs)) m q n p → Before (stageIn gs) m q n p
-      moved m q e b =
+      moved : (s m q : ℕ) → s ≡ stageIn gs m → Precedes s m q (stageIn (gs ++ hs) n) n p → Precedes (stageIn gs m) m q (f .stage) n p
+      moved s m q e b =
           let d = here in
-          ⊎-elim (λ (x : stageIn (gs ++ hs) m < stageIn (gs ++ hs) n). inl (omega arith)) (λ x. let y : stageIn (gs ++ hs) m ≡ stageIn (gs ++ hs) n = x .0 in inr (omega arith, x .1)) b
+          let at : f .stage ≡ stageIn gs n = f .applies .0 in
+          ⊎-elim (λ (x : s < stageIn (gs ++ hs) n). inl (omega arith)) (λ x. let y : s ≡ stageIn (gs ++ hs) n = x .0 in inr (omega arith, x .1)) b
 
-      before : (m q : ℕ) → B m q → Before (stageIn (gs ++ hs)) m q n p → ⊥
-      before m q x b = ⊎-elim (λ a. f .nothing-before m q a (moved m q (same m q a) b)) (λ h. late m q h b) (o .splits m q x)
+      before : (s m q : ℕ) → Staged (stageIn (gs ++ hs)) B s m q → Precedes s m q (stageIn (gs ++ hs) n) n p → ⊥
+      before s m q x b =
+          ⊎-elim (λ a. f .nothing-before (stageIn gs m) m q (refl, a) (moved s m q (x .0 ∙ same m q a) b)) (λ h. late s m q (x .0) h b) (o .splits m q (x .1))
 
   -- where no refusal of A applies, those of B have later stages
   pub over-clear : ((m q : ℕ) → A m q → ⊥) → Clear (stageIn (gs ++ hs)) B (length gs)

@@ -16,23 +16,20 @@ abbrev μ-loop : tie.MeasureT-loop
 μ-loop plan patterns table₀ vars₀ k₀ table vars k = patterns - k
 
 -- the rows of a pattern, as a turn finds them
-turn : (c : tie.After-behind-voices Inv-loop μ-loop) → Spanned (now (c .before .before .before .before .before .before .before .args .plan)) (c .before .before .before .before .loop .k) (c .before .before .span-at .result .start) (c .before .before .span-at .result .len) (c .behind-voices .result)
+turn : (c : tie.After-first-of Inv-loop μ-loop) → Spanned (now (c .before .before .before .before .before .before .before .args .plan)) (c .before .before .before .before .loop .k) (c .before .before .span-at .result .start) (c .before .before .span-at .result .len) (c .first-of .result)
 turn c =
     let l = c .before .before .before .before .loop in
     let start = c .before .before .before .before .before .before .before in
-    spanned (start .pre .0 .0) (now (start .args .plan)) (start .pre .0 .1) (l .k) (omega arith) (c .before .before .span-at .result) (c .behind-voices .result) (c .before .before .span-at .ensures) (c .behind-voices .ensures)
+    spanned (start .pre .0 .0) (now (start .args .plan)) (start .pre .0 .1) (l .k) (omega arith) (c .before .before .span-at .result) (c .first-of .result) (c .before .before .span-at .ensures) (c .first-of .ensures)
 
 loop-holds : tie.Need-loop-holds Inv-loop μ-loop
 loop-holds c = laid-first (now (c .before .before .args .plan)) (now (c .before .before .args .table))
 
 span-at-requires : tie.Need-span-at-requires Inv-loop μ-loop
-span-at-requires c κs =
-    let start = c .before .before .before .before in
-    let g = given _ _ (start .pre .0 .1) in
-    (omega arith, omega arith)
+span-at-requires c κs = (c .before .before .before .before .pre .0, omega arith)
 
-behind-voices-requires : tie.Need-behind-voices-requires Inv-loop μ-loop
-behind-voices-requires c κs = omega arith
+first-of-requires : tie.Need-first-of-requires Inv-loop μ-loop
+first-of-requires c κs = c .before .before .before .before .before .before .pre .0
 
 sub-count : tie.Need-sub-count Inv-loop μ-loop
 sub-count c =
@@ -105,7 +102,7 @@ loop-again c =
     let l = c .before .before .before .before .before .loop in
     let start = c .before .before .before .before .before .before .before .before in
     let s = c .before .before .before .span-at .result in
-    laid-next (start .pre .0 .0) (now (start .args .plan)) (start .pre .0 .1) (length (now (start .args .table))) (l .table) (l .vars) (l .k) (l .inv) (omega arith) (omega arith) (s .start) (s .len) (c .before .behind-voices .result) (turn (c .before))
+    laid-next (start .pre .0 .0) (now (start .args .plan)) (start .pre .0 .1) (length (now (start .args .table))) (l .table) (l .vars) (l .k) (l .inv) (omega arith) (omega arith) (s .start) (s .len) (c .before .first-of .result) (turn (c .before))
 
 same-length : tie.Need-same-length Inv-loop μ-loop
 same-length c = c .before .loop .inv .same
@@ -124,7 +121,7 @@ lay-out-spec =
     μ-loop
     loop-holds
     span-at-requires
-    behind-voices-requires
+    first-of-requires
     sub-count
     mul-at
     mul-table

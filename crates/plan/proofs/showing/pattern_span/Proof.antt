@@ -3,10 +3,9 @@ use borrow.Author.Needs.{needs}
 use native.Mathlib.Omega.{arith}
 use mathlib.Core.Path.{sym, ap, _∙_}
 use denote.Ref.{now}
-use Rattle.volume.specs.Layout.{listCount}
+use Rattle.seq.specs.Refusals.{answered}
 use Rattle.plan.specs.Answers.{Sizes, saidChecked}
-use Rattle.plan.proofs.Laws.Check.{verdict-sizes, verdict-passed}
-use Rattle.plan.proofs.Laws.Given.{most-patterns}
+use Rattle.plan.proofs.Laws.Check.{verdict-sizes}
 use Rattle.plan.proofs.Laws.Shown.{span-refused, span-missing, span-there}
 use Rattle.plan.proofs.showing.pattern_span.Statement.{statement}
 use Rattle.plan.proofs.showing.pattern_span.Tie as tie
@@ -32,12 +31,8 @@ span-at-requires c κs =
     let v = now (a .volume) in
     let p = now (a .plan) in
     let e = sym (sym (ap saidChecked (c .before .before .checked .given .1)) ∙ c .before .before .before .before .check .ensures) in
-    let ok = verdict-passed v p _ e in
-    let most = most-patterns (listCount v) p ok in
     let same = ap (λ (s : Sizes). s .patterns) (verdict-sizes v p _ e) in
-    let whole = ok .whole in
-    let rows = ok .most-rows in
-    (omega arith, omega arith)
+    ((v, e ∙ ap answered (verdict-sizes v p _ e)), omega arith)
 
 returns-2 : tie.Need-returns-2
 returns-2 c =

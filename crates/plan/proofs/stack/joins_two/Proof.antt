@@ -1,16 +1,25 @@
--- `stack::joins_two` meets its contract, return by return. Assumes nothing.
-use borrow.Author.Tests.{eq-eqb, ne-eqb}
+-- `stack::joins_two` meets its contract, arm by arm. Assumes nothing.
+use borrow.Author.Needs.{needs}
 use Rattle.plan.proofs.stack.joins_two.Statement.{statement}
 use Rattle.plan.proofs.stack.joins_two.Tie as tie
 
+enum-told : tie.Need-enum-told
+enum-told c = search needs
+
+enum-told-2 : tie.Need-enum-told-2
+enum-told-2 c = search needs
+
+enum-told-3 : tie.Need-enum-told-3
+enum-told-3 c = search needs
+
 returns : tie.Need-returns
-returns c = simp (eq-eqb _ _ (c .if1 .taken))
+returns c = rw (c .enum-told .given .1)
 
 returns-2 : tie.Need-returns-2
-returns-2 c = simp (ne-eqb _ _ (c .before .if1 .left), eq-eqb _ _ (c .if2 .taken))
+returns-2 c = rw (c .enum-told2 .given .1)
 
 returns-3 : tie.Need-returns-3
-returns-3 c = simp (ne-eqb _ _ (c .before .if1 .left), ne-eqb _ _ (c .if2 .left))
+returns-3 c = rw (c .enum-told3 .given .1)
 
 pub joins-two-spec : {M : Type 1} → statement M
-joins-two-spec = tie.close (tie.spec returns returns-2 returns-3)
+joins-two-spec = tie.close (tie.spec enum-told enum-told-2 enum-told-3 returns returns-2 returns-3)

@@ -1,11 +1,14 @@
 -- Of the cursors the last `standing` in turn are in document d, and no document before it has a posting of each (`Leaping`). A leap raises d, or `standing` in the same d.
 use Rattle.search.proofs.align.align.Statement.{statement}
 use Rattle.search.proofs.align.align.Tie as tie
-use Prim.Native.Nat.{_+_, _-_, _*_, _/_}
+use Prim.Native.Nat.{_+_, _-_, _*_, _≤_}
 use native.Mathlib.Omega.{arith}
 use mathlib.Core.Path.{_≡_, ap, _∙_}
 use lib.ListN.{getD, length-set}
 use denote.Ref.{now}
+use Rattle.volume.specs.declared.posting.Posting.{Posting}
+use Rattle.volume.specs.Posting.{docOf}
+use Rattle.volume.specs.Layout.{word}
 use Rattle.matcher.specs.declared.cursor.Cursor.{Cursor}
 use Rattle.matcher.specs.Cursors.{seekFrom}
 use Rattle.search.proofs.Laws.Align.{Leaping, leap-first, leap-stretch, leap-out, leap-here, leap-on, leap-done}
@@ -29,6 +32,14 @@ at-is : (c : tie.After-seek Inv-loop μ-loop)
     c .seek .result .at ≡ seekFrom (now (start .args .volume)) (turn .loop .d * 65536) (getD (turn .loop .ats) (start .args .first + turn .loop .i) 0) (getD (now (start .args .ends)) (start .args .first + turn .loop .i) 0)
 at-is c = ap (λ (r : Cursor). r .at) (c .seek .ensures .0)
 
+-- the document of the posting there
+here-is : (c : tie.After-doc Inv-loop μ-loop) → let sought = c .before .before .before in let start = start-of (turn-of sought) in
+    c .doc .result ≡ docOf (word (now (start .args .volume)) (sought .seek .result .at))
+here-is c = c .doc .ensures ∙ ap (λ (r : Posting). docOf (r .bits)) (c .before .posting-at .ensures)
+
+here-small : (c : tie.After-doc Inv-loop μ-loop) → c .doc .result ≤ 65535
+here-small c = let o = c .before .posting-at .ok in let e = c .doc .ensures in omega arith
+
 loop-holds : tie.Need-loop-holds Inv-loop μ-loop
 loop-holds c =
     let start = c .before .before .before in
@@ -43,11 +54,11 @@ mul-end c = let l = c .before .loop .inv .next in omega arith
 shared-slice-read-end : tie.Need-shared-slice-read-end Inv-loop μ-loop
 shared-slice-read-end c = let l = c .before .before .loop .inv .next in omega arith
 
-mul-t17 : tie.Need-mul-t17 Inv-loop μ-loop
-mul-t17 c = let l = c .before .before .loop .inv .next in omega arith
+mul-t18 : tie.Need-mul-t18 Inv-loop μ-loop
+mul-t18 c = let l = c .before .before .loop .inv .next in omega arith
 
-slice-read-t19 : tie.Need-slice-read-t19 Inv-loop μ-loop
-slice-read-t19 c =
+slice-read-t20 : tie.Need-slice-read-t20 Inv-loop μ-loop
+slice-read-t20 c =
     let turn = c .before .before .before in
     let l = turn .loop .inv .same-length in let x = turn .loop .inv .next in omega arith
 
@@ -79,8 +90,8 @@ returns c =
     let start = start-of turn in
     let s = turn .loop .inv .same-length in leap-out _ _ _ _ _ _ (start .pre .1 .1 .1 .1 .1) (turn .loop .d) (turn .loop .i) (turn .loop .standing) (turn .loop .ats) (turn .loop .inv) (sought .before .before .before .loop-test .taken) (omega arith) (c .before .seek .result .at) (at-is (c .before)) (c .if1 .taken)
 
-word-at-requires : tie.Need-word-at-requires Inv-loop μ-loop
-word-at-requires c κs =
+posting-at-requires : tie.Need-posting-at-requires Inv-loop μ-loop
+posting-at-requires c κs =
     let sought = c .before in
     let turn = turn-of sought in
     let start = start-of turn in
@@ -89,9 +100,12 @@ word-at-requires c κs =
     let i = c .if1 .left in
     omega arith
 
+doc-requires : tie.Need-doc-requires Inv-loop μ-loop
+doc-requires c κs = omega arith
+
 turn-requires : tie.Need-turn-requires Inv-loop μ-loop
 turn-requires c κs =
-    let turn = turn-of (c .before .before) in
+    let turn = turn-of (c .before .before .before) in
     turn .loop .inv .next
 
 add-standing : tie.Need-add-standing Inv-loop μ-loop
@@ -99,36 +113,39 @@ add-standing c = omega arith
 
 loop-less : tie.Need-loop-less Inv-loop μ-loop
 loop-less c =
-    let sought = c .before .before .before .before in
+    let sought = c .before .before .before .before .before in
     let t = sought .before .before .before .loop-test .taken in omega arith
 
 loop-again : tie.Need-loop-again Inv-loop μ-loop
 loop-again c =
-    let sought = c .before .before .before .before in
+    let sought = c .before .before .before .before .before in
     let turn = turn-of sought in
     let start = start-of turn in
     let s = turn .loop .inv .same-length in
-    let w = c .before .before .word-at .ensures in
-    rw (c .before .turn .ensures) (leap-here _ _ _ _ _ _ (start .pre .1 .1 .1 .1 .1) (turn .loop .d) (turn .loop .i) (turn .loop .standing) (turn .loop .ats) (turn .loop .inv) (sought .before .before .before .loop-test .taken) (omega arith) (sought .seek .result .at) (at-is (sought)) (c .before .before .before .if1 .left) (omega arith))
+    let w = here-is (c .before .before) in
+    let small = here-small (c .before .before) in
+    rw (c .before .turn .ensures) (leap-here _ _ _ _ _ _ (start .pre .1 .1 .1 .1 .1) (turn .loop .d) (turn .loop .i) (turn .loop .standing) (turn .loop .ats) (turn .loop .inv) (sought .before .before .before .loop-test .taken) (omega arith) (sought .seek .result .at) (at-is (sought)) (c .before .before .before .before .if1 .left) (omega arith))
 
 loop-less-2 : tie.Need-loop-less-2 Inv-loop μ-loop
 loop-less-2 c =
-    let sought = c .before .before .before .before in
+    let sought = c .before .before .before .before .before in
     let turn = turn-of sought in
     let start = start-of turn in
     let s = turn .loop .inv .same-length in
-    let w = c .before .before .word-at .ensures in
-    let k = leap-on _ _ _ _ _ _ (start .pre .1 .1 .1 .1 .1) (turn .loop .d) (turn .loop .i) (turn .loop .standing) (turn .loop .ats) (turn .loop .inv) (sought .before .before .before .loop-test .taken) (omega arith) (sought .seek .result .at) (at-is (sought)) (c .before .before .word-at .result / 65536) (c .before .before .before .if1 .left) (omega arith) (c .if2 .left) (omega arith) .0 in
+    let w = here-is (c .before .before) in
+    let small = here-small (c .before .before) in
+    let k = leap-on _ _ _ _ _ _ (start .pre .1 .1 .1 .1 .1) (turn .loop .d) (turn .loop .i) (turn .loop .standing) (turn .loop .ats) (turn .loop .inv) (sought .before .before .before .loop-test .taken) (omega arith) (sought .seek .result .at) (at-is (sought)) (c .before .before .doc .result) (c .before .before .before .before .if1 .left) (omega arith) (c .if2 .left) (omega arith) .0 in
     omega arith
 
 loop-again-2 : tie.Need-loop-again-2 Inv-loop μ-loop
 loop-again-2 c =
-    let sought = c .before .before .before .before in
+    let sought = c .before .before .before .before .before in
     let turn = turn-of sought in
     let start = start-of turn in
     let s = turn .loop .inv .same-length in
-    let w = c .before .before .word-at .ensures in
-    rw (c .before .turn .ensures) (leap-on _ _ _ _ _ _ (start .pre .1 .1 .1 .1 .1) (turn .loop .d) (turn .loop .i) (turn .loop .standing) (turn .loop .ats) (turn .loop .inv) (sought .before .before .before .loop-test .taken) (omega arith) (sought .seek .result .at) (at-is (sought)) (c .before .before .word-at .result / 65536) (c .before .before .before .if1 .left) (omega arith) (c .if2 .left) (omega arith) .1)
+    let w = here-is (c .before .before) in
+    let small = here-small (c .before .before) in
+    rw (c .before .turn .ensures) (leap-on _ _ _ _ _ _ (start .pre .1 .1 .1 .1 .1) (turn .loop .d) (turn .loop .i) (turn .loop .standing) (turn .loop .ats) (turn .loop .inv) (sought .before .before .before .loop-test .taken) (omega arith) (sought .seek .result .at) (at-is (sought)) (c .before .before .doc .result) (c .before .before .before .before .if1 .left) (omega arith) (c .if2 .left) (omega arith) .1)
 
 same-length-2 : tie.Need-same-length-2 Inv-loop μ-loop
 same-length-2 c = c .before .loop .inv .same-length
@@ -146,14 +163,15 @@ align-spec =
     add-x
     mul-end
     shared-slice-read-end
-    mul-t17
-    slice-read-t19
+    mul-t18
+    slice-read-t20
     seek-requires
     mul-ats
     slice-write-ats
     same-length
     returns
-    word-at-requires
+    posting-at-requires
+    doc-requires
     turn-requires
     add-standing
     loop-less

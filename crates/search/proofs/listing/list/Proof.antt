@@ -2,11 +2,13 @@
 use borrow.Author.Needs.{needs}
 use Rattle.search.proofs.listing.list.Statement.{statement}
 use Rattle.search.proofs.listing.list.Tie as tie
+use Prim.Native.Nat.{_+_}
 use native.Mathlib.Omega.{arith}
-use borrow.Author.Needs.{needs}
-use mathlib.Core.Path.{sym, ap, _∙_}
+use mathlib.Core.Path.{_≡_, sym, ap, _∙_}
 use denote.Ref.{now}
+use Rattle.seq.specs.Refusals.{answered}
 use Rattle.plan.specs.Answers.{Sizes, saidChecked}
+use Rattle.plan.specs.Check.{verdict, sizes}
 use Rattle.plan.proofs.Laws.Check.{verdict-sizes}
 use Rattle.search.proofs.Laws.Listing.{refused-kept, start-kept, short-kept}
 use Rattle.search.proofs.Laws.Seen.{work-words}
@@ -23,25 +25,19 @@ enum-known-checked-2 c = search needs
 returns : tie.Need-returns
 returns c = start-kept _ _ _ _ _ (sym (c .before .before .before .before .check .ensures) ∙ ap saidChecked (c .before .before .checked2 .given .1)) (c .if1 .taken)
 
-cast-if2 : tie.Need-cast-if2
-cast-if2 c = search needs
-
-add-if2 : tie.Need-add-if2
-add-if2 c = search needs
-
-cast-if2-2 : tie.Need-cast-if2-2
-cast-if2-2 c = search needs
-
-add-if2-2 : tie.Need-add-if2-2
-add-if2-2 c = search needs
+row-words-requires : tie.Need-row-words-requires
+row-words-requires c κs = search needs
 
 returns-2 : tie.Need-returns-2
-returns-2 c = let e = sym (c .before .before .before .before .before .check .ensures) ∙ ap saidChecked (c .before .before .before .checked2 .given .1) in
-    let q = verdict-sizes (now (c .before .before .before .before .before .before .before .before .before .args .volume)) (now (c .before .before .before .before .before .before .before .before .before .args .plan)) _ e in
+returns-2 c =
+    let start = c .before .before .before .before .before .before .before .before .before .before in
+    let e = sym (c .before .before .before .before .before .before .check .ensures) ∙ ap saidChecked (c .before .before .before .before .checked2 .given .1) in
+    let q = verdict-sizes (now (start .args .volume)) (now (start .args .plan)) _ e in
     let f = ap (λ (s : Sizes). s .patterns) q in
     let g = ap (λ (s : Sizes). s .vars) q in
-    let w = work-words (now (c .before .before .before .before .before .before .before .before .before .args .volume)) (now (c .before .before .before .before .before .before .before .before .before .args .plan)) in
-    short-kept _ _ _ (now (c .before .before .before .before .before .before .before .before .before .args .out)) _ e (c .before .if1 .left) (omega arith)
+    let w = work-words (now (start .args .volume)) (now (start .args .plan)) in
+    let r = c .before .row-words .ensures in
+    short-kept _ _ _ (now (start .args .out)) _ e (c .before .before .if1 .left) (omega arith)
 
 cast-list-from : tie.Need-cast-list-from
 cast-list-from c = search needs
@@ -50,9 +46,12 @@ cast-list-from-2 : tie.Need-cast-list-from-2
 cast-list-from-2 c = search needs
 
 list-from-requires : tie.Need-list-from-requires
-list-from-requires c κs = let e = sym (c .before .before .before .before .before .before .check .ensures) ∙ ap saidChecked (c .before .before .before .before .checked2 .given .1) in
-    let q = verdict-sizes (now (c .before .before .before .before .before .before .before .before .before .before .args .volume)) (now (c .before .before .before .before .before .before .before .before .before .before .args .plan)) _ e in
-    (rw q at e, (ap (λ (s : Sizes). s .patterns) q, (ap (λ (s : Sizes). s .vars) q, (c .before .before .if1 .left, c .before .if2 .left))))
+list-from-requires c κs =
+    let start = c .before .before .before .before .before .before .before .before .before .before .before in
+    let e = sym (c .before .before .before .before .before .before .before .check .ensures) ∙ ap saidChecked (c .before .before .before .before .before .checked2 .given .1) in
+    let q = verdict-sizes (now (start .args .volume)) (now (start .args .plan)) _ e in
+    let r = c .before .before .row-words .ensures in
+    (rw q at e, (ap (λ (s : Sizes). s .patterns) q, (ap (λ (s : Sizes). s .vars) q, (c .before .before .before .if1 .left, omega arith))))
 
 returns-3 : tie.Need-returns-3
 returns-3 c = refused-kept _ _ _ _ _ _ (sym (c .before .before .before .check .ensures) ∙ ap saidChecked (c .before .checked .given .1))
@@ -71,10 +70,7 @@ list-spec =
     enum-known-checked
     enum-known-checked-2
     returns
-    cast-if2
-    add-if2
-    cast-if2-2
-    add-if2-2
+    row-words-requires
     returns-2
     cast-list-from
     cast-list-from-2

@@ -18,14 +18,17 @@ use Rattle.search.proofs.Laws.Visits.{Visiting, visiting-first, visitin
 
 abbrev Inv-loop : tie.InvT-loop
 Inv-loop volume plan table start firsts ends ats₀ out₀ patterns width room paras starts₀ docs₀ row₀ rows₀ from₀ ats out starts docs row rows from =
-    Visiting volume plan ends start out₀ ats (take patterns docs) out from rows starts × ((length docs ≡ 8) × ((length row ≡ 64) × (length ats ≡ length ats₀)))
+    Visiting volume plan ends start out₀ ats (take patterns docs) out from rows starts × ((length docs ≡ 8) × ((length row ≡ 59) × (length ats ≡ length ats₀)))
 
 abbrev μ-loop : tie.MeasureT-loop
 μ-loop volume plan table start firsts ends ats₀ out₀ patterns width room paras starts₀ docs₀ row₀ rows₀ from₀ ats out starts docs row rows from = 65537 - from
 
 -- the places that the answers speak of, each from the one behind it
 abbrev start-of : tie.At-loop Inv-loop μ-loop → tie.Start Inv-loop μ-loop
-start-of c = c .before .before .before .before .before .before .before .before .before .before
+start-of c = c .before .before .before .before .before .before .before .before .before .before .before
+
+abbrev words-of : tie.At-loop Inv-loop μ-loop → tie.After-row-words Inv-loop μ-loop
+words-of c = c .before .before .before
 
 abbrev turn-of : tie.After-visit Inv-loop μ-loop → tie.At-loop Inv-loop μ-loop
 turn-of c = c .before .before .before .before
@@ -40,8 +43,9 @@ found-of c = c .before .before .before
 many : (c : tie.Start Inv-loop μ-loop) → length (now (c .args .table)) / 4 ≡ sizes (now (c .args .plan)) .patterns
 many c = let t = c .pre .1 .0 in omega arith
 
-wide : (c : tie.Start Inv-loop μ-loop) → 1 + length (now (c .args .table)) / 4 + length (now (c .args .firsts)) ≡ 1 + sizes (now (c .args .plan)) .patterns + sizes (now (c .args .plan)) .vars
-wide c = let t = c .pre .1 .0 in let f = c .pre .1 .1 .0 in omega arith
+wide : (c : tie.After-row-words Inv-loop μ-loop) → let start = c .before .before .before .before .before .before .before .before in
+    c .row-words .result ≡ 1 + sizes (now (start .args .plan)) .patterns + sizes (now (start .args .plan)) .vars
+wide c = let start = c .before .before .before .before .before .before .before .before in let e = c .row-words .ensures in let m = many start in let f = start .pre .1 .1 .0 in omega arith
 
 few : (c : tie.Start Inv-loop μ-loop) → (sizes (now (c .args .plan)) .patterns ≤ 8) × (1 + sizes (now (c .args .plan)) .patterns + sizes (now (c .args .plan)) .vars ≤ 59)
 few c = visit-few _ _ _ _ (c .pre .0)
@@ -60,30 +64,33 @@ docs-size : (c : tie.After-visit Inv-loop μ-loop) → let turn = turn-of c in l
     length (c .visit .last .1 .1 .1 .1 .1 .1 .0) ≡ length (take (length (now (start .args .table)) / 4) (turn .loop .docs))
 docs-size c = c .visit .kept .1 .1 .1 .1 .1 .1 .0
 
-row-size : (c : tie.After-visit Inv-loop μ-loop) → length (c .visit .last .1 .1 .1 .1 .1 .1 .1 .0) ≡ 64
+row-size : (c : tie.After-visit Inv-loop μ-loop) → length (c .visit .last .1 .1 .1 .1 .1 .1 .1 .0) ≡ 59
 row-size c = c .visit .kept .1 .1 .1 .1 .1 .1 .1 .0 ∙ turn-of c .loop .inv .1 .1 .0
 
 ats-size : (c : tie.After-visit Inv-loop μ-loop) → length (c .visit .last .1 .1 .1 .1 .0) ≡ length (now (start-of (turn-of c) .args .ats))
 ats-size c = c .visit .kept .1 .1 .1 .1 .0 ∙ turn-of c .loop .inv .1 .1 .1
 
-add-width : tie.Need-add-width Inv-loop μ-loop
-add-width c = let w = wide (c .before .before .before .before .before .before .before) in let m = few (c .before .before .before .before .before .before .before) in omega arith
+cast-row-words : tie.Need-cast-row-words Inv-loop μ-loop
+cast-row-words c = let m = many (c .before .before .before .before .before .before .before) in let f = few (c .before .before .before .before .before .before .before) .0 in omega arith
 
-add-width-2 : tie.Need-add-width-2 Inv-loop μ-loop
-add-width-2 c = let w = wide (c .before .before .before .before .before .before .before) in let m = few (c .before .before .before .before .before .before .before) in omega arith
+cast-row-words-2 : tie.Need-cast-row-words-2 Inv-loop μ-loop
+cast-row-words-2 c = let e = c .before .before .before .before .before .before .before .pre .1 .1 .0 in let f = few (c .before .before .before .before .before .before .before) .1 in omega arith
+
+row-words-requires : tie.Need-row-words-requires Inv-loop μ-loop
+row-words-requires c κs = omega arith
 
 div-room : tie.Need-div-room Inv-loop μ-loop
-div-room c = omega arith
+div-room c = let w = wide c in omega arith
 
 has-samepara-requires : tie.Need-has-samepara-requires Inv-loop μ-loop
 has-samepara-requires c κs = omega arith
 
 starts-of-requires : tie.Need-starts-of-requires Inv-loop μ-loop
-starts-of-requires c κs = given _ _ (c .before .before .before .before .before .before .before .before .pre .0 .accepted) .volume-accepted
+starts-of-requires c κs = given _ _ (c .before .before .before .before .before .before .before .before .before .pre .0 .accepted) .volume-accepted
 
 loop-holds : tie.Need-loop-holds Inv-loop μ-loop
 loop-holds c =
-    let start = c .before .before .before .before .before .before .before .before .before in
+    let start = c .before .before .before .before .before .before .before .before .before .before in
     let p = start .pre in
     let f = p .1 .1 .0 in
     let low : start .args .start ≤ 65536 = let l = p .1 .1 .1 .0 in omega arith in
@@ -128,8 +135,8 @@ tally-requires c κs =
     let r = p .0 .ends-room in
     (p .0 .accepted, (e, (omega arith, (reached seen .from, (seen .visit .ensures .most, p .1 .1 .1 .1 .0)))))
 
-cast-t32 : tie.Need-cast-t32 Inv-loop μ-loop
-cast-t32 c = let n = visit-rows _ _ _ _ _ _ _ (reached (c .before .before .before .before .before .before)) in omega arith
+cast-t33 : tie.Need-cast-t33 Inv-loop μ-loop
+cast-t33 c = let n = visit-rows _ _ _ _ _ _ _ (reached (c .before .before .before .before .before .before)) in omega arith
 
 same-length : tie.Need-same-length Inv-loop μ-loop
 same-length c = ats-size (c .before .before .before .before .before .before)
@@ -173,8 +180,8 @@ tally-requires-2 c κs =
     let r = p .0 .ends-room in
     (p .0 .accepted, (e, (omega arith, (reached seen .from, (seen .visit .ensures .most, p .1 .1 .1 .1 .0)))))
 
-cast-t33 : tie.Need-cast-t33 Inv-loop μ-loop
-cast-t33 c = let n = visit-rows _ _ _ _ _ _ _ (reached (seen-of (found-of (c .before .before)))) in omega arith
+cast-t34 : tie.Need-cast-t34 Inv-loop μ-loop
+cast-t34 c = let n = visit-rows _ _ _ _ _ _ _ (reached (seen-of (found-of (c .before .before)))) in omega arith
 
 same-length-3 : tie.Need-same-length-3 Inv-loop μ-loop
 same-length-3 c = ats-size (seen-of (found-of (c .before .before)))
@@ -189,9 +196,10 @@ returns-2 : tie.Need-returns-2 Inv-loop μ-loop
 returns-2 c =
     let found = found-of (c .before .before) in
     let seen = seen-of found in
-    let start = start-of (turn-of seen) in
+    let turn = turn-of seen in
+    let start = start-of turn in
     let p = start .pre in
-    visit-more _ _ _ _ (p .0) _ _ (p .1 .1 .1 .0) (p .1 .1 .1 .1 .1 .1) _ _ _ (reached seen) (c .tally2 .result) (c .tally2 .ensures) (inside found) (seen .visit .ensures .truth (inside found) ∙ not-false _ (c .before .before .if2 .left)) _ (wide start) (c .before .if3 .taken)
+    visit-more _ _ _ _ (p .0) _ _ (p .1 .1 .1 .0) (p .1 .1 .1 .1 .1 .1) _ _ _ (reached seen) (c .tally2 .result) (c .tally2 .ensures) (inside found) (seen .visit .ensures .truth (inside found) ∙ not-false _ (c .before .before .if2 .left)) _ (wide (words-of turn)) (c .before .if3 .taken)
 
 slice-aggregate-put-row : tie.Need-slice-aggregate-put-row Inv-loop μ-loop
 slice-aggregate-put-row c = sym (row-size (seen-of (found-of (c .before .before))))
@@ -202,8 +210,8 @@ mul-put-row c =
     let start = start-of turn in
     let m = few start .1 in
     let n = visit-rows _ _ _ _ _ _ _ (turn .loop .inv .0 .progress) in
-    let w = wide start in
-    let s = visit-words (turn .loop .rows) (1 + length (now (start .args .table)) / 4 + length (now (start .args .firsts))) n (omega arith) in
+    let w = wide (words-of turn) in
+    let s = visit-words (turn .loop .rows) (words-of turn .row-words .result) n (omega arith) in
     omega arith
 
 put-row-requires : tie.Need-put-row-requires Inv-loop μ-loop
@@ -212,7 +220,7 @@ put-row-requires c κs =
     let turn = turn-of seen in
     let start = start-of turn in
     let m = few start .1 in
-    let w = wide start in
+    let w = wide (words-of turn) in
     let r = row-size seen in
     (omega arith, visit-room _ _ _ _ _ _ (turn .loop .rows) _ w (turn .loop .inv .0 .progress) (c .before .before .if3 .left))
 
@@ -232,7 +240,7 @@ loop-again-2 c =
     let seen = seen-of found in
     let turn = turn-of seen in
     let start = start-of turn in
-    (visiting-part _ _ _ _ _ _ _ _ _ _ _ _ _ (many start) (visit-put _ _ _ _ _ _ _ _ _ _ (seen .visit .ensures) _ _ (turn .loop .inv .0 .progress) (inside found) (not-false _ (c .before .before .before .before .before .before .if2 .left)) _ (wide start) (c .before .before .before .before .before .if3 .left) _ (c .before .before .put-row .ensures)), (part-length (turn .loop .docs) (seen .visit .last .1 .1 .1 .1 .1 .1 .0) (length (now (start .args .table)) / 4) 8 (docs-size seen) (turn .loop .inv .1 .0), (row-size seen, ats-size seen)))
+    (visiting-part _ _ _ _ _ _ _ _ _ _ _ _ _ (many start) (visit-put _ _ _ _ _ _ _ _ _ _ (seen .visit .ensures) _ _ (turn .loop .inv .0 .progress) (inside found) (not-false _ (c .before .before .before .before .before .before .if2 .left)) _ (wide (words-of turn)) (c .before .before .before .before .before .if3 .left) _ (c .before .before .put-row .ensures)), (part-length (turn .loop .docs) (seen .visit .last .1 .1 .1 .1 .1 .1 .0) (length (now (start .args .table)) / 4) 8 (docs-size seen) (turn .loop .inv .1 .0), (row-size seen, ats-size seen)))
 
 pub list-docs-spec : {M : Type 1} → statement M
 list-docs-spec =
@@ -240,8 +248,9 @@ list-docs-spec =
     (tie.spec
     Inv-loop
     μ-loop
-    add-width
-    add-width-2
+    cast-row-words
+    cast-row-words-2
+    row-words-requires
     div-room
     has-samepara-requires
     starts-of-requires
@@ -251,7 +260,7 @@ list-docs-spec =
     slice-aggregate-visit-2
     visit-requires
     tally-requires
-    cast-t32
+    cast-t33
     same-length
     same-length-2
     returns
@@ -259,7 +268,7 @@ list-docs-spec =
     loop-less
     loop-again
     tally-requires-2
-    cast-t33
+    cast-t34
     same-length-3
     same-length-4
     returns-2

@@ -36,7 +36,7 @@ few c =
 table-size : (c : tie.After-lay-out) → length (c .lay-out .last .1 .1 .0) ≡ 32
 table-size c = c .lay-out .kept .1 .1 .0
 
-firsts-size : (c : tie.After-set-cursors) → length (c .set-cursors .last .1 .1 .1 .1 .1 .0) ≡ 64
+firsts-size : (c : tie.After-set-cursors) → length (c .set-cursors .last .1 .1 .1 .1 .1 .0) ≡ 51
 firsts-size c = c .set-cursors .kept .1 .1 .1 .1 .1 .0
 
 slice-aggregate-lay-out : tie.Need-slice-aggregate-lay-out

@@ -5,7 +5,7 @@ use mathlib.Core.Path.{_≡_}
 use mathlib.Core.Logic.{⊎-elim}
 use lib.ListN.{length}
 use denote.Ref.{now}
-use Rattle.search.specs.Walk.{LeastDoc}
+use Rattle.search.specs.Inner.Walk.{LeastDoc}
 use Rattle.search.proofs.Laws.Tally.{least-first, least-lower, least-same}
 use Rattle.search.proofs.walk.least_of.Statement.{statement}
 use Rattle.search.proofs.walk.least_of.Tie as tie
