@@ -27,7 +27,7 @@ use Rattle.fulltext.specs.Matches.{largest, startsIn}
 use Rattle.fulltext.specs.Inner.Paragraphs.{greatest, paraStart}
 use Rattle.matcher.specs.declared.cursor.Cursor.{Cursor}
 use Rattle.matcher.specs.declared.cursor.Document.{Document}
-use Rattle.matcher.specs.Cursors.{seekFrom, Stretch, sought, listEnd, Stands, AtDocument}
+use Rattle.matcher.specs.Inner.Cursors.{seekFrom, Stretch, sought, listEnd, Stands, AtDocument}
 use Rattle.fulltext.proofs.Laws.Positions.{in-none, in-here, in-later, in-cons, elem-decides, positions-hold}
 use Rattle.fulltext.proofs.Laws.Needs.{at-largest}
 use Rattle.matcher.proofs.Laws.Cursors.{seek-ge, seek-le, seek-at, seek-below, stretch-within}
