@@ -1,6 +1,6 @@
 // The listing call: one forward pass over the documents.
 ghost use mathlib.Core.Path.{_≡_};
-ghost use Prim.Native.Nat.{ℕ, _*_, _≤_};
+ghost use Prim.Native.Nat.{_*_, _≤_};
 ghost use lib.ListN.{length};
 ghost use Rattle.volume.specs.Layout.{listsOf};
 ghost use Rattle.plan.specs.Rows.{rowsOf};

@@ -13,7 +13,7 @@ ghost use Rattle.fulltext.specs.Documents.{found, shownIn, rowIn};
 ghost use Rattle.matcher.specs.Inner.Cursors.{Stretch, listEnd, Stands};
 ghost use Rattle.plan.specs.Inner.Outline.{outlineAt};
 ghost use Rattle.plan.specs.Inner.Stack.{foundBits};
-ghost use Rattle.matcher.specs.Inner.Settling.{Ready, Candidate};
+ghost use Rattle.matcher.specs.Inner.Settling.{Ready};
 ghost use Rattle.search.specs.Inner.Walk.{Pending, Brought, LeastDoc, Walks, Walking, Visited};
 use super::align::align;
 use matcher::Cursor;

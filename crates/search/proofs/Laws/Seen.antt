@@ -11,7 +11,7 @@ use Prim.Native.Nat.{ℕ, _+_, _*_, _<_, _≤_}
 use native.Mathlib.Omega.{arith}
 use mathlib.Core.Path.{_≡_, refl, sym, ap, _∙_}
 use mathlib.Core.Bool.{Bool, true, false, true≢false}
-use mathlib.Core.Logic.{_⊎_, ⊎-elim}
+use mathlib.Core.Logic.{⊎-elim}
 use mathlib.Core.List.{List}
 use lib.ListN.{length, getD, take}
 use lib.Seq.{getD-take}
@@ -34,7 +34,6 @@ use Rattle.matcher.specs.Inner.Settling.{Candidate, Ready}
 use Rattle.matcher.proofs.Laws.Cursors.{seek-ge, seek-le, seek-below}
 use Rattle.matcher.proofs.Laws.Volume.{list-stretch}
 use Rattle.plan.proofs.Laws.Outline.{vars-within}
-use Rattle.search.specs.declared.walk.Seen.{Seen}
 use Rattle.plan.specs.Inner.Stack.{foundBits}
 use Rattle.search.specs.Inner.Walk.{Stood, Pending, Brought, LeastDoc, Walks, Walking, Visited}
 use Rattle.search.proofs.Laws.Tally.{var-there}

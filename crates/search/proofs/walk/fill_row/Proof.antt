@@ -1,7 +1,7 @@
 -- The row of the patterns in front of k is stored, and their bits are known (`Filling`).
 use Rattle.search.proofs.walk.fill_row.Statement.{statement}
 use Rattle.search.proofs.walk.fill_row.Tie as tie
-use Prim.Native.Nat.{_+_, _-_, _*_, _<_, _≤_}
+use Prim.Native.Nat.{_+_, _-_, _<_, _≤_}
 use native.Mathlib.Omega.{arith}
 use mathlib.Core.Path.{_≡_, refl, sym, ap, subst, _∙_}
 use mathlib.Core.Bool.{Bool}
