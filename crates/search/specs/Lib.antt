@@ -1,4 +1,5 @@
--- What the calls answer and what holds of every search, in reading order. What a search finds is in `fulltext`, testing positions in `matcher`.
+-- What the calls answer and what holds of every search, in reading order. What a search finds is in `fulltext`, testing positions in
+-- `matcher`.
 --     Answers      document 01's number and values for each answer
 --     Pages        what is written of a list of which only so many fit
 --     Listing      the listing call

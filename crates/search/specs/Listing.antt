@@ -1,16 +1,12 @@
 -- The listing call: its answer, and the lent words afterwards. Assumes nothing.
-use Prim.Native.Nat.{ℕ, _-_, _/_}
+use Prim.Native.Nat.{ℕ, _/_}
 use mathlib.Core.Bool.{cond}
-use mathlib.Core.List.{List, map}
+use mathlib.Core.List.{List}
 use mathlib.Core.Option.{Option, none, some}
-use lib.ListN.{length, take, drop}
+use lib.ListN.{length, take}
 use lib.Dec.{ltb}
-use Rattle.seq.specs.Lists.{keep, joined, first}
-use Rattle.seq.specs.Numbers.{run}
 use Rattle.seq.specs.Refusals.{Said, refused, answered, laid}
-use Rattle.volume.specs.Layout.{listsOf}
 use Rattle.plan.specs.Answers.{Sizes}
-use Rattle.plan.specs.Rows.{rowsOf}
 use Rattle.plan.specs.Check.{verdict}
 use Rattle.fulltext.specs.Positions.{limit}
 use Rattle.fulltext.specs.Documents.{Work, docsIn, rowsOfDocs, work}

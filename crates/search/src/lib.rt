@@ -5,9 +5,10 @@
 // the lent buffer, is an equation with a definition of `specs/`. That every search by `list` is
 // right as a whole is demand 3 in `specs/Demands.antt`.
 //
-// `list` is one forward pass: `setup` lays out the plan, `walk` brings each pattern to the next
-// document in which it can be found (`align`) and fills the row there (`settle`, by `predicates`),
-// `plan::answer_of` gives the plan's answer.
+// `list` is one forward pass: `setup` places a cursor for each variable, `walk::visit` brings each
+// pattern to the next document in which it can be found (`align`), fills the row there
+// (`matcher::settle`) and asks the plan's answer (`plan::answer_of`), and `store` puts the row into the
+// buffer.
 mod align;
 mod answers;
 mod listing;

@@ -1,6 +1,6 @@
 // The listing call: one forward pass over the documents.
 ghost use mathlib.Core.Path.{_≡_};
-ghost use Prim.Native.Nat.{ℕ, _*_, _≤_};
+ghost use Prim.Native.Nat.{_*_, _≤_};
 ghost use lib.ListN.{length};
 ghost use Rattle.volume.specs.Layout.{listsOf};
 ghost use Rattle.plan.specs.Rows.{rowsOf};
@@ -9,7 +9,7 @@ ghost use Rattle.plan.specs.Check.{Accepted, sizes};
 ghost use Rattle.fulltext.specs.Documents.{postingsIn};
 ghost use Rattle.search.specs.Answers.{saidListed};
 ghost use Rattle.search.specs.Search.{Kept};
-ghost use Rattle.matcher.specs.Tables.{Cursors};
+ghost use Rattle.matcher.specs.Inner.Tables.{Cursors};
 ghost use Rattle.search.specs.Inner.Walk.{Walks};
 use super::answers::Listed;
 use super::setup::set_cursors;
@@ -71,7 +71,8 @@ fn list_docs(
     requires { ⌜ Cursors (now volume) (now plan) start (now firsts) (now ends) ⌝ }
     requires { ⌜ now ats ≡ now firsts ⌝ }
     requires { ⌜ rowWords (sizes (now plan) .patterns) (sizes (now plan) .vars) ≤ length (now out) ⌝ }
-    ensures { λ r. ⌜ Kept (now (volume .entry)) (now (plan .entry)) start (record { lent = now (out .entry); says = saidListed r; back = now (out .exit) }) ⌝ }
+    ensures { λ r. ⌜ Kept (now (volume .entry)) (now (plan .entry)) start
+        (record { lent = now (out .entry); says = saidListed r; back = now (out .exit) }) ⌝ }
 {
     let patterns = table.len() / 4;
     let width = row_words(patterns as u32, firsts.len() as u32);
@@ -132,7 +133,8 @@ fn list_from(
     requires { ⌜ vars ≡ sizes (now plan) .vars ⌝ }
     requires { ⌜ start ≤ 65535 ⌝ }
     requires { ⌜ rowWords patterns vars ≤ length (now out) ⌝ }
-    ensures { λ r. ⌜ Kept (now (volume .entry)) (now (plan .entry)) start (record { lent = now (out .entry); says = saidListed r; back = now (out .exit) }) ⌝ }
+    ensures { λ r. ⌜ Kept (now (volume .entry)) (now (plan .entry)) start
+        (record { lent = now (out .entry); says = saidListed r; back = now (out .exit) }) ⌝ }
 {
     let mut table: [usize; 4 * MOST_PATTERNS] = [0; 4 * MOST_PATTERNS];
     lay_out(plan, patterns, &mut table);
@@ -162,7 +164,8 @@ fn list_from(
 
 // Writes the rows of the true documents from document `start` on to the front of out, as many as fit.
 pub fn list(volume: &[u8], plan: &[u32], start: u32, out: &mut [u32]) -> Listed
-    ensures { λ r. ⌜ Kept (now (volume .entry)) (now (plan .entry)) start (record { lent = now (out .entry); says = saidListed r; back = now (out .exit) }) ⌝ }
+    ensures { λ r. ⌜ Kept (now (volume .entry)) (now (plan .entry)) start
+        (record { lent = now (out .entry); says = saidListed r; back = now (out .exit) }) ⌝ }
 {
     let checked = plan::check(volume, plan);
     match checked {

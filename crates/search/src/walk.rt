@@ -2,7 +2,7 @@
 // there.
 ghost use mathlib.Core.Path.{_≡_};
 ghost use mathlib.Core.List.{_++_};
-ghost use Prim.Native.Nat.{ℕ, _+_, _<_, _≤_};
+ghost use Prim.Native.Nat.{ℕ, _+_, _*_, _<_, _≤_};
 ghost use lib.ListN.{length, getD, take, drop};
 ghost use Rattle.volume.specs.Layout.{listsOf};
 ghost use Rattle.plan.specs.Rows.{rowsOf};
@@ -10,15 +10,19 @@ ghost use Rattle.plan.specs.Limits.{rowWords};
 ghost use Rattle.plan.specs.Check.{sizes};
 ghost use Rattle.plan.specs.Accepted.{patternAt};
 ghost use Rattle.fulltext.specs.Documents.{found, shownIn, rowIn};
-ghost use Rattle.matcher.specs.Cursors.{Stretch, listEnd, Stands};
-ghost use Rattle.plan.specs.Inner.Stack.{flagOf, Flags};
-ghost use Rattle.matcher.specs.Settling.{Ready, Candidate};
+ghost use Rattle.matcher.specs.Inner.Cursors.{Stretch, listEnd, Stands};
+ghost use Rattle.plan.specs.Inner.Outline.{outlineAt};
+ghost use Rattle.plan.specs.Inner.Stack.{foundBits};
+ghost use Rattle.matcher.specs.Inner.Settling.{Ready};
 ghost use Rattle.search.specs.Inner.Walk.{Pending, Brought, LeastDoc, Walks, Walking, Visited};
 use super::align::align;
 use matcher::Cursor;
+use matcher::Document;
 use matcher::settle;
 use matcher::show;
+use plan::Outline;
 use plan::answer_of;
+use plan::outline_at;
 
 // Where a walk goes on: the document from which on, whether no pattern has a document yet, a cursor
 // on list 0 that has not passed it, and whether that cursor is asked for.
@@ -52,8 +56,10 @@ fn next_docs(
     requires { ⌜ length (now docs) ≡ sizes (now plan) .patterns ⌝ }
     requires { ⌜ sizes (now plan) .vars ≤ length (now ats) ⌝ }
     requires { ⌜ doc ≤ 65536 ⌝ }
-    requires { ⌜ ((k : ℕ) → k < sizes (now plan) .patterns → Pending (now volume) (now plan) (now ats) (now ends) k doc (getD (now docs) k 0) fresh) ⌝ }
-    ensures { λ _. ⌜ Brought (now (volume .entry)) (now (plan .entry)) (now (ends .entry)) (now (ats .entry)) (now (docs .entry)) doc (now (ats .exit)) (now (docs .exit)) ⌝ }
+    requires { ⌜ ((k : ℕ) → k < sizes (now plan) .patterns
+        → Pending (now volume) (now plan) (now ats) (now ends) k doc (getD (now docs) k 0) fresh) ⌝ }
+    ensures { λ _. ⌜ Brought (now (volume .entry)) (now (plan .entry)) (now (ends .entry)) (now (ats .entry)) (now (docs .entry)) doc
+        (now (ats .exit)) (now (docs .exit)) ⌝ }
 {
     let mut k: usize = 0;
     while k < docs.len() {
@@ -100,82 +106,79 @@ fn bring_starts(volume: &[u8], starts: Cursor, needed: bool, doc: u32) -> Cursor
     starts.seek(volume, doc)
 }
 
-// What a row shows of pattern k in a document, from `to` on; `next` is the first document from there
-// on in which the pattern can be found. 1 if it is found, 0 if not.
+// What is shown of a pattern in a document, at the front of a row; `next` is the first document from
+// there on in which the pattern can be found. Whether it is found there.
 fn show_pattern(
     volume: &[u8],
     plan: &[u32],
-    table: &[usize],
-    k: usize,
-    starts: Cursor,
-    doc: u32,
+    outline: Outline,
+    document: Document,
     next: u32,
     ats: &[usize],
     ends: &[usize],
     row: &mut [u32],
-    to: usize,
-) -> u32
-    requires { ⌜ Ready (now volume) (now plan) (now table) (now ats) (now ends) k doc next starts ⌝ }
-    requires { ⌜ to + (1 + length (patternAt (now plan) k .vars)) ≤ length (now row) ⌝ }
-    ensures { λ r. ⌜ r ≡ flagOf (found (listsOf (now (volume .entry))) doc (patternAt (now (plan .entry)) k)) ⌝ }
-    ensures { λ r. ⌜ now (row .exit) ≡ take to (now (row .entry)) ++ (shownIn (listsOf (now (volume .entry))) doc (patternAt (now (plan .entry)) k) ++ drop (to + (1 + length (patternAt (now (plan .entry)) k .vars))) (now (row .entry))) ⌝ }
+) -> bool
+    requires { ⌜ Ready (now volume) (now plan) outline document (now ats) (now ends) next ⌝ }
+    requires { ⌜ 1 + outline .vars ≤ length (now row) ⌝ }
+    ensures { λ r. ⌜ r ≡ found (listsOf (now (volume .entry))) (document .doc) (patternAt (now (plan .entry)) (outline .pattern)) ⌝ }
+    ensures { λ r. ⌜ now (row .exit)
+        ≡ shownIn (listsOf (now (volume .entry))) (document .doc) (patternAt (now (plan .entry)) (outline .pattern))
+        ++ drop (1 + outline .vars) (now (row .entry)) ⌝ }
 {
-    if next == doc {
-        if settle(volume, plan, table, k, starts, doc, ats, ends, row, to) {
-            return 1;
-        }
-        return 0;
+    if next == document.doc {
+        return settle(volume, plan, outline, document, ats, ends, row);
     }
     let zeros: [u32; 8] = [0; 8];
-    show(0, &zeros, table[4 * k + 1], row, to);
-    0
+    show(0, &zeros, outline.vars, row);
+    false
 }
 
-// The row of a document, and a flag for each pattern: whether it is found there. `docs` has the first
-// document from there on in which each pattern can be found.
+// The row of a document. `docs` has the first document from there on in which each pattern can be
+// found. The bits of the patterns that are found there, that of pattern 0 the lowest.
 fn fill_row(
     volume: &[u8],
     plan: &[u32],
     table: &[usize],
-    patterns: usize,
-    starts: Cursor,
-    doc: u32,
+    document: Document,
     ats: &[usize],
     ends: &[usize],
     docs: &[u32],
     row: &mut [u32],
-    flags: &mut [u32],
-)
-    requires { ⌜ patterns ≡ sizes (now plan) .patterns ⌝ }
-    requires { ⌜ patterns ≤ length (now docs) ⌝ }
-    requires { ⌜ patterns ≤ length (now flags) ⌝ }
+) -> u32
+    requires { ⌜ length (now docs) ≡ sizes (now plan) .patterns ⌝ }
+    requires { ⌜ 4 * sizes (now plan) .patterns ≤ length (now table) ⌝ }
     requires { ⌜ rowWords (sizes (now plan) .patterns) (sizes (now plan) .vars) ≤ length (now row) ⌝ }
-    requires { ⌜ ((k : ℕ) → k < patterns → Ready (now volume) (now plan) (now table) (now ats) (now ends) k doc (getD (now docs) k 0) starts) ⌝ }
-    ensures { λ _. ⌜ length (now (row .exit)) ≡ length (now (row .entry)) ⌝ }
-    ensures { λ _. ⌜ length (now (flags .exit)) ≡ length (now (flags .entry)) ⌝ }
-    ensures { λ _. ⌜ take (rowWords (sizes (now (plan .entry)) .patterns) (sizes (now (plan .entry)) .vars)) (now (row .exit)) ≡ rowIn (listsOf (now (volume .entry))) (rowsOf (now (plan .entry))) doc ⌝ }
-    ensures { λ _. ⌜ Flags (found (listsOf (now (volume .entry))) doc) (now (plan .entry)) (now (flags .exit)) ⌝ }
+    requires { ⌜ ((k : ℕ) → k < sizes (now plan) .patterns
+        → Ready (now volume) (now plan) (outlineAt (now table) k) document (now ats) (now ends) (getD (now docs) k 0)) ⌝ }
+    ensures { λ r. ⌜ take (rowWords (sizes (now (plan .entry)) .patterns) (sizes (now (plan .entry)) .vars)) (now (row .exit))
+        ≡ rowIn (listsOf (now (volume .entry))) (rowsOf (now (plan .entry))) (document .doc) ⌝ }
+    ensures { λ r. ⌜ r ≡ foundBits (found (listsOf (now (volume .entry))) (document .doc)) (now (plan .entry)) ⌝ }
 {
-    row[0] = doc;
+    row[0] = document.doc;
     let mut to: usize = 1;
+    let mut bits: u32 = 0;
+    let mut weight: u32 = 1;
     let mut k: usize = 0;
-    while k < patterns {
-        flags[k] = show_pattern(
+    while k < docs.len() {
+        let outline = outline_at(table, k);
+        let next = to + 1 + outline.vars;
+        if show_pattern(
             volume,
             plan,
-            table,
-            k,
-            starts,
-            doc,
+            outline,
+            document,
             docs[k],
             ats,
             ends,
-            row,
-            to,
-        );
-        to = to + 1 + table[4 * k + 1];
+            &mut row[to..],
+        ) {
+            bits += weight;
+        }
+        weight *= 2;
+        to = next;
         k += 1;
     }
+    bits
 }
 
 // The next document in which a pattern can be found, 65,536 where there is none: whether it is true,
@@ -193,7 +196,8 @@ pub fn visit(
     requires { ⌜ Walks (now volume) (now plan) (now table) (now ends) ⌝ }
     requires { ⌜ Walking (now volume) (now plan) (now ends) (now ats) (now docs) (walk .from) (walk .fresh) (walk .starts) ⌝ }
     requires { ⌜ rowWords (sizes (now plan) .patterns) (sizes (now plan) .vars) ≤ length (now row) ⌝ }
-    ensures { λ r. ⌜ Visited (now (volume .entry)) (now (plan .entry)) (now (ends .entry)) (walk .from) r (now (ats .exit)) (now (docs .exit)) (now (row .exit)) ⌝ }
+    ensures { λ r. ⌜ Visited (now (volume .entry)) (now (plan .entry)) (now (ends .entry)) (walk .from) r
+        (now (ats .exit)) (now (docs .exit)) (now (row .exit)) ⌝ }
 {
     next_docs(volume, plan, table, walk.fresh, walk.from, ats, ends, docs);
     let doc = least_of(docs);
@@ -206,21 +210,9 @@ pub fn visit(
         };
     }
     let starts = bring_starts(volume, passed, walk.paras, doc);
-    let mut flags: [u32; 8] = [0; 8];
-    fill_row(
-        volume,
-        plan,
-        table,
-        docs.len(),
-        starts,
-        doc,
-        ats,
-        ends,
-        docs,
-        row,
-        &mut flags,
-    );
-    let matching = answer_of(plan, &flags);
+    let document = Document { doc, starts };
+    let bits = fill_row(volume, plan, table, document, ats, ends, docs, row);
+    let matching = answer_of(plan, bits);
     Seen {
         doc,
         matching,

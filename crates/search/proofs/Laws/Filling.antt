@@ -1,20 +1,22 @@
--- A row that is filled pattern by pattern. No contract cites this file.
---     Filling                 the row and the flags of the patterns in front of k are stored
---     filling-first, filling-next, filling-done     from pattern to pattern
---     filling-room            the next pattern fits the row
+-- A row that is filled pattern by pattern, and the bits of the patterns that are found. No contract cites this file.
+--     bits-yes, bits-no, weight-small     one pattern more
+--     Filling                             the row of the patterns in front of k is stored, and their bits are known
+--     filling-first, filling-yes, filling-no, filling-done     from pattern to pattern
+--     filling-room                        the next pattern fits the row
+--     relaid                              a part of the row that is lent comes back in its length
 -- Assumes nothing.
-use Prim.Native.Nat.{ℕ, _+_, _-_, _<_, _≤_}
+use Prim.Native.Nat.{ℕ, zero, suc, _+_, _*_, _<_, _≤_}
 use native.Mathlib.Numerals.{add-one}
 use native.Mathlib.Omega.{arith}
 use mathlib.Core.Path.{_≡_, refl, sym, ap, _∙_}
 use mathlib.Core.Bool.{Bool, true, false}
-use mathlib.Core.Logic.{⊎-elim, _≢_}
+use mathlib.Core.Logic.{⊎-elim}
 use mathlib.Core.List.{List, [], _∷_, _++_, map, map-append, append-nil, append-assoc}
-use lib.ListN.{length, getD, set, take, drop, length-set, length-append, length-drop}
-use lib.Seq.{getD-set-same, getD-set-other, take-suc, take-at, take-all, length-take-le}
+use lib.ListN.{length, set, take, drop, length-append, length-map, take-append-drop}
+use lib.Seq.{take-suc, take-at, take-all, length-take-le}
 use Rattle.seq.specs.Lists.{joined}
 use Rattle.seq.proofs.Laws.Lists.{joined-append}
-use Rattle.seq.proofs.Laws.Decides.{decided, eqb-decides}
+use Rattle.seq.proofs.Laws.Tests.{below-or}
 use Rattle.volume.specs.Layout.{listsOf}
 use Rattle.plan.specs.Rows.{rowsOf}
 use Rattle.plan.specs.Patterns.{Pattern, noRow, patternsOf}
@@ -22,99 +24,149 @@ use Rattle.plan.specs.Check.{sizes}
 use Rattle.plan.specs.Accepted.{patternAt}
 use Rattle.fulltext.specs.Documents.{found, shownIn, rowIn}
 use Rattle.plan.specs.Inner.Outline.{varsBefore}
-use Rattle.plan.specs.Inner.Stack.{flagOf, Flags}
+use Rattle.plan.specs.Inner.Stack.{flagOf, bitsOf, foundBits}
 use Rattle.plan.proofs.Laws.Outline.{varsBefore-first, varsBefore-next, varsBefore-end, vars-within}
 use Rattle.fulltext.proofs.Laws.Counts.{length-shown}
 
--- a flag is 0 or 1
-pub flag-small : (b : Bool) → flagOf b ≤ 1
+-- the weight of bit k
+unfoldable pub weightOf : ℕ → ℕ
+weightOf zero = 1
+weightOf (suc k) = weightOf k * 2
+
+bits-yes : (ts : List Bool) → bitsOf (ts ++ (true ∷ [])) ≡ bitsOf ts + weightOf (length ts)
+unfolding bitsOf weightOf
+bits-yes [] = refl
+bits-yes (t ∷ ts) = let e = bits-yes ts in omega arith
+
+bits-no : (ts : List Bool) → bitsOf (ts ++ (false ∷ [])) ≡ bitsOf ts
+unfolding bitsOf
+bits-no [] = refl
+bits-no (t ∷ ts) = let e = bits-no ts in omega arith
+
+flag-small : (t : Bool) → flagOf t ≤ 1
 flag-small true = omega arith
 flag-small false = omega arith
 
--- what the row shows of the first k patterns
+-- the bits are below the next weight
+bits-small : (ts : List Bool) → bitsOf ts < weightOf (length ts)
+unfolding bitsOf weightOf
+bits-small [] = omega arith
+bits-small (t ∷ ts) = let e = bits-small ts in let f = flag-small t in omega arith
+
+weight-le : (m k : ℕ) → k ≤ m → weightOf k ≤ weightOf m
+unfolding weightOf
+weight-le zero k h = let e : k ≡ 0 = omega arith in rw e (omega arith)
+weight-le (suc m) k h =
+    ⊎-elim
+    (λ (l : k < suc m). let i = weight-le m k (omega arith) in omega arith)
+    (λ (l : suc m ≤ k). let e : k ≡ suc m = omega arith in rw e (omega arith))
+    (below-or k (suc m))
+
+weight-small : (k : ℕ) → k ≤ 8 → weightOf k ≤ 256
+unfolding weightOf
+weight-small k h = weight-le 8 k h
+
+-- what the row shows of the first k patterns, and whether each is found
 abbrev front : List ℕ → List ℕ → ℕ → ℕ → List ℕ
 front v p d k = d ∷ joined (map (shownIn (listsOf v) d) (take k (patternsOf (rowsOf p))))
 
-pub record Filling (v p : List ℕ) (d : ℕ) (row₀ flags₀ row flags : List ℕ) (to k : ℕ) : Type 0 where
+abbrev foundIn : List ℕ → List ℕ → ℕ → ℕ → List Bool
+foundIn v p d k = map (found (listsOf v) d) (take k (patternsOf (rowsOf p)))
+
+pub record Filling (v p : List ℕ) (d : ℕ) (row₀ row : List ℕ) (to bits weight k : ℕ) : Type 0 where
   pub most : k ≤ sizes p .patterns
   pub to-is : to ≡ 1 + k + varsBefore p k
   pub row-length : length row ≡ length row₀
-  pub flags-length : length flags ≡ length flags₀
   pub shown : take to row ≡ front v p d k
-  pub flagged : (j : ℕ) → j < k → getD flags j 0 ≡ flagOf (found (listsOf v) d (patternAt p j))
+  pub bits-are : bits ≡ bitsOf (foundIn v p d k)
+  pub weight-is : weight ≡ weightOf k
 
-module _ (v p : List ℕ) (d : ℕ) (row₀ flags₀ : List ℕ) where
-  pub filling-first : (r : List ℕ) → 1 ≤ length r → row₀ ≡ set r 0 d → Filling v p d row₀ flags₀ row₀ flags₀ 1 0
-  unfolding joined
+-- a part of the row is lent and comes back in its length
+pub relaid : (to m : ℕ) (row part : List ℕ) → length part ≡ length (take m (drop to row)) → length (take to row ++ (part ++ drop m (drop to row))) ≡ length row
+relaid to m row part e =
+    length-append (take to row) (part ++ drop m (drop to row))
+    ∙ ap (λ (n : ℕ). length (take to row) + n) (length-append part (drop m (drop to row)) ∙ ap (λ (n : ℕ). n + length (drop m (drop to row))) e ∙ sym (length-append (take m (drop to row)) (drop m (drop to row))) ∙ ap length (take-append-drop m (drop to row)))
+    ∙ sym (length-append (take to row) (drop to row))
+    ∙ ap length (take-append-drop to row)
+
+module _ (v p : List ℕ) (d : ℕ) (row₀ : List ℕ) where
+  pub filling-first : (r : List ℕ) → 1 ≤ length r → row₀ ≡ set r 0 d → Filling v p d row₀ row₀ 1 0 1 0
+  unfolding joined bitsOf weightOf
   filling-first [] h e = absurd (let z : ⊥ = omega arith in z)
   filling-first (x ∷ r) h e = record {
     most = omega arith;
     to-is = let z = varsBefore-first p in omega arith;
     row-length = refl;
-    flags-length = refl;
     shown = ap (take 1) e;
-    flagged = λ j i. absurd (let z : ⊥ = omega arith in z);
+    bits-are = refl;
+    weight-is = refl;
   }
 
-  module _ (row flags : List ℕ) (to k : ℕ) (f : Filling v p d row₀ flags₀ row flags to k) (h : k < sizes p .patterns) (wide : 1 + sizes p .patterns + sizes p .vars ≤ length row₀) where
-    pub filling-room : to + (1 + length (patternAt p k .vars)) ≤ length row
-    filling-room = let t = f .to-is in let l = f .row-length in let w = vars-within p k h in omega arith
+  module _ (row : List ℕ) (to bits weight k : ℕ) (f : Filling v p d row₀ row to bits weight k) (h : k < sizes p .patterns) where
+    pub filling-room : 1 + sizes p .patterns + sizes p .vars ≤ length row₀ → to + (1 + length (patternAt p k .vars)) ≤ length row
+    filling-room wide = let t = f .to-is in let l = f .row-length in let w = vars-within p k h in omega arith
 
-    pub filling-next : sizes p .patterns ≤ length flags₀ → (row′ : List ℕ) (flag : ℕ) (n : ℕ) → n ≡ length (patternAt p k .vars) → flag ≡ flagOf (found (listsOf v) d (patternAt p k))
-        → row′ ≡ take to row ++ (shownIn (listsOf v) d (patternAt p k) ++ drop (to + (1 + length (patternAt p k .vars))) row) → Filling v p d row₀ flags₀ row′ (set flags k flag) (to + 1 + n) (k + 1)
-    unfolding sizes joined
-    filling-next room row′ flag n many e r = record {
-      most = omega arith;
-      to-is = let t = f .to-is in let w = varsBefore-next p k h in omega arith;
-      row-length = size;
-      flags-length = length-set flags k flag ∙ f .flags-length;
-      shown = shown;
-      flagged = λ j i. ⊎-elim
-          (λ (y : j ≡ k). rw (y, getD-set-same flags k flag 0 (let l = f .flags-length in omega arith)) e)
-          (λ (y : j ≢ k). rw (getD-set-other flags k j flag 0 y) (f .flagged j (omega arith)))
-          (decided (eqb-decides j k));
-    }
-      where
-        front-size : length (take to row) ≡ to
-        front-size = length-take-le to row (let t = filling-room in omega arith)
+    pub filling-small : sizes p .patterns ≤ 8 → (weight ≤ 256) × (bits < 256)
+    unfolding sizes
+    filling-small few =
+        let w = f .weight-is in
+        let s = weight-small k (omega arith) in
+        let b = f .bits-are in
+        let l : length (foundIn v p d k) ≡ k = length-map (take k (patternsOf (rowsOf p))) (found (listsOf v) d) ∙ length-take-le k (patternsOf (rowsOf p)) (omega arith) in
+        let c = bits-small (foundIn v p d k) in
+        let e = ap weightOf l in
+        (omega arith, omega arith)
 
-        own-size : length (shownIn (listsOf v) d (patternAt p k)) ≡ 1 + length (patternAt p k .vars)
-        own-size = length-shown (listsOf v) d (patternAt p k)
+    last : take (k + 1) (patternsOf (rowsOf p)) ≡ take k (patternsOf (rowsOf p)) ++ (patternAt p k ∷ [])
+    unfolding sizes
+    last = ap (λ (i : ℕ). take i (patternsOf (rowsOf p))) (add-one k) ∙ take-suc (patternsOf (rowsOf p)) k noRow h
 
-        size : length row′ ≡ length row₀
-        size =
-            ap length r
-            ∙ length-append (take to row) (shownIn (listsOf v) d (patternAt p k) ++ drop (to + (1 + length (patternAt p k .vars))) row)
-            ∙ let a = front-size in
-            let b = length-append (shownIn (listsOf v) d (patternAt p k)) (drop (to + (1 + length (patternAt p k .vars))) row) in
-            let c = length-drop (to + (1 + length (patternAt p k .vars))) row in
-            let e = own-size in
-            let g = filling-room in
-            let l = f .row-length in
-            omega arith
+    found-last : foundIn v p d (k + 1) ≡ foundIn v p d k ++ (found (listsOf v) d (patternAt p k) ∷ [])
+    found-last = ap (map (found (listsOf v) d)) last ∙ map-append (found (listsOf v) d) (take k (patternsOf (rowsOf p))) (patternAt p k ∷ [])
 
-        parted : take (to + 1 + n) row′ ≡ take to row ++ shownIn (listsOf v) d (patternAt p k)
-        parted =
-            ap (take (to + 1 + n)) (r ∙ sym (append-assoc (take to row) (shownIn (listsOf v) d (patternAt p k)) (drop (to + (1 + length (patternAt p k .vars))) row)))
-            ∙ take-at (take to row ++ shownIn (listsOf v) d (patternAt p k)) (drop (to + (1 + length (patternAt p k .vars))) row) (to + 1 + n)
-            (length-append (take to row) (shownIn (listsOf v) d (patternAt p k)) ∙ let a = front-size in let b = own-size in omega arith)
+    many : length (foundIn v p d k) ≡ k
+    unfolding sizes
+    many = length-map (take k (patternsOf (rowsOf p))) (found (listsOf v) d) ∙ length-take-le k (patternsOf (rowsOf p)) (omega arith)
 
-        last : take (k + 1) (patternsOf (rowsOf p)) ≡ take k (patternsOf (rowsOf p)) ++ (patternAt p k ∷ [])
-        last = ap (λ (i : ℕ). take i (patternsOf (rowsOf p))) (add-one k) ∙ take-suc (patternsOf (rowsOf p)) k noRow h
+    module _ (n : ℕ) (own : n ≡ length (patternAt p k .vars)) (part rest back : List ℕ) (e : part ≡ shownIn (listsOf v) d (patternAt p k) ++ rest) (room : to ≤ length row) (same : length (take to row ++ (part ++ back)) ≡ length row) where
+      shown-next : take (to + 1 + n) (take to row ++ (part ++ back)) ≡ front v p d (k + 1)
+      unfolding joined
+      shown-next =
+          ap (λ (xs : List ℕ). take (to + 1 + n) (take to row ++ (xs ++ back))) e
+          ∙ ap (take (to + 1 + n)) (ap (λ (xs : List ℕ). take to row ++ xs) (append-assoc own-shown rest back) ∙ sym (append-assoc (take to row) own-shown (rest ++ back)))
+          ∙ take-at (take to row ++ own-shown) (rest ++ back) (to + 1 + n)
+          (length-append (take to row) own-shown ∙ let a = length-take-le to row room in let b = length-shown (listsOf v) d (patternAt p k) in omega arith)
+          ∙ ap (λ (xs : List ℕ). xs ++ own-shown) (f .shown)
+          ∙ ap (λ (xs : List ℕ). d ∷ xs)
+          (ap (λ (xs : List ℕ). joined (map (shownIn (listsOf v) d) (take k (patternsOf (rowsOf p)))) ++ xs) (sym (append-nil own-shown))
+          ∙ sym (joined-append (map (shownIn (listsOf v) d) (take k (patternsOf (rowsOf p)))) (own-shown ∷ []))
+          ∙ ap joined (sym (ap (map (shownIn (listsOf v) d)) last ∙ map-append (shownIn (listsOf v) d) (take k (patternsOf (rowsOf p))) (patternAt p k ∷ []))))
+        where
+          own-shown : List ℕ
+          own-shown = shownIn (listsOf v) d (patternAt p k)
 
-        shown : take (to + 1 + n) row′ ≡ front v p d (k + 1)
-        shown =
-            parted
-            ∙ ap (λ (xs : List ℕ). xs ++ shownIn (listsOf v) d (patternAt p k)) (f .shown)
-            ∙ ap (λ (xs : List ℕ). d ∷ xs)
-            (ap (λ (xs : List ℕ). joined (map (shownIn (listsOf v) d) (take k (patternsOf (rowsOf p)))) ++ xs) (sym (append-nil (shownIn (listsOf v) d (patternAt p k))))
-            ∙ sym (joined-append (map (shownIn (listsOf v) d) (take k (patternsOf (rowsOf p)))) (shownIn (listsOf v) d (patternAt p k) ∷ []))
-            ∙ ap joined (sym (ap (map (shownIn (listsOf v) d)) last ∙ map-append (shownIn (listsOf v) d) (take k (patternsOf (rowsOf p))) (patternAt p k ∷ []))))
+      next : (bits′ : ℕ) → bits′ ≡ bitsOf (foundIn v p d (k + 1)) → Filling v p d row₀ (take to row ++ (part ++ back)) (to + 1 + n) bits′ (weight * 2) (k + 1)
+      unfolding weightOf
+      next bits′ b = record {
+        most = omega arith;
+        to-is = let t = f .to-is in let w = varsBefore-next p k h in omega arith;
+        row-length = same ∙ f .row-length;
+        shown = shown-next;
+        bits-are = b;
+        weight-is = rw (add-one k) (ap (λ (w : ℕ). w * 2) (f .weight-is));
+      }
 
-  pub filling-done : (row flags : List ℕ) (to k : ℕ) → Filling v p d row₀ flags₀ row flags to k → sizes p .patterns ≤ k
-      → (take (1 + sizes p .patterns + sizes p .vars) row ≡ rowIn (listsOf v) (rowsOf p) d) × Flags (found (listsOf v) d) p flags
+      -- the pattern is found, or not
+      pub filling-yes : found (listsOf v) d (patternAt p k) ≡ true → Filling v p d row₀ (take to row ++ (part ++ back)) (to + 1 + n) (bits + weight) (weight * 2) (k + 1)
+      filling-yes t = next (bits + weight) (sym (ap bitsOf (found-last ∙ ap (λ (b : Bool). foundIn v p d k ++ (b ∷ [])) t) ∙ bits-yes (foundIn v p d k) ∙ (let b = f .bits-are in let w = f .weight-is in let m = ap weightOf many in omega arith)))
+
+      pub filling-no : found (listsOf v) d (patternAt p k) ≡ false → Filling v p d row₀ (take to row ++ (part ++ back)) (to + 1 + n) bits (weight * 2) (k + 1)
+      filling-no t = next bits (sym (ap bitsOf (found-last ∙ ap (λ (b : Bool). foundIn v p d k ++ (b ∷ [])) t) ∙ bits-no (foundIn v p d k) ∙ sym (f .bits-are)))
+
+  pub filling-done : (row : List ℕ) (to bits weight k : ℕ) → Filling v p d row₀ row to bits weight k → sizes p .patterns ≤ k
+      → (take (1 + sizes p .patterns + sizes p .vars) row ≡ rowIn (listsOf v) (rowsOf p) d) × (bits ≡ foundBits (found (listsOf v) d) p)
   unfolding sizes rowIn
-  filling-done row flags to k f h = (shown, λ j i. f .flagged j (omega arith))
+  filling-done row to bits weight k f h = (shown, f .bits-are ∙ ap (λ (fs : List Pattern). bitsOf (map (found (listsOf v) d) fs)) whole)
     where
       all : k ≡ sizes p .patterns
       all = let m = f .most in omega arith

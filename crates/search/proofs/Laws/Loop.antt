@@ -7,7 +7,7 @@
 --     wrote              past a true document whose row is stored
 --     stops, ends        the page and the buffer at MORE and at DONE
 -- Assumes nothing.
-use Prim.Native.Nat.{ℕ, _+_, _-_, _*_, _/_, _<_, _≤_}
+use Prim.Native.Nat.{ℕ, _+_, _*_, _/_, _<_, _≤_}
 use native.Mathlib.Nat.{zero-mul, add-mul, one-mul, le-div-iff-mul-le}
 use native.Mathlib.Omega.{arith}
 use mathlib.Core.Path.{_≡_, sym, ap, ap₂, _∙_}
@@ -108,7 +108,9 @@ module _ (w : Work) (even : (d : ℕ) → length (w .rowOf d) ≡ w .width) {sta
       all-docs = docs-parts w start d limit (h .from) (h .to) ∙ ap (λ (ds : List ℕ). docsIn w start d ++ ds) (docs-here w d limit l e)
 
       page : pageOf w start n ≡ record { rows = n; tally = w .postings start d; next = more d }
-      page = page-by w start n n (some d) (ap length (ap (take n) all-docs ∙ take-at (docsIn w start d) (d ∷ docsIn w (d + 1) limit) n (sym (h .rows))) ∙ sym (h .rows)) (ap (λ (ds : List ℕ). first (drop n ds)) all-docs ∙ ap first (drop-at (docsIn w start d) (d ∷ docsIn w (d + 1) limit) n (sym (h .rows))))
+      page = page-by w start n n (some d)
+          (ap length (ap (take n) all-docs ∙ take-at (docsIn w start d) (d ∷ docsIn w (d + 1) limit) n (sym (h .rows))) ∙ sym (h .rows))
+          (ap (λ (ds : List ℕ). first (drop n ds)) all-docs ∙ ap first (drop-at (docsIn w start d) (d ∷ docsIn w (d + 1) limit) n (sym (h .rows))))
 
       written : rowsFrom w start n ≡ rowsOfDocs w (docsIn w start d)
       written = rows-written w start n (docsIn w start d) (ap (take n) all-docs ∙ take-at (docsIn w start d) (d ∷ docsIn w (d + 1) limit) n (sym (h .rows)))

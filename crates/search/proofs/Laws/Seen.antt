@@ -11,7 +11,7 @@ use Prim.Native.Nat.{ℕ, _+_, _*_, _<_, _≤_}
 use native.Mathlib.Omega.{arith}
 use mathlib.Core.Path.{_≡_, refl, sym, ap, _∙_}
 use mathlib.Core.Bool.{Bool, true, false, true≢false}
-use mathlib.Core.Logic.{_⊎_, ⊎-elim}
+use mathlib.Core.Logic.{⊎-elim}
 use mathlib.Core.List.{List}
 use lib.ListN.{length, getD, take}
 use lib.Seq.{getD-take}
@@ -27,15 +27,14 @@ use Rattle.matcher.specs.declared.cursor.Cursor.{Cursor}
 use Rattle.fulltext.specs.Positions.{limit}
 use Rattle.fulltext.specs.Documents.{found, matching, rowIn, workOf, work}
 use Rattle.fulltext.proofs.Laws.Skips.{matching-none}
-use Rattle.matcher.specs.Cursors.{seekFrom, Stretch, listEnd, Stands, listCursor}
-use Rattle.plan.specs.Inner.Outline.{Tabled}
-use Rattle.matcher.specs.Tables.{varAt, Placed, Cursors}
-use Rattle.matcher.specs.Settling.{Candidate, Ready}
+use Rattle.matcher.specs.Inner.Cursors.{seekFrom, Stretch, listEnd, Stands, listCursor}
+use Rattle.plan.specs.Inner.Outline.{outlineAt, Tabled}
+use Rattle.matcher.specs.Inner.Tables.{varAt, Placed, Cursors}
+use Rattle.matcher.specs.Inner.Settling.{Candidate, Ready}
 use Rattle.matcher.proofs.Laws.Cursors.{seek-ge, seek-le, seek-below}
 use Rattle.matcher.proofs.Laws.Volume.{list-stretch}
 use Rattle.plan.proofs.Laws.Outline.{vars-within}
-use Rattle.search.specs.declared.walk.Seen.{Seen}
-use Rattle.plan.specs.Inner.Stack.{Flags}
+use Rattle.plan.specs.Inner.Stack.{foundBits}
 use Rattle.search.specs.Inner.Walk.{Stood, Pending, Brought, LeastDoc, Walks, Walking, Visited}
 use Rattle.search.proofs.Laws.Tally.{var-there}
 
@@ -66,9 +65,9 @@ pub cursors-part : (v p : List ℕ) (d : ℕ) (ats ends : List ℕ) (n : ℕ) �
 cursors-part v p d ats ends n e c x h = rw (getD-take n ats x 0 (omega arith)) (c x h)
 
 -- whether a document is true
-pub seen-true : (v p flags : List ℕ) (doc : ℕ) (r : Bool) → ((found : Pattern → Bool) → Flags found p flags → r ≡ answer found (rowsOf p)) → Flags (found (listsOf v) doc) p flags → work v p .isTrue doc ≡ r
+pub seen-true : (v p : List ℕ) (bits doc : ℕ) (r : Bool) → ((found : Pattern → Bool) → bits ≡ foundBits found p → r ≡ answer found (rowsOf p)) → bits ≡ foundBits (found (listsOf v) doc) p → work v p .isTrue doc ≡ r
 unfolding work workOf matching
-seen-true v p flags doc r told f = sym (told (found (listsOf v) doc) f)
+seen-true v p bits doc r told f = sym (told (found (listsOf v) doc) f)
 
 module _ (v p table ends : List ℕ) (w : Walks v p table ends) where
   -- the words that the cursor on list 0 has before it
@@ -137,17 +136,15 @@ module _ (v p table ends : List ℕ) (w : Walks v p table ends) where
       here = c .here;
     }
 
-    pub seen-ready : doc < limit → (starts : Cursor) → Stands v 0 doc (starts .at) → starts .end ≡ listEnd v 0 → sizes p .vars ≤ length ats → (k : ℕ) → k < sizes p .patterns → Ready v p table ats ends k doc (getD docs k 0) starts
+    pub seen-ready : doc < limit → (starts : Cursor) → Stands v 0 doc (starts .at) → starts .end ≡ listEnd v 0 → sizes p .vars ≤ length ats → (k : ℕ) → k < sizes p .patterns
+        → Ready v p (outlineAt table k) (record { doc = doc; starts = starts }) ats ends (getD docs k 0)
     seen-ready h starts s e room k i = record {
       accepted = w .accepted;
       pattern = i;
-      tabled = w .tabled;
-      table-room = w .table-room;
+      entry = w .tabled k i;
+      document = record { small = omega arith; starts-at = s; starts-end = e };
       ats-room = room;
       ends-room = w .ends-room;
-      starts-at = s;
-      starts-end = e;
-      doc = omega arith;
       candidate = here k i;
     }
 

@@ -83,7 +83,9 @@ module _ (v p ends : List ℕ) (start : ℕ) (out₀ : List ℕ) (from : ℕ) (s
         → out′ ≡ take (rows * wide) out ++ take wide row ++ drop (rows * wide + wide) out
         → Visiting v p ends start out₀ ats docs out′ (seen .doc + 1) (rows + 1) (seen .starts)
     visit-put t wide e less out′ put = record {
-      progress = wrote (work v p) (work-even v p) visit-reached (work-wide v p) inside (s .truth inside ∙ t) fits out′ (put ∙ ap (λ (n : ℕ). take (rows * n) out ++ take n row ++ drop (rows * n + n) out) same ∙ ap (λ (xs : List ℕ). take (rows * work v p .width) out ++ xs ++ drop (rows * work v p .width + work v p .width) out) (s .shown inside));
+      progress = wrote (work v p) (work-even v p) visit-reached (work-wide v p) inside (s .truth inside ∙ t) fits out′
+          (put ∙ ap (λ (n : ℕ). take (rows * n) out ++ take n row ++ drop (rows * n + n) out) same
+          ∙ ap (λ (xs : List ℕ). take (rows * work v p .width) out ++ xs ++ drop (rows * work v p .width + work v p .width) out) (s .shown inside));
       walking = onward;
     }
       where

@@ -1,4 +1,5 @@
--- The walk over the documents: where the cursors of a pattern stand, and what is known of the documents that they have passed. Assumes nothing.
+-- The walk over the documents: where the cursors of a pattern stand, and what is known of the documents that they have passed. Assumes
+-- nothing.
 use Prim.Native.Nat.{ℕ, _+_, _*_, _<_, _≤_}
 use mathlib.Core.Path.{_≡_}
 use mathlib.Core.Bool.{Bool, true, false, cond}
@@ -14,10 +15,10 @@ use Rattle.fulltext.specs.Positions.{limit}
 use Rattle.fulltext.specs.Documents.{work}
 use Rattle.matcher.specs.declared.cursor.Cursor.{Cursor}
 use Rattle.search.specs.declared.walk.Seen.{Seen}
-use Rattle.matcher.specs.Cursors.{listEnd, Stands}
+use Rattle.matcher.specs.Inner.Cursors.{listEnd, Stands}
 use Rattle.plan.specs.Inner.Outline.{varsBefore, Tabled}
-use Rattle.matcher.specs.Tables.{varAt}
-use Rattle.matcher.specs.Settling.{Among, Candidate}
+use Rattle.matcher.specs.Inner.Tables.{varAt}
+use Rattle.matcher.specs.Inner.Settling.{Among, Candidate}
 
 -- the variable behind variable i of n, in turn
 abbrev pub turned : ℕ → ℕ → ℕ
@@ -46,10 +47,11 @@ pub record Aligned (v ends olds : List ℕ) (first n d r : ℕ) (ats : List ℕ)
 
 -- the cursors of pattern k have passed documents below d alone
 abbrev pub Stood : List ℕ → List ℕ → List ℕ → List ℕ → ℕ → ℕ → Type 0
-Stood v p ats ends k d = (x : ℕ) → Among (varsBefore p k) (length (patternAt p k .vars)) x → Stands v (varAt p x) d (getD ats x 0) × (getD ends x 0 ≡ listEnd v (varAt p x))
+Stood v p ats ends k d = (x : ℕ) → Among (varsBefore p k) (length (patternAt p k .vars)) x
+    → Stands v (varAt p x) d (getD ats x 0) × (getD ends x 0 ≡ listEnd v (varAt p x))
 
--- pattern k before it is brought to document d: its cursors have passed documents below d alone, where it has no document yet or one below d;
--- else it stands where it can be found next
+-- pattern k before it is brought to document d: its cursors have passed documents below d alone, where it has no document yet or one
+-- below d; else it stands where it can be found next
 pub record Pending (v p ats ends : List ℕ) (k d r : ℕ) (fresh : Bool) : Type 0 where
   pub due : (fresh ≡ true) ⊎ (r < d) → Stood v p ats ends k d
   pub ahead : fresh ≡ false → d ≤ r → Candidate v p ats ends k d r
@@ -73,8 +75,8 @@ pub record Walks (v p table ends : List ℕ) : Type 0 where
   pub table-room : 4 * sizes p .patterns ≤ length table
   pub ends-room : sizes p .vars ≤ length ends
 
--- a walk that goes on at document `from`: what each pattern waits for, `docs` having a document for each, and a cursor on list 0 that has not
--- passed that document
+-- a walk that goes on at document `from`: what each pattern waits for, `docs` having a document for each, and a cursor on list 0 that
+-- has not passed that document
 pub record Walking (v p ends ats docs : List ℕ) (from : ℕ) (fresh : Bool) (starts : Cursor) : Type 0 where
   pub to : from ≤ limit
   pub docs-length : length docs ≡ sizes p .patterns

@@ -10,7 +10,7 @@ use Rattle.volume.specs.declared.posting.Posting.{Posting}
 use Rattle.volume.specs.Posting.{docOf}
 use Rattle.volume.specs.Layout.{word}
 use Rattle.matcher.specs.declared.cursor.Cursor.{Cursor}
-use Rattle.matcher.specs.Cursors.{seekFrom}
+use Rattle.matcher.specs.Inner.Cursors.{seekFrom}
 use Rattle.search.proofs.Laws.Align.{Leaping, leap-first, leap-stretch, leap-out, leap-here, leap-on, leap-done}
 
 abbrev Inv-loop : tie.InvT-loop
@@ -88,7 +88,9 @@ returns c =
     let sought = c .before in
     let turn = turn-of sought in
     let start = start-of turn in
-    let s = turn .loop .inv .same-length in leap-out _ _ _ _ _ _ (start .pre .1 .1 .1 .1 .1) (turn .loop .d) (turn .loop .i) (turn .loop .standing) (turn .loop .ats) (turn .loop .inv) (sought .before .before .before .loop-test .taken) (omega arith) (c .before .seek .result .at) (at-is (c .before)) (c .if1 .taken)
+    let s = turn .loop .inv .same-length in leap-out _ _ _ _ _ _ (start .pre .1 .1 .1 .1 .1) (turn .loop .d) (turn .loop .i) (turn .loop .standing)
+    (turn .loop .ats) (turn .loop .inv) (sought .before .before .before .loop-test .taken) (omega arith) (c .before .seek .result .at)
+    (at-is (c .before)) (c .if1 .taken)
 
 posting-at-requires : tie.Need-posting-at-requires Inv-loop μ-loop
 posting-at-requires c κs =
@@ -124,7 +126,9 @@ loop-again c =
     let s = turn .loop .inv .same-length in
     let w = here-is (c .before .before) in
     let small = here-small (c .before .before) in
-    rw (c .before .turn .ensures) (leap-here _ _ _ _ _ _ (start .pre .1 .1 .1 .1 .1) (turn .loop .d) (turn .loop .i) (turn .loop .standing) (turn .loop .ats) (turn .loop .inv) (sought .before .before .before .loop-test .taken) (omega arith) (sought .seek .result .at) (at-is (sought)) (c .before .before .before .before .if1 .left) (omega arith))
+    rw (c .before .turn .ensures) (leap-here _ _ _ _ _ _ (start .pre .1 .1 .1 .1 .1) (turn .loop .d) (turn .loop .i) (turn .loop .standing)
+    (turn .loop .ats) (turn .loop .inv) (sought .before .before .before .loop-test .taken) (omega arith) (sought .seek .result .at) (at-is (sought))
+    (c .before .before .before .before .if1 .left) (omega arith))
 
 loop-less-2 : tie.Need-loop-less-2 Inv-loop μ-loop
 loop-less-2 c =
@@ -134,7 +138,9 @@ loop-less-2 c =
     let s = turn .loop .inv .same-length in
     let w = here-is (c .before .before) in
     let small = here-small (c .before .before) in
-    let k = leap-on _ _ _ _ _ _ (start .pre .1 .1 .1 .1 .1) (turn .loop .d) (turn .loop .i) (turn .loop .standing) (turn .loop .ats) (turn .loop .inv) (sought .before .before .before .loop-test .taken) (omega arith) (sought .seek .result .at) (at-is (sought)) (c .before .before .doc .result) (c .before .before .before .before .if1 .left) (omega arith) (c .if2 .left) (omega arith) .0 in
+    let k = leap-on _ _ _ _ _ _ (start .pre .1 .1 .1 .1 .1) (turn .loop .d) (turn .loop .i) (turn .loop .standing) (turn .loop .ats)
+    (turn .loop .inv) (sought .before .before .before .loop-test .taken) (omega arith) (sought .seek .result .at) (at-is (sought))
+    (c .before .before .doc .result) (c .before .before .before .before .if1 .left) (omega arith) (c .if2 .left) (omega arith) .0 in
     omega arith
 
 loop-again-2 : tie.Need-loop-again-2 Inv-loop μ-loop
@@ -145,7 +151,9 @@ loop-again-2 c =
     let s = turn .loop .inv .same-length in
     let w = here-is (c .before .before) in
     let small = here-small (c .before .before) in
-    rw (c .before .turn .ensures) (leap-on _ _ _ _ _ _ (start .pre .1 .1 .1 .1 .1) (turn .loop .d) (turn .loop .i) (turn .loop .standing) (turn .loop .ats) (turn .loop .inv) (sought .before .before .before .loop-test .taken) (omega arith) (sought .seek .result .at) (at-is (sought)) (c .before .before .doc .result) (c .before .before .before .before .if1 .left) (omega arith) (c .if2 .left) (omega arith) .1)
+    rw (c .before .turn .ensures) (leap-on _ _ _ _ _ _ (start .pre .1 .1 .1 .1 .1) (turn .loop .d) (turn .loop .i) (turn .loop .standing)
+    (turn .loop .ats) (turn .loop .inv) (sought .before .before .before .loop-test .taken) (omega arith) (sought .seek .result .at) (at-is (sought))
+    (c .before .before .doc .result) (c .before .before .before .before .if1 .left) (omega arith) (c .if2 .left) (omega arith) .1)
 
 same-length-2 : tie.Need-same-length-2 Inv-loop μ-loop
 same-length-2 c = c .before .loop .inv .same-length

@@ -2,11 +2,9 @@
 use borrow.Author.Needs.{needs}
 use Rattle.search.proofs.listing.list.Statement.{statement}
 use Rattle.search.proofs.listing.list.Tie as tie
-use Prim.Native.Nat.{_+_}
 use native.Mathlib.Omega.{arith}
-use mathlib.Core.Path.{_≡_, sym, ap, _∙_}
+use mathlib.Core.Path.{sym, ap, _∙_}
 use denote.Ref.{now}
-use Rattle.seq.specs.Refusals.{answered}
 use Rattle.plan.specs.Answers.{Sizes, saidChecked}
 use Rattle.plan.specs.Check.{verdict, sizes}
 use Rattle.plan.proofs.Laws.Check.{verdict-sizes}

@@ -1,10 +1,10 @@
 -- The rows of the true documents below `from` are laid, and the walk goes on there (`Visiting`). Each turn ends in an answer or a later document.
 use Rattle.search.proofs.listing.list_docs.Statement.{statement}
 use Rattle.search.proofs.listing.list_docs.Tie as tie
-use Prim.Native.Nat.{ℕ, _+_, _-_, _*_, _/_, _<_, _≤_}
+use Prim.Native.Nat.{_+_, _-_, _/_, _<_, _≤_}
 use native.Mathlib.Omega.{arith}
 use mathlib.Core.Path.{_≡_, refl, sym, _∙_}
-use lib.ListN.{length, take, length-append, length-drop}
+use lib.ListN.{length, take}
 use lib.Seq.{length-take-le}
 use borrow.Author.Tests.{not-true, not-false}
 use denote.Ref.{now}
@@ -83,7 +83,7 @@ div-room : tie.Need-div-room Inv-loop μ-loop
 div-room c = let w = wide c in omega arith
 
 has-samepara-requires : tie.Need-has-samepara-requires Inv-loop μ-loop
-has-samepara-requires c κs = omega arith
+has-samepara-requires c κs = let start = c .before .before .before .before .before .before .before .before in (now (start .args .volume), start .pre .0 .accepted)
 
 starts-of-requires : tie.Need-starts-of-requires Inv-loop μ-loop
 starts-of-requires c κs = given _ _ (c .before .before .before .before .before .before .before .before .before .pre .0 .accepted) .volume-accepted
@@ -169,8 +169,15 @@ loop-again c =
     let found = c .before .before .before in
     let seen = seen-of found in
     let turn = turn-of seen in
-    let start = start-of turn in
-    (visiting-part _ _ _ _ _ _ _ _ _ _ _ _ _ (many start) (visit-passed _ _ _ _ _ _ _ _ _ _ (seen .visit .ensures) _ _ (turn .loop .inv .0 .progress) (inside found) (not-true _ (c .if2 .taken))), (part-length (turn .loop .docs) (seen .visit .last .1 .1 .1 .1 .1 .1 .0) (length (now (start .args .table)) / 4) 8 (docs-size seen) (turn .loop .inv .1 .0), (row-size seen, ats-size seen)))
+    let start = start-of turn in (
+      visiting-part _ _ _ _ _ _ _ _ _ _ _ _ _ (many start)
+          (visit-passed _ _ _ _ _ _ _ _ _ _ (seen .visit .ensures) _ _ (turn .loop .inv .0 .progress) (inside found) (not-true _ (c .if2 .taken))),
+      (
+        part-length (turn .loop .docs) (seen .visit .last .1 .1 .1 .1 .1 .1 .0) (length (now (start .args .table)) / 4) 8 (docs-size seen)
+            (turn .loop .inv .1 .0),
+        (row-size seen, ats-size seen),
+      ),
+    )
 
 tally-requires-2 : tie.Need-tally-requires-2 Inv-loop μ-loop
 tally-requires-2 c κs =
@@ -239,8 +246,17 @@ loop-again-2 c =
     let found = found-of (c .before .before .before .before .before .before) in
     let seen = seen-of found in
     let turn = turn-of seen in
-    let start = start-of turn in
-    (visiting-part _ _ _ _ _ _ _ _ _ _ _ _ _ (many start) (visit-put _ _ _ _ _ _ _ _ _ _ (seen .visit .ensures) _ _ (turn .loop .inv .0 .progress) (inside found) (not-false _ (c .before .before .before .before .before .before .if2 .left)) _ (wide (words-of turn)) (c .before .before .before .before .before .if3 .left) _ (c .before .before .put-row .ensures)), (part-length (turn .loop .docs) (seen .visit .last .1 .1 .1 .1 .1 .1 .0) (length (now (start .args .table)) / 4) 8 (docs-size seen) (turn .loop .inv .1 .0), (row-size seen, ats-size seen)))
+    let start = start-of turn in (
+      visiting-part _ _ _ _ _ _ _ _ _ _ _ _ _ (many start)
+          (visit-put _ _ _ _ _ _ _ _ _ _ (seen .visit .ensures) _ _ (turn .loop .inv .0 .progress) (inside found)
+          (not-false _ (c .before .before .before .before .before .before .if2 .left)) _ (wide (words-of turn))
+          (c .before .before .before .before .before .if3 .left) _ (c .before .before .put-row .ensures)),
+      (
+        part-length (turn .loop .docs) (seen .visit .last .1 .1 .1 .1 .1 .1 .0) (length (now (start .args .table)) / 4) 8 (docs-size seen)
+            (turn .loop .inv .1 .0),
+        (row-size seen, ats-size seen),
+      ),
+    )
 
 pub list-docs-spec : {M : Type 1} → statement M
 list-docs-spec =

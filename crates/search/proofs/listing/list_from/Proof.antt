@@ -2,7 +2,7 @@
 use borrow.Author.Needs.{needs}
 use Rattle.search.proofs.listing.list_from.Statement.{statement}
 use Rattle.search.proofs.listing.list_from.Tie as tie
-use Prim.Native.Nat.{ℕ, _+_, _*_, _≤_}
+use Prim.Native.Nat.{_*_, _≤_}
 use native.Mathlib.Omega.{arith}
 use mathlib.Core.Path.{_≡_, refl, sym, _∙_}
 use lib.ListN.{length, take}

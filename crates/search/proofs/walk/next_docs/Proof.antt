@@ -143,7 +143,9 @@ loop-again-2 c =
     let a = start in
     let l = turn .loop in
     let r = a .pre .1 .0 in
-    bringing-next _ _ _ _ _ _ _ (l .ats) (l .docs) (l .k) (l .inv) (inside (aligned .before .before .before .before)) (now (a .args .table)) (a .pre .0) (omega arith) (c .before .before .align .result) (c .before .before .align .last .1 .0) (due (aligned .before .before .before .before)) (c .before .before .align .ensures)
+    bringing-next _ _ _ _ _ _ _ (l .ats) (l .docs) (l .k) (l .inv) (inside (aligned .before .before .before .before)) (now (a .args .table))
+    (a .pre .0) (omega arith) (c .before .before .align .result) (c .before .before .align .last .1 .0)
+    (due (aligned .before .before .before .before)) (c .before .before .align .ensures)
 
 same-length : tie.Need-same-length Inv-loop μ-loop
 same-length c = c .before .loop .inv .ats-length

@@ -7,12 +7,7 @@ use native.Mathlib.Omega.{arith}
 use mathlib.Core.Path.{_≡_, _∙_}
 use lib.ListN.{length}
 use denote.Ref.{now}
-use Rattle.volume.specs.Layout.{listsOf}
 use Rattle.plan.specs.Check.{sizes}
-use Rattle.plan.specs.Accepted.{patternAt}
-use Rattle.plan.proofs.Laws.Accepted.{given}
-use Rattle.fulltext.specs.Documents.{found}
-use Rattle.search.proofs.Laws.Filling.{flag-small}
 use Rattle.search.proofs.Laws.Seen.{seen-from, seen-ready, seen-true, seen-out, seen-in, starts-later, starts-stretch}
 
 -- the places that the answers speak of, each from the one behind it
@@ -26,10 +21,10 @@ abbrev least-of : tie.After-bring-starts → tie.After-least-of
 least-of c = c .before .before .before
 
 abbrev brought-of : tie.After-fill-row → tie.After-bring-starts
-brought-of c = c .before .before .before .before .before
+brought-of c = c .before .before .before .before
 
 abbrev filled-of : tie.After-answer-of → tie.After-fill-row
-filled-of c = c .before .before .before .before .before
+filled-of c = c .before .before .before
 
 -- it is not in front of the document that was reached
 from-doc : (c : tie.After-least-of) → start-of (docs-of c) .args .walk .from ≤ c .least-of .result
@@ -80,33 +75,25 @@ bring-starts-requires c κs =
     let least = c .before .before in
     let start = start-of (docs-of least) in
     let w = start .pre .1 .0 in
-    (starts-later _ _ _ _ _ (from-doc least) (w .starts-at), (w .starts-end, starts-stretch _ _ _ _ (start .pre .0) (start .args .walk .from) (start .args .walk .starts) (w .starts-at) (w .starts-end)))
-
-slice-aggregate-fill-row : tie.Need-slice-aggregate-fill-row
-slice-aggregate-fill-row c = search needs
+    let stretch = starts-stretch _ _ _ _ (start .pre .0) (start .args .walk .from) (start .args .walk .starts) (w .starts-at) (w .starts-end) in
+    (starts-later _ _ _ _ _ (from-doc least) (w .starts-at), (w .starts-end, stretch))
 
 fill-row-requires : tie.Need-fill-row-requires
 fill-row-requires c κs =
-    let brought = c .before .before .before .before in
+    let brought = c .before .before .before in
     let least = least-of brought in
     let docs = docs-of least in
     let start = start-of docs in
-    let s = size docs in
-    let m = given _ _ (start .pre .0 .accepted) .most-patterns in
     let cursor = brought .bring-starts .ensures in
-    (s, (omega arith, (omega arith, (start .pre .1 .1, λ k h. seen-ready _ _ _ _ (start .pre .0) _ _ _ _ _ _ (docs .next-docs .ensures) (least .least-of .ensures) (start .pre .1 .0 .docs-length) (inside (brought .before)) (brought .bring-starts .result) (cursor .0) (cursor .1) (room docs) k (omega arith)))))
-
-slice-aggregate-answer-of : tie.Need-slice-aggregate-answer-of
-slice-aggregate-answer-of c = search needs
+    let ready =
+    seen-ready _ _ _ _ (start .pre .0) _ _ _ _ _ _ (docs .next-docs .ensures) (least .least-of .ensures) (start .pre .1 .0 .docs-length)
+    (inside (c .before .before .before .before)) (brought .bring-starts .result) (cursor .0) (cursor .1) (room docs) in
+    (size docs, (start .pre .0 .table-room, (start .pre .1 .1, ready)))
 
 answer-of-requires : tie.Need-answer-of-requires
 answer-of-requires c κs =
-    let filled = c .before .before .before .before in
-    let least = least-of (brought-of filled) in
-    let start = start-of (docs-of least) in
-    let m = given _ _ (start .pre .0 .accepted) .most-patterns in
-    let f = filled .fill-row .ensures .1 .0 in
-    ((now (start .args .volume), start .pre .0 .accepted), (omega arith, λ k h. rw (filled .fill-row .ensures .1 .1 .1 k h) (flag-small (found (listsOf (now (start .args .volume))) (least .least-of .result) (patternAt (now (start .args .plan)) k)))))
+    let start = c .before .before .before .before .before .before .before .before .before .before .before .before .before .before .before .before .before .before .before .before .before .before .before .before .before in
+    (now (start .args .volume), start .pre .0 .accepted)
 
 same-length-3 : tie.Need-same-length-3
 same-length-3 c = search needs
@@ -124,10 +111,11 @@ returns-2 c =
     let least = least-of brought in
     let docs = docs-of least in
     let start = start-of docs in
-    let e = filled .fill-row .ensures .1 .1 in
+    let e = filled .fill-row .ensures in
     let cursor = brought .bring-starts .ensures in
+    let truth = seen-true (now (start .args .volume)) (now (start .args .plan)) (filled .fill-row .result) (least .least-of .result) (c .answer-of .result) (c .answer-of .ensures) (e .1) in
     seen-in _ _ _ _ (start .pre .0) _ _ _ _ _ _ (docs .next-docs .ensures) (least .least-of .ensures) (start .pre .1 .0 .docs-length) _ _ _
-    (seen-true _ _ (filled .fill-row .last .1 .1 .1 .1 .1 .1 .1 .1 .1 .1 .0) (least .least-of .result) _ (c .answer-of .ensures) (e .1)) (e .0) (cursor .0) (cursor .1) (room docs)
+    truth (e .0) (cursor .0) (cursor .1) (room docs)
 
 pub visit-spec : {M : Type 1} → statement M
 visit-spec =
@@ -139,9 +127,7 @@ visit-spec =
     same-length-2
     returns
     bring-starts-requires
-    slice-aggregate-fill-row
     fill-row-requires
-    slice-aggregate-answer-of
     answer-of-requires
     same-length-3
     same-length-4
