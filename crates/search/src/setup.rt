@@ -9,6 +9,8 @@ ghost use Rattle.plan.specs.Check.{Accepted, sizes};
 ghost use Rattle.plan.specs.Inner.Outline.{Tabled};
 ghost use Rattle.matcher.specs.Inner.Tables.{cursorOn, Cursors};
 use matcher::Cursor;
+use plan::list_at;
+use plan::outline_at;
 
 // The cursor on a list at its first posting in document `doc` or a later one.
 fn cursor_on(volume: &[u8], list: usize, doc: u32) -> Cursor
@@ -45,14 +47,14 @@ pub fn set_cursors(
 {
     let mut k: usize = 0;
     while k < patterns {
-        let at = 4 * k;
-        let first = table[at];
-        let count = table[at + 1];
-        let row = table[at + 2] - count;
+        let outline = outline_at(table, k);
+        let first = outline.first;
+        let count = outline.vars;
+        let row = outline.condition - count;
         let mut i: usize = 0;
         while i < count {
-            let list = plan[4 * (row + i) + 1] as usize;
-            let cursor = cursor_on(volume, list, start);
+            let list = list_at(plan, row + i);
+            let cursor = cursor_on(volume, list as usize, start);
             ats[first + i] = cursor.at;
             ends[first + i] = cursor.end;
             i += 1;

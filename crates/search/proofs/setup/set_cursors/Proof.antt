@@ -1,23 +1,27 @@
 -- `setup::set_cursors` meets its contract. The invariants: of the outer loop, the variables of the first k patterns have their cursors; of the
 -- inner loop, so have the first i of pattern k. The measures are what is left of the patterns, and of the pattern's variables. Assumes nothing.
 use native.Mathlib.Omega.{arith}
-use Prim.Native.Nat.{ℕ, _+_, _-_, _*_, _≤_}
+use Prim.Native.Nat.{ℕ, _+_, _-_, _<_, _≤_}
 use mathlib.Core.Path.{_≡_, sym, ap, _∙_}
+use mathlib.Core.List.{List}
 use lib.ListN.{length, getD}
 use denote.Ref.{now}
+use Rattle.plan.specs.declared.outline.Outline.{Outline}
+use Rattle.plan.specs.Check.{sizes}
+use Rattle.plan.specs.Accepted.{patternAt}
+use Rattle.plan.specs.Inner.Outline.{varsBefore, outlineAt, Entry, Tabled}
 use Rattle.plan.proofs.Laws.Accepted.{given}
-use Rattle.plan.specs.Inner.Outline.{varsBefore}
+use Rattle.plan.proofs.Laws.Outline.{varsBefore-next}
 use Rattle.matcher.specs.Inner.Tables.{cursorOn}
-use Rattle.plan.proofs.Laws.Outline.{EntryAt, varsBefore-next}
-use Rattle.matcher.proofs.Laws.Placed.{VoicedAt, voiced, Placing, placing-first, placing-as, placing-next, placing-done}
+use Rattle.matcher.proofs.Laws.Placed.{Voiced, voiced, voiced-list, Placing, placing-first, placing-as, placing-next, placing-done}
 use Rattle.search.proofs.setup.set_cursors.Statement.{statement}
 use Rattle.search.proofs.setup.set_cursors.Tie as tie
 
 abbrev Inv-loop2 : tie.InvT-loop2
-Inv-loop2 volume plan patterns table start ats₀ ends₀ k at first count row i₀ ats ends i = (i ≤ count) × Placing volume plan start (length ats₀) (length ends₀) ats ends (first + i)
+Inv-loop2 volume plan patterns table start ats₀ ends₀ k first count row i₀ ats ends i = (i ≤ count) × Placing volume plan start (length ats₀) (length ends₀) ats ends (first + i)
 
 abbrev μ-loop2 : tie.MeasureT-loop2
-μ-loop2 volume plan patterns table start ats₀ ends₀ k at first count row i₀ ats ends i = count - i
+μ-loop2 volume plan patterns table start ats₀ ends₀ k first count row i₀ ats ends i = count - i
 
 abbrev Inv-loop : tie.InvT-loop
 Inv-loop volume plan patterns table start ats₀ ends₀ k₀ ats ends k = (k ≤ patterns) × Placing volume plan start (length ats₀) (length ends₀) ats ends (varsBefore plan k)
@@ -25,133 +29,96 @@ Inv-loop volume plan patterns table start ats₀ ends₀ k₀ ats ends k = (k �
 abbrev μ-loop : tie.MeasureT-loop
 μ-loop volume plan patterns table start ats₀ ends₀ k₀ ats ends k = patterns - k
 
--- the entry of a pattern, which a turn reads
-entry : (c : tie.After-shared-slice-known6 Inv-loop2 μ-loop2 Inv-loop μ-loop) → EntryAt (now (c .before .before .before .before .before .before .before .before .before .before .args .plan)) (now (c .before .before .before .before .before .before .before .before .before .before .args .table)) (c .before .before .before .before .loop .k)
-entry c = c .before .before .before .before .before .before .before .before .before .before .pre .1 .1 .0 (c .before .before .before .before .loop .k) (omega arith)
+-- the outline of pattern k, as a turn reads it
+record Outlined (p : List ℕ) (k : ℕ) (o : Outline) : Type 0 where
+  entry : Entry p o
+  there : o .pattern < sizes p .patterns
+  room : o .vars ≤ o .condition
+  first-is : o .first ≡ varsBefore p k
+  vars-are : o .vars ≡ length (patternAt p k .vars)
+
+outlined : (p table : List ℕ) → Tabled p table → (k : ℕ) → k < sizes p .patterns → (o : Outline) → o ≡ outlineAt table k → Outlined p k o
+outlined p table t k h o e = rw e (record { entry = t k h; there = h; room = t k h .room; first-is = t k h .first-is; vars-are = t k h .vars-are })
+
+outline : (c : tie.After-struct-known Inv-loop2 μ-loop2 Inv-loop μ-loop) → Outlined (now (c .before .before .before .before .before .before .before .before .before .args .plan)) (c .before .before .before .loop .k) (c .before .outline-at .result)
+outline c =
+    let s = c .before .before .before .before .before .before .before .before .before in
+    outlined (now (s .args .plan)) (now (s .args .table)) (s .pre .1 .1 .0) (c .before .before .before .loop .k) (omega arith) (c .before .outline-at .result) (c .before .outline-at .ensures)
 
 -- the VOICE row of a variable, which an inner turn reads
-turn : (c : tie.In-loop2 Inv-loop2 μ-loop2 Inv-loop μ-loop) → VoicedAt (now (c .before .before .before .before .before .before .before .before .before .before .before .before .args .volume)) (now (c .before .before .before .before .before .before .before .before .before .before .before .before .args .plan)) (now (c .before .before .before .before .before .before .before .before .before .before .before .before .args .table)) (c .before .before .before .before .before .before .loop .k) (c .before .loop2 .i)
+turn :
+    (c : tie.In-loop2 Inv-loop2 μ-loop2 Inv-loop μ-loop)
+    → Voiced (now (c .before .before .before .before .before .before .before .before .before .before .before .args .volume)) (now (c .before .before .before .before .before .before .before .before .before .before .before .args .plan))
+    (c .before .before .before .outline-at .result .condition - c .before .before .before .outline-at .result .vars + c .before .loop2 .i)
+    (c .before .before .before .outline-at .result .first + c .before .loop2 .i)
+    (getD (patternAt (now (c .before .before .before .before .before .before .before .before .before .before .before .args .plan)) (c .before .before .before .outline-at .result .pattern) .vars) (c .before .loop2 .i) 0)
 turn c =
-    let k = c .before .before .before .before .before .before .loop .k in
-    let a = c .before .before .before .before .before .before .before .before .before .before .before .before .args in
-    let n = now (a .table) in
-    voiced (now (a .volume)) (now (a .plan)) (c .before .before .before .before .before .before .before .before .before .before .before .before .pre .0) k (omega arith) (getD n (4 * k) 0) (getD n (4 * k + 1) 0) (getD n (4 * k + 2) 0) (getD n (4 * k + 3) 0) (entry (c .before .before)) (c .before .loop2 .i) (omega arith)
+    let s = c .before .before .before .before .before .before .before .before .before .before .before in
+    let o = outline (c .before .before) in
+    voiced (now (s .args .volume)) (now (s .args .plan)) (s .pre .0) (c .before .before .before .outline-at .result) (o .there) (o .entry) (c .before .loop2 .i) (omega arith)
 
 loop-holds : tie.Need-loop-holds Inv-loop2 μ-loop2 Inv-loop μ-loop
-loop-holds c = let a = c .before .before .before .before .before .args in (omega arith, placing-first (now (a .volume)) (now (a .plan)) (a .start) (now (a .ats)) (now (a .ends)))
+loop-holds c =
+    let a = c .before .before .before .before .before .args in
+    (omega arith, placing-first (now (a .volume)) (now (a .plan)) (a .start) (now (a .ats)) (now (a .ends)))
 
-mul-at : tie.Need-mul-at Inv-loop2 μ-loop2 Inv-loop μ-loop
-mul-at c = omega arith
-
-mul-first : tie.Need-mul-first Inv-loop2 μ-loop2 Inv-loop μ-loop
-mul-first c = omega arith
-
-shared-slice-read-first : tie.Need-shared-slice-read-first Inv-loop2 μ-loop2 Inv-loop μ-loop
-shared-slice-read-first c = omega arith
-
-add-count : tie.Need-add-count Inv-loop2 μ-loop2 Inv-loop μ-loop
-add-count c = omega arith
-
-mul-count : tie.Need-mul-count Inv-loop2 μ-loop2 Inv-loop μ-loop
-mul-count c = omega arith
-
-shared-slice-read-count : tie.Need-shared-slice-read-count Inv-loop2 μ-loop2 Inv-loop μ-loop
-shared-slice-read-count c = omega arith
-
-add-row : tie.Need-add-row Inv-loop2 μ-loop2 Inv-loop μ-loop
-add-row c = omega arith
-
-mul-row : tie.Need-mul-row Inv-loop2 μ-loop2 Inv-loop μ-loop
-mul-row c = omega arith
-
-shared-slice-read-row : tie.Need-shared-slice-read-row Inv-loop2 μ-loop2 Inv-loop μ-loop
-shared-slice-read-row c = omega arith
+outline-at-requires : tie.Need-outline-at-requires Inv-loop2 μ-loop2 Inv-loop μ-loop
+outline-at-requires c κs = omega arith
 
 sub-row : tie.Need-sub-row Inv-loop2 μ-loop2 Inv-loop μ-loop
-sub-row c =
-    let e = entry c in
-    omega arith
+sub-row c = let o = outline c .room in omega arith
 
 loop2-holds : tie.Need-loop2-holds Inv-loop2 μ-loop2 Inv-loop μ-loop
 loop2-holds c =
-    let l = c .before .before .before .before .loop in
-    let a = c .before .before .before .before .before .before .before .before .before .before .args in
+    let l = c .before .before .before .loop in
+    let a = c .before .before .before .before .before .before .before .before .before .args in
     let p = now (a .plan) in
-    let n = now (a .table) in
-    (omega arith, placing-as (now (a .volume)) p (a .start) (length (now (a .ats))) (length (now (a .ends))) (varsBefore p (l .k)) (length (l .ats)) (length (l .ends)) (getD n (4 * l .k) 0 + 0) (l .ats) (l .ends) (l .inv .1) (sym (l .inv .1 .same-ats)) (sym (l .inv .1 .same-ends)) (let f = entry c .first-is in omega arith))
+    let first = c .before .outline-at .result .first in
+    let f = outline c .first-is in
+    (omega arith, placing-as (now (a .volume)) p (a .start) (length (now (a .ats))) (length (now (a .ends))) (varsBefore p (l .k)) (length (l .ats)) (length (l .ends)) (first + 0) (l .ats) (l .ends) (l .inv .1) (sym (l .inv .1 .same-ats)) (sym (l .inv .1 .same-ends)) (omega arith))
 
-add-list : tie.Need-add-list Inv-loop2 μ-loop2 Inv-loop μ-loop
-add-list c =
-    let t = turn c in
+add-list-at : tie.Need-add-list-at Inv-loop2 μ-loop2 Inv-loop μ-loop
+add-list-at c =
+    let t = turn c .inside in
+    let g = given _ _ (c .before .before .before .before .before .before .before .before .before .before .before .pre .0) .most-rows in
     omega arith
 
-mul-list : tie.Need-mul-list Inv-loop2 μ-loop2 Inv-loop μ-loop
-mul-list c =
-    let t = turn c in
-    omega arith
+list-at-requires : tie.Need-list-at-requires Inv-loop2 μ-loop2 Inv-loop μ-loop
+list-at-requires c κs = let t = turn c in (t .inside, (t .formed, (_, t .kind-is)))
 
-add-list-2 : tie.Need-add-list-2 Inv-loop2 μ-loop2 Inv-loop μ-loop
-add-list-2 c =
-    let t = turn c in
-    omega arith
-
-mul-list-2 : tie.Need-mul-list-2 Inv-loop2 μ-loop2 Inv-loop μ-loop
-mul-list-2 c =
-    let t = turn c in
-    let g = given _ _ (c .before .before .before .before .before .before .before .before .before .before .before .before .pre .0) in
-    omega arith
-
-shared-slice-read-list : tie.Need-shared-slice-read-list Inv-loop2 μ-loop2 Inv-loop μ-loop
-shared-slice-read-list c =
-    let t = turn (c .before) in
-    let g = given _ _ (c .before .before .before .before .before .before .before .before .before .before .before .before .before .pre .0) in
-    omega arith
-
-cast-list : tie.Need-cast-list Inv-loop2 μ-loop2 Inv-loop μ-loop
-cast-list c =
-    let k = c .before .before .before .before .before .before .before .loop .k in
-    let n = now (c .before .before .before .before .before .before .before .before .before .before .before .before .before .args .table) in
-    omega (arith, c .shared-slice-known7 .given (4 * (getD n (4 * k + 2) 0 - getD n (4 * k + 1) 0 + c .before .before .loop2 .i) + 1))
+cast-cursor-on : tie.Need-cast-cursor-on Inv-loop2 μ-loop2 Inv-loop μ-loop
+cast-cursor-on c = omega arith
 
 cursor-on-requires : tie.Need-cursor-on-requires Inv-loop2 μ-loop2 Inv-loop μ-loop
 cursor-on-requires c κs =
-    let g = given _ _ (c .before .before .before .before .before .before .before .before .before .before .before .before .before .pre .0) in
-    (g .volume-accepted, turn (c .before) .there)
+    let g = given _ _ (c .before .before .before .before .before .before .before .before .before .before .before .before .pre .0) in
+    let t = turn (c .before) in
+    (g .volume-accepted, rw (voiced-list t (c .list-at .result) (c .list-at .ensures)) (t .there))
+
+-- each variable has its place in the two buffers
+room : (c : tie.After-cursor-on Inv-loop2 μ-loop2 Inv-loop μ-loop) → c .before .before .before .before .before .outline-at .result .first + c .before .before .before .loop2 .i < 51
+room c = turn (c .before .before) .few
 
 add-ats : tie.Need-add-ats Inv-loop2 μ-loop2 Inv-loop μ-loop
-add-ats c =
-    let t = turn (c .before .before) in
-    omega arith
+add-ats c = let t = room c in omega arith
 
 mul-ats : tie.Need-mul-ats Inv-loop2 μ-loop2 Inv-loop μ-loop
-mul-ats c =
-    let t = turn (c .before .before) in
-    omega arith
+mul-ats c = let t = room c in omega arith
 
 slice-write-ats : tie.Need-slice-write-ats Inv-loop2 μ-loop2 Inv-loop μ-loop
-slice-write-ats c =
-    let t = turn (c .before .before) in
-    omega arith
+slice-write-ats c = let t = room c in omega arith
 
 add-ends : tie.Need-add-ends Inv-loop2 μ-loop2 Inv-loop μ-loop
-add-ends c =
-    let t = turn (c .before .before) in
-    omega arith
+add-ends c = let t = room c in omega arith
 
 mul-ends : tie.Need-mul-ends Inv-loop2 μ-loop2 Inv-loop μ-loop
-mul-ends c =
-    let t = turn (c .before .before) in
-    omega arith
+mul-ends c = let t = room c in omega arith
 
 slice-write-ends : tie.Need-slice-write-ends Inv-loop2 μ-loop2 Inv-loop μ-loop
-slice-write-ends c =
-    let t = turn (c .before .before) in
-    omega arith
+slice-write-ends c = let t = room c in omega arith
 
 add-i : tie.Need-add-i Inv-loop2 μ-loop2 Inv-loop μ-loop
-add-i c =
-    let t = turn (c .before .before) in
-    omega arith
+add-i c = let t = room c in omega arith
 
 loop2-less : tie.Need-loop2-less Inv-loop2 μ-loop2 Inv-loop μ-loop
 loop2-less c = omega arith
@@ -159,13 +126,19 @@ loop2-less c = omega arith
 loop2-again : tie.Need-loop2-again Inv-loop2 μ-loop2 Inv-loop μ-loop
 loop2-again c =
     let l = c .before .before .before .loop2 in
-    let outer = c .before .before .before .before .before .before .before .before .loop in
-    let a = c .before .before .before .before .before .before .before .before .before .before .before .before .before .before .args in
+    let outer = c .before .before .before .before .before .before .before .loop in
+    let a = c .before .before .before .before .before .before .before .before .before .before .before .before .before .args in
     let v = now (a .volume) in
     let t = turn (c .before .before) in
-    let x = getD (now (a .table)) (4 * outer .k) 0 + l .i in
-    let e : x + 1 ≡ getD (now (a .table)) (4 * outer .k) 0 + (l .i + 1) = omega arith in
-    (omega arith, rw e at (placing-next v (now (a .plan)) (a .start) (length (outer .ats)) (length (outer .ends)) (l .ats) (l .ends) x (l .inv .1) (omega arith) (omega arith) (c .cursor-on .result) (c .cursor-on .ensures ∙ ap (λ (list : ℕ). cursorOn v list (a .start)) (t .list-is))))
+    let few = room c in
+    let rooms = c .before .before .before .before .before .before .before .before .before .before .before .before .before .pre .1 .1 .1 .1 .1 in
+    let ats-same = outer .inv .1 .same-ats in
+    let ends-same = outer .inv .1 .same-ends in
+    let x = c .before .before .before .before .before .outline-at .result .first + l .i in
+    let list = voiced-list t (c .before .list-at .result) (c .before .list-at .ensures) ∙ t .var-is in
+    let e : x + 1 ≡ c .before .before .before .before .before .outline-at .result .first + (l .i + 1) = omega arith in
+    let next = placing-next v (now (a .plan)) (a .start) (length (outer .ats)) (length (outer .ends)) (l .ats) (l .ends) x (l .inv .1) in
+    (omega arith, rw e at (next (omega (arith, few, rooms .0, ats-same)) (omega (arith, few, rooms .1, ends-same)) (c .cursor-on .result) (c .cursor-on .ensures ∙ ap (λ (list : ℕ). cursorOn v list (a .start)) list)))
 
 add-k : tie.Need-add-k Inv-loop2 μ-loop2 Inv-loop μ-loop
 add-k c = omega arith
@@ -176,12 +149,14 @@ loop-less c = omega arith
 loop-again : tie.Need-loop-again Inv-loop2 μ-loop2 Inv-loop μ-loop
 loop-again c =
     let l = c .before .loop2 in
-    let outer = c .before .before .before .before .before .before .loop in
-    let a = c .before .before .before .before .before .before .before .before .before .before .before .before .args in
+    let outer = c .before .before .before .before .before .loop in
+    let a = c .before .before .before .before .before .before .before .before .before .before .before .args in
     let p = now (a .plan) in
-    let e = entry (c .before .before) in
+    let f = outline (c .before .before) .first-is in
+    let m = outline (c .before .before) .vars-are in
     let next = varsBefore-next p (outer .k) (omega arith) in
-    (omega arith, placing-as (now (a .volume)) p (a .start) (length (outer .ats)) (length (outer .ends)) (getD (now (a .table)) (4 * outer .k) 0 + l .i) (length (now (a .ats))) (length (now (a .ends))) (varsBefore p (outer .k + 1)) (l .ats) (l .ends) (l .inv .1) (outer .inv .1 .same-ats) (outer .inv .1 .same-ends) (let f = e .first-is in let m = e .vars-are in omega arith))
+    let first = c .before .before .before .outline-at .result .first in
+    (omega arith, placing-as (now (a .volume)) p (a .start) (length (outer .ats)) (length (outer .ends)) (first + l .i) (length (now (a .ats))) (length (now (a .ends))) (varsBefore p (outer .k + 1)) (l .ats) (l .ends) (l .inv .1) (outer .inv .1 .same-ats) (outer .inv .1 .same-ends) (omega arith))
 
 same-length : tie.Need-same-length Inv-loop2 μ-loop2 Inv-loop μ-loop
 same-length c = c .before .loop .inv .1 .same-ats
@@ -204,23 +179,12 @@ set-cursors-spec =
     Inv-loop
     μ-loop
     loop-holds
-    mul-at
-    mul-first
-    shared-slice-read-first
-    add-count
-    mul-count
-    shared-slice-read-count
-    add-row
-    mul-row
-    shared-slice-read-row
+    outline-at-requires
     sub-row
     loop2-holds
-    add-list
-    mul-list
-    add-list-2
-    mul-list-2
-    shared-slice-read-list
-    cast-list
+    add-list-at
+    list-at-requires
+    cast-cursor-on
     cursor-on-requires
     add-ats
     mul-ats
