@@ -3,6 +3,8 @@
 --     Numbers    firstFrom, run, sumTo: a test's first index, a function's values as a list, and their sum
 --     Refusals   Said, laid, FirstRefusalOf, stageIn, FirstRefusal: what a call answers, what it leaves in a lent buffer, and which refusal
 --                comes first
+--     Pages      Portion, portion: what is written of a list of which only so many fit, and the first one left
 pub mod Lists
 pub mod Numbers
 pub mod Refusals
+pub mod Pages
