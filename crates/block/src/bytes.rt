@@ -7,7 +7,8 @@ ghost use Rattle.block.specs.Bytes.{le16, le32, bytes16, bytes32};
 
 // A byte as a wider number.
 pub fn wide(x: u8) -> u32
-    ensures { λ r. ⌜ (r ≡ x) × (r ≤ 255) ⌝ }
+    ensures { λ r. ⌜ r ≡ x ⌝ }
+    ensures { λ r. ⌜ r ≤ 255 ⌝ }
 {
     x as u32
 }

@@ -63,7 +63,8 @@ fn zeros() -> Row
 
 // Eight bytes as a row.
 fn lanes(a: u8, b: u8, c: u8, d: u8, e: u8, f: u8, g: u8, h: u8) -> Row
-    ensures { λ r. ⌜ (r ≡ record { a = a; b = b; c = c; d = d; e = e; f = f; g = g; h = h }) × AtMost 255 r ⌝ }
+    ensures { λ r. ⌜ r ≡ record { a = a; b = b; c = c; d = d; e = e; f = f; g = g; h = h } ⌝ }
+    ensures { λ r. ⌜ AtMost 255 r ⌝ }
 {
     Row {
         a: a as u16,
@@ -80,7 +81,8 @@ fn lanes(a: u8, b: u8, c: u8, d: u8, e: u8, f: u8, g: u8, h: u8) -> Row
 // The eight bytes at `at`.
 fn row_at(s: &[u8], at: usize) -> Row
     requires { ⌜ at + 8 ≤ length (now s) ⌝ }
-    ensures { λ r. ⌜ (r ≡ rowAt (now (s .entry)) at) × AtMost 255 r ⌝ }
+    ensures { λ r. ⌜ r ≡ rowAt (now (s .entry)) at ⌝ }
+    ensures { λ r. ⌜ AtMost 255 r ⌝ }
 {
     lanes(
         s[at],
@@ -149,7 +151,8 @@ fn slope(x: Row) -> u32
 
 // Seven rows from `at` on, with `near` from `first` on.
 fn seven_rows(s: &[u8], at: usize, first: Row) -> Seven
-    requires { ⌜ (at + 56 ≤ length (now s)) × AtMost 57120 first ⌝ }
+    requires { ⌜ at + 56 ≤ length (now s) ⌝ }
+    requires { ⌜ AtMost 57120 first ⌝ }
     ensures { λ r. ⌜ Rows (now (s .entry)) at first 7 (r .more) (r .near) ⌝ }
 {
     let mut more = zeros();
@@ -166,7 +169,9 @@ fn seven_rows(s: &[u8], at: usize, first: Row) -> Seven
 // Three times seven rows, from the i-th seven on: as many as a compiler unrolls whole, which the
 // lanes need to stay in vectors.
 fn three_sevens(s: &[u8], i: usize, t: Part) -> Part
-    requires { ⌜ (length (now s) ≡ 508) × (i ≤ 6) × Sevens (now s) i t ⌝ }
+    requires { ⌜ length (now s) ≡ 508 ⌝ }
+    requires { ⌜ i ≤ 6 ⌝ }
+    requires { ⌜ Sevens (now s) i t ⌝ }
     ensures { λ r. ⌜ Sevens (now (s .entry)) (i + 3) r ⌝ }
 {
     let mut all = t.all;
@@ -187,8 +192,10 @@ fn three_sevens(s: &[u8], i: usize, t: Part) -> Part
 
 // The sums over the four bytes of the block's number, with the 1 of A and the 508 of B.
 fn head(a: u8, b: u8, c: u8, d: u8) -> Sums
-    ensures { λ r. ⌜ (r .a ≡ 1 + a + b + c + d) × (r .a ≤ 1021) ⌝ }
-    ensures { λ r. ⌜ (r .b ≡ 508 + 508 * a + 507 * b + 506 * c + 505 * d) × (r .b ≤ 517138) ⌝ }
+    ensures { λ r. ⌜ r .a ≡ 1 + a + b + c + d ⌝ }
+    ensures { λ r. ⌜ r .a ≤ 1021 ⌝ }
+    ensures { λ r. ⌜ r .b ≡ 508 + 508 * a + 507 * b + 506 * c + 505 * d ⌝ }
+    ensures { λ r. ⌜ r .b ≤ 517138 ⌝ }
 {
     Sums {
         a: 1 + wide(a) + wide(b) + wide(c) + wide(d),
@@ -199,7 +206,8 @@ fn head(a: u8, b: u8, c: u8, d: u8) -> Sums
 // The checksum of 508 bytes.
 fn checksum(s: &[u8]) -> Sums
     requires { ⌜ length (now s) ≡ 508 ⌝ }
-    ensures { λ r. ⌜ (r .a ≡ checkA (now (s .entry))) × (r .b ≡ checkB (now (s .entry))) ⌝ }
+    ensures { λ r. ⌜ r .a ≡ checkA (now (s .entry)) ⌝ }
+    ensures { λ r. ⌜ r .b ≡ checkB (now (s .entry)) ⌝ }
 {
     let zero = zeros();
     let start = Part {

@@ -1,4 +1,11 @@
 -- The laws of `specs/`. No contract cites these files.
+--     Positions    the positions of a document in a list, and membership
+--     Needs        what each predicate says and needs
+--     Least        the first match of a pattern is its least match
+--     Calculus     the tests that compute and the calculus of document 000 agree
+--     Skips        documents in which nothing is found
+--     Counts       the words of a row, and the postings of a stretch of documents
+--     Docs         the true documents of a stretch, and their rows
 pub mod Positions
 pub mod Needs
 pub mod Least

@@ -1,4 +1,17 @@
 -- The laws of `specs/`. No contract cites these files.
+--     Volume        the lists of an accepted volume as stretches of its stream
+--     Cursors       where cursors stand, and how they move
+--     Paragraphs    the start of a position's paragraph
+--     Shortfall     what each predicate tells of the positions
+--     Placed        the list of each variable of a plan, and a cursor for each
+--     Settling      how a pattern's variables come to its least match
+--     Tried         the search for it, predicate by predicate
+--     Settled       a pattern that stands in a document, from its cursors to what is shown of it
+--     Testing       what testing positions finds
+--     TestFirst     testing answers the first refusal that applies
+--     Tests         testing and the calculus of document 000
+--     Stages        the refusals of a volume and a plan, by their numbers
+--     Answers       an answer is known from its number and values
 pub mod Volume
 pub mod Cursors
 pub mod Paragraphs

@@ -2,7 +2,7 @@
 ghost use mathlib.Core.Path.{_≡_};
 ghost use Prim.Native.Nat.{_+_, _*_, _<_, _≤_};
 ghost use Rattle.volume.specs.Check as volumes;
-ghost use Rattle.matcher.specs.Cursors.{seekFrom, listCursor, Stretch, sought, Forward};
+ghost use Rattle.matcher.specs.Inner.Cursors.{seekFrom, listCursor, Stretch, sought, Forward};
 
 // A place in a posting list: a stream index, and the index behind the list.
 pub struct Cursor {

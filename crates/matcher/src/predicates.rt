@@ -12,8 +12,8 @@ ghost use Rattle.plan.specs.declared.row.Predicate.the-variants.{Distance, Orde
 ghost use Rattle.plan.specs.declared.row.Kind.the-variants as kind;
 ghost use Rattle.fulltext.specs.Matches.{startsIn};
 ghost use Rattle.fulltext.specs.Inner.Paragraphs.{paraStart};
-ghost use Rattle.matcher.specs.Shortfall.{InDocument, Told};
-ghost use Rattle.matcher.specs.Cursors.{AtDocument};
+ghost use Rattle.matcher.specs.Inner.Shortfall.{InDocument, Told};
+ghost use Rattle.matcher.specs.Inner.Cursors.{AtDocument};
 use super::cursor::Document;
 use plan::Predicate;
 

@@ -2,8 +2,8 @@
 ghost use mathlib.Core.Path.{_≡_};
 ghost use Prim.Native.Nat.{ℕ, _+_, _<_, _≤_};
 ghost use lib.ListN.{length, getD};
-ghost use Rattle.matcher.specs.Cursors.{Stretch};
-ghost use Rattle.matcher.specs.Settling.{Among};
+ghost use Rattle.matcher.specs.Inner.Cursors.{Stretch};
+ghost use Rattle.matcher.specs.Inner.Settling.{Among};
 ghost use Rattle.search.specs.Inner.Walk.{Aligned, turned};
 use matcher::Cursor;
 

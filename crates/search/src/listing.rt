@@ -9,7 +9,7 @@ ghost use Rattle.plan.specs.Check.{Accepted, sizes};
 ghost use Rattle.fulltext.specs.Documents.{postingsIn};
 ghost use Rattle.search.specs.Answers.{saidListed};
 ghost use Rattle.search.specs.Search.{Kept};
-ghost use Rattle.matcher.specs.Tables.{Cursors};
+ghost use Rattle.matcher.specs.Inner.Tables.{Cursors};
 ghost use Rattle.search.specs.Inner.Walk.{Walks};
 use super::answers::Listed;
 use super::setup::set_cursors;

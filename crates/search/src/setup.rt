@@ -7,7 +7,7 @@ ghost use Rattle.volume.specs.Check as volumes;
 ghost use Rattle.plan.specs.Limits.{mostVars};
 ghost use Rattle.plan.specs.Check.{Accepted, sizes};
 ghost use Rattle.plan.specs.Inner.Outline.{Tabled};
-ghost use Rattle.matcher.specs.Tables.{cursorOn, Cursors};
+ghost use Rattle.matcher.specs.Inner.Tables.{cursorOn, Cursors};
 use matcher::Cursor;
 
 // The cursor on a list at its first posting in document `doc` or a later one.

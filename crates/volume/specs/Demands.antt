@@ -5,12 +5,12 @@
 --     WriterWrites                               what the writer does, in the terms of demand 2
 --     Damage                                     one changed byte is found, in its block
 --     OneToOne                                   no two answers are told alike
---     Sample                                     document 01's sample volume and its check of 508 zero bytes
+--     Sample                                     document 01's sample volume
 use Prim.Native.Nat.{ℕ, _+_, _*_, _/_, _<_, _≤_}
 use mathlib.Core.Path.{_≡_}
 use mathlib.Core.Logic.{_⊎_, _≢_, _↔_}
 use mathlib.Core.List.{List, [], _∷_, _++_, map}
-use lib.ListN.{length, getD, drop, replicate}
+use lib.ListN.{length, getD, drop}
 use Rattle.seq.specs.Lists.{total, joined, Rising}
 use Rattle.seq.specs.Refusals.{refused, answered, stageIn, FirstRefusal}
 use Rattle.volume.specs.declared.answers.Refusal.{Refusal}
@@ -19,7 +19,6 @@ use Rattle.volume.specs.declared.answers.ListRead.{ListRead}
 use Rattle.volume.specs.declared.answers.Written.{Written}
 use Rattle.volume.specs.Posting.{postingOf}
 use Rattle.block.specs.Bytes.{IsBytes, IsWords}
-use Rattle.block.specs.Checksum.{checkA, checkB}
 use Rattle.volume.specs.Layout.{listCount, count, extentOf, blocksFor, postingsOf, listsOf}
 use Rattle.volume.specs.Answers.{Sizes, saidRefusal, saidChecked, saidRead, saidWritten}
 use Rattle.volume.specs.Check.{sizes, verdict, Accepted}
@@ -136,9 +135,7 @@ sampleLists =
     ∷ (postingOf 1 5 .bits ∷ postingOf 1 7 .bits ∷ postingOf 2 9 .bits ∷ [])
     ∷ []
 
--- the sample's volume is accepted with 3 lists and 8 postings and reads as its lists; 508 zero bytes give 1 and 508
+-- the sample's volume is accepted with 3 lists and 8 postings and reads as its lists
 pub record Sample : Type 0 where
   pub checks : verdict (volumeOf sampleLists) ≡ answered (record { lists = 3; postings = 8 })
   pub reads : listsOf (volumeOf sampleLists) ≡ sampleLists
-  pub zerosA : checkA (replicate 508 0) ≡ 1
-  pub zerosB : checkB (replicate 508 0) ≡ 508

@@ -45,7 +45,8 @@ fn checksum_wrong(volume: &[u8], k: usize) -> bool
 
 // One pass over the blocks.
 pub fn check_blocks(volume: &[u8]) -> Pass
-    requires { ⌜ Whole (now volume) × (blocks (now volume) ≤ 8192) ⌝ }
+    requires { ⌜ Whole (now volume) ⌝ }
+    requires { ⌜ blocks (now volume) ≤ 8192 ⌝ }
     ensures { λ r. ⌜ r .bad ≡ badBlock (now (volume .entry)) ⌝ }
     ensures { λ r. ⌜ r .falls ≡ fallsBefore (now (volume .entry)) (126 * r .bad) ⌝ }
     ensures { λ r. ⌜ r .bad ≤ blocks (now (volume .entry)) ⌝ }

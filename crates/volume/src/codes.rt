@@ -11,7 +11,8 @@ pub struct Code {
 
 // The code of a refusal of a volume.
 pub fn code_of(why: Refusal) -> Code
-    ensures { λ r. ⌜ (r .number ≡ codeOf why) × (r .at ≡ atOf why) ⌝ }
+    ensures { λ r. ⌜ r .number ≡ codeOf why ⌝ }
+    ensures { λ r. ⌜ r .at ≡ atOf why ⌝ }
 {
     match why {
         Refusal::Length => Code { number: 1, at: 0 },

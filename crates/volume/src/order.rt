@@ -17,12 +17,14 @@ use super::layout::BLOCK_WORDS;
 use super::layout::LAST_WORD;
 use super::layout::lead;
 use super::stream::count_at;
+use super::stream::posting_at;
 use super::stream::word_at;
 use block::read32;
 
 // 1 where y, which stands behind x, is not above it.
 pub fn fall_of(x: u32, y: u32) -> u32
-    ensures { λ r. ⌜ (r ≡ fallOf x y) × (r ≤ 1) ⌝ }
+    ensures { λ r. ⌜ r ≡ fallOf x y ⌝ }
+    ensures { λ r. ⌜ r ≤ 1 ⌝ }
 {
     if x < y { 0 } else { 1 }
 }
@@ -46,8 +48,10 @@ pub fn falls_in(volume: &[u8], k: usize) -> u32
 
 // Whether there is a fall at stream index i.
 pub fn fall_at(volume: &[u8], i: usize) -> u32
-    requires { ⌜ Whole (now volume) × (i < streamLength (now volume)) ⌝ }
-    ensures { λ r. ⌜ (r ≡ fall (word (now (volume .entry))) i) × (r ≤ 1) ⌝ }
+    requires { ⌜ Whole (now volume) ⌝ }
+    requires { ⌜ i < streamLength (now volume) ⌝ }
+    ensures { λ r. ⌜ r ≡ fall (word (now (volume .entry))) i ⌝ }
+    ensures { λ r. ⌜ r ≤ 1 ⌝ }
 {
     let next = i + 1;
     if next == BLOCK_WORDS * (volume.len() / BLOCK_BYTES) {
@@ -58,7 +62,9 @@ pub fn fall_at(volume: &[u8], i: usize) -> u32
 
 // The falls from stream index `from` up to `end`.
 fn falls_from(volume: &[u8], from: usize, end: usize) -> usize
-    requires { ⌜ Whole (now volume) × (from ≤ end) × (end ≤ streamLength (now volume)) ⌝ }
+    requires { ⌜ Whole (now volume) ⌝ }
+    requires { ⌜ from ≤ end ⌝ }
+    requires { ⌜ end ≤ streamLength (now volume) ⌝ }
     ensures { λ r. ⌜ fallsBefore (now (volume .entry)) from + r ≡ fallsBefore (now (volume .entry)) end ⌝ }
     ensures { λ r. ⌜ r ≤ end - from ⌝ }
 {
@@ -93,7 +99,7 @@ fn list_falls(volume: &[u8], lists: usize) -> usize
     n
 }
 
-// Whether the words from `from` on, n of them, rise.
+// Whether the postings from stream index `from` on, n of them, rise.
 fn rising(volume: &[u8], from: usize, n: usize) -> bool
     requires { ⌜ from + n ≤ streamLength (now volume) ⌝ }
     ensures { λ r. ⌜ r ≡ rises (run (word (now (volume .entry))) from n) ⌝ }
@@ -102,10 +108,10 @@ fn rising(volume: &[u8], from: usize, n: usize) -> bool
         return true;
     }
     let end = from + n;
-    let mut last = word_at(volume, from);
+    let mut last = posting_at(volume, from).bits;
     let mut i = from + 1;
     while i < end {
-        let next = word_at(volume, i);
+        let next = posting_at(volume, i).bits;
         if next <= last {
             return false;
         }

@@ -21,7 +21,8 @@ use super::stream::word_at;
 
 // The span of a list of an accepted volume.
 pub fn list_span(volume: &[u8], list: usize) -> Span
-    requires { ⌜ Accepted (now volume) × (list < listCount (now volume)) ⌝ }
+    requires { ⌜ Accepted (now volume) ⌝ }
+    requires { ⌜ list < listCount (now volume) ⌝ }
     ensures { λ r. ⌜ r ≡ spanOf (now (volume .entry)) list ⌝ }
 {
     let lists = word_at(volume, 1) as usize;
@@ -33,7 +34,8 @@ pub fn list_span(volume: &[u8], list: usize) -> Span
 
 // Copies the postings from stream index `from` on, n of them, to the front of out.
 fn copy_postings(volume: &[u8], from: usize, n: usize, out: &mut [u32])
-    requires { ⌜ (from + n ≤ streamLength (now volume)) × (n ≤ length (now out)) ⌝ }
+    requires { ⌜ from + n ≤ streamLength (now volume) ⌝ }
+    requires { ⌜ n ≤ length (now out) ⌝ }
     ensures { λ _. ⌜ now (out .exit) ≡ run (word (now (volume .entry))) from n ++ drop n (now (out .entry)) ⌝ }
 {
     let mut i: usize = 0;

@@ -30,15 +30,18 @@ pub fn posting_at(volume: &[u8], i: usize) -> Posting
 
 // 1 where x is below y.
 fn below(x: u32, y: u32) -> usize
-    ensures { λ r. ⌜ (r ≡ belowOf x y) × (r ≤ 1) ⌝ }
+    ensures { λ r. ⌜ r ≡ belowOf x y ⌝ }
+    ensures { λ r. ⌜ r ≤ 1 ⌝ }
 {
     if x < y { 1 } else { 0 }
 }
 
 // How many of the eight words from stream index i on, all in one block, are below target.
 pub fn below_in_window(volume: &[u8], i: usize, target: u32) -> usize
-    requires { ⌜ (i % 126 ≤ 118) × (i + 8 ≤ streamLength (now volume)) ⌝ }
-    ensures { λ r. ⌜ (r ≡ belowCount (now (volume .entry)) target i 8) × (r ≤ 8) ⌝ }
+    requires { ⌜ i % 126 ≤ 118 ⌝ }
+    requires { ⌜ i + 8 ≤ streamLength (now volume) ⌝ }
+    ensures { λ r. ⌜ r ≡ belowCount (now (volume .entry)) target i 8 ⌝ }
+    ensures { λ r. ⌜ r ≤ 8 ⌝ }
 {
     let from = 4 * i + 8 * (i / BLOCK_WORDS) + 4;
     let mut n: usize = 0;
@@ -60,8 +63,10 @@ pub fn count_at(volume: &[u8], i: usize) -> u32
 
 // The sum of the first n counts.
 pub fn count_sum(volume: &[u8], n: usize) -> u64
-    requires { ⌜ (n ≤ 1024) × (entry n ≤ streamLength (now volume)) ⌝ }
-    ensures { λ r. ⌜ (r ≡ sumTo (count (now (volume .entry))) n) × (r ≤ 4294967296 * n) ⌝ }
+    requires { ⌜ n ≤ 1024 ⌝ }
+    requires { ⌜ entry n ≤ streamLength (now volume) ⌝ }
+    ensures { λ r. ⌜ r ≡ sumTo (count (now (volume .entry))) n ⌝ }
+    ensures { λ r. ⌜ r ≤ 4294967296 * n ⌝ }
 {
     let mut sum: u64 = 0;
     let mut i: usize = 0;
@@ -74,7 +79,8 @@ pub fn count_sum(volume: &[u8], n: usize) -> u64
 
 // The first word that is not 0 from stream index `from` up to `end`; `end` where there is none.
 pub fn bad_word(volume: &[u8], from: usize, end: usize) -> usize
-    requires { ⌜ (from ≤ end) × (end ≤ streamLength (now volume)) ⌝ }
+    requires { ⌜ from ≤ end ⌝ }
+    requires { ⌜ end ≤ streamLength (now volume) ⌝ }
     ensures { λ r. ⌜ r ≡ firstFrom (paddingWrong (now (volume .entry))) from (end - from) ⌝ }
 {
     let mut i = from;

@@ -43,7 +43,9 @@ fn sum_of(counts: &[u32]) -> u64
 // Whether the postings from `from` to `end` rise. The falls are counted in a loop with no other way
 // out, which a compiler turns into vector instructions.
 fn rising_in(postings: &[u32], from: usize, end: usize) -> bool
-    requires { ⌜ (from ≤ end) × (end ≤ from + 4294967295) × (end ≤ length (now postings)) ⌝ }
+    requires { ⌜ from ≤ end ⌝ }
+    requires { ⌜ end ≤ from + 4294967295 ⌝ }
+    requires { ⌜ end ≤ length (now postings) ⌝ }
     ensures { λ r. ⌜ r ≡ rises (run (at (now (postings .entry))) from (end - from)) ⌝ }
 {
     let mut falls: u32 = 0;
@@ -100,7 +102,9 @@ fn stream_word(counts: &[u32], postings: &[u32], i: usize) -> u32
 
 // Stores the stream words from `first` on as the words of a block.
 fn put_words(counts: &[u32], postings: &[u32], first: usize, out: &mut [u8])
-    requires { ⌜ (length (now counts) ≤ 1024) × (first ≤ 1032192) × (length (now out) ≡ 512) ⌝ }
+    requires { ⌜ length (now counts) ≤ 1024 ⌝ }
+    requires { ⌜ first ≤ 1032192 ⌝ }
+    requires { ⌜ length (now out) ≡ 512 ⌝ }
     ensures { λ _. ⌜ now (out .exit) ≡ filled (given (now (counts .entry)) (now (postings .entry))) first (now (out .entry)) ⌝ }
 {
     let mut j: usize = 0;
@@ -114,7 +118,8 @@ fn put_words(counts: &[u32], postings: &[u32], first: usize, out: &mut [u8])
 
 // Stores the postings from `from` on as the words of a block.
 fn put_postings(postings: &[u32], from: usize, out: &mut [u8])
-    requires { ⌜ (from + 126 ≤ length (now postings)) × (length (now out) ≡ 512) ⌝ }
+    requires { ⌜ from + 126 ≤ length (now postings) ⌝ }
+    requires { ⌜ length (now out) ≡ 512 ⌝ }
     ensures { λ _. ⌜ now (out .exit) ≡ filled (at (now (postings .entry))) from (now (out .entry)) ⌝ }
 {
     let mut j: usize = 0;
@@ -129,7 +134,9 @@ fn put_postings(postings: &[u32], from: usize, out: &mut [u8])
 // Stores the stream words from `first` on as the words of a block. Where all of them are postings,
 // as in nearly every block, they are copied with no test for each.
 fn put_stream(counts: &[u32], postings: &[u32], first: usize, out: &mut [u8])
-    requires { ⌜ (length (now counts) ≤ 1024) × (first ≤ 1032192) × (length (now out) ≡ 512) ⌝ }
+    requires { ⌜ length (now counts) ≤ 1024 ⌝ }
+    requires { ⌜ first ≤ 1032192 ⌝ }
+    requires { ⌜ length (now out) ≡ 512 ⌝ }
     ensures { λ _. ⌜ now (out .exit) ≡ filled (given (now (counts .entry)) (now (postings .entry))) first (now (out .entry)) ⌝ }
 {
     let front = lead(counts.len());
@@ -155,7 +162,9 @@ fn seal(out: &mut [u8])
 
 // Stores block k.
 fn put_block(counts: &[u32], postings: &[u32], k: usize, out: &mut [u8])
-    requires { ⌜ (length (now counts) ≤ 1024) × (k < 8192) × (length (now out) ≡ 512) ⌝ }
+    requires { ⌜ length (now counts) ≤ 1024 ⌝ }
+    requires { ⌜ k < 8192 ⌝ }
+    requires { ⌜ length (now out) ≡ 512 ⌝ }
     ensures { λ _. ⌜ now (out .exit) ≡ sealed (blockBody (given (now (counts .entry)) (now (postings .entry))) k) ⌝ }
 {
     put32(out, 0, k as u32);
@@ -165,7 +174,10 @@ fn put_block(counts: &[u32], postings: &[u32], k: usize, out: &mut [u8])
 
 // Stores the blocks from `from` to `to`.
 fn put_blocks(counts: &[u32], postings: &[u32], from: usize, to: usize, out: &mut [u8])
-    requires { ⌜ (length (now counts) ≤ 1024) × (from ≤ to) × (to ≤ 8192) × (512 * to ≤ length (now out)) ⌝ }
+    requires { ⌜ length (now counts) ≤ 1024 ⌝ }
+    requires { ⌜ from ≤ to ⌝ }
+    requires { ⌜ to ≤ 8192 ⌝ }
+    requires { ⌜ 512 * to ≤ length (now out) ⌝ }
     ensures { λ _. ⌜ now (out .exit) ≡ stored (given (now (counts .entry)) (now (postings .entry))) from to (now (out .entry)) ⌝ }
 {
     let mut k = from;
@@ -188,7 +200,9 @@ fn least(a: usize, b: usize) -> usize
 // others. In the second run the postings read and the blocks stored are two plain ranges, so that
 // one test tells the compiled loop that they lie apart, and it copies several postings at a time.
 fn put_volume(counts: &[u32], postings: &[u32], n: usize, out: &mut [u8])
-    requires { ⌜ (length (now counts) ≤ 1024) × (n ≤ 8192) × (512 * n ≤ length (now out)) ⌝ }
+    requires { ⌜ length (now counts) ≤ 1024 ⌝ }
+    requires { ⌜ n ≤ 8192 ⌝ }
+    requires { ⌜ 512 * n ≤ length (now out) ⌝ }
     ensures { λ _. ⌜ now (out .exit) ≡ storedFirst (given (now (counts .entry)) (now (postings .entry))) n (now (out .entry)) ⌝ }
 {
     let front = lead(counts.len());

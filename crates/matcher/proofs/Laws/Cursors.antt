@@ -1,4 +1,4 @@
--- The laws of `specs/Cursors.antt`. No contract cites this file.
+-- The laws of `specs/Inner/Cursors.antt`. No contract cites this file.
 --     seek-ge, seek-le           a sought index is not in front of where it was, nor behind the end
 --     seek-at, seek-below        the word there is not below the target; those passed are
 --     seek-is                    the only such index
@@ -20,7 +20,7 @@ use Rattle.seq.proofs.Laws.Tests.{below-or}
 use Rattle.volume.specs.Layout.{word}
 use Rattle.volume.specs.Inner.Below.{belowOf, belowCount}
 use Rattle.matcher.specs.declared.cursor.Cursor.{Cursor}
-use Rattle.matcher.specs.Cursors.{seekFrom, Stretch, sought, Forward}
+use Rattle.matcher.specs.Inner.Cursors.{seekFrom, Stretch, sought, Forward}
 
 module _ (v : List ℕ) (target i e : ℕ) where
   pub seek-ge : i ≤ seekFrom v target i e

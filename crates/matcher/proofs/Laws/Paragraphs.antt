@@ -1,7 +1,7 @@
 -- The start of a position's paragraph. No contract cites this file.
 --     ParaAt                       r is the greatest start not above p, or 65,536 where there is none
 --     para-told, para-is           `paraStart` is so, and nothing else is
---     para-unparted                no start parts two positions where the later one's paragraph starts at or in front of the other
+--     para-unparted                no start separates two positions where the later one's paragraph starts at or in front of the other
 --     para-in                      a paragraph that starts at or in front of the position starts at a start
 --     stands-stretch               the postings of list 0 from a cursor on
 --     past-from, past-within       the first of them behind position p of document d
@@ -27,7 +27,7 @@ use Rattle.fulltext.specs.Matches.{largest, startsIn}
 use Rattle.fulltext.specs.Inner.Paragraphs.{greatest, paraStart}
 use Rattle.matcher.specs.declared.cursor.Cursor.{Cursor}
 use Rattle.matcher.specs.declared.cursor.Document.{Document}
-use Rattle.matcher.specs.Cursors.{seekFrom, Stretch, sought, listEnd, Stands, AtDocument}
+use Rattle.matcher.specs.Inner.Cursors.{seekFrom, Stretch, sought, listEnd, Stands, AtDocument}
 use Rattle.fulltext.proofs.Laws.Positions.{in-none, in-here, in-later, in-cons, elem-decides, positions-hold}
 use Rattle.fulltext.proofs.Laws.Needs.{at-largest}
 use Rattle.matcher.proofs.Laws.Cursors.{seek-ge, seek-le, seek-at, seek-below, stretch-within}

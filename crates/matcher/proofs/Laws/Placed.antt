@@ -1,4 +1,4 @@
--- The laws of `specs/Tables.antt` on cursors: the list of each variable of an accepted plan, and a cursor for each. No contract cites this file.
+-- The laws of `specs/Inner/Tables.antt` on cursors: the list of each variable of an accepted plan, and a cursor for each. No contract cites this file.
 --     varAt-is                                 the variables of a plan are those of its patterns in order
 --     Voiced, VoicedAt, voiced                 what the VOICE row of a variable gives
 --     Placing, placing-first, placing-as, placing-next, placing-done     cursors that are set one by one
@@ -24,7 +24,7 @@ use Rattle.plan.proofs.Laws.Rows.{words-of}
 use Rattle.plan.proofs.Laws.Accepted.{given}
 use Rattle.matcher.specs.declared.cursor.Cursor.{Cursor}
 use Rattle.plan.specs.Inner.Outline.{varsBefore, Entry}
-use Rattle.matcher.specs.Tables.{varAt, cursorOn, Placed, Cursors}
+use Rattle.matcher.specs.Inner.Tables.{varAt, cursorOn, Placed, Cursors}
 use Rattle.plan.proofs.Laws.Outline.{varsBefore-first, varsBefore-end, vars-within}
 
 -- variable i of pattern k, among those of all patterns

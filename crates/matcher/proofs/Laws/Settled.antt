@@ -1,4 +1,4 @@
--- A pattern that stands in a document, from its table and cursors to what is shown of it. No contract cites this file.
+-- A pattern that stands in a document, from its cursors to what is shown of it. No contract cites this file.
 --     ready-posed                  what it asks
 --     ready-stands                 where its cursors stand
 --     ready-standing, ready-least  copies of them; the least match from there on is the least of all
@@ -23,11 +23,11 @@ use Rattle.matcher.specs.declared.cursor.Document.{Document}
 use Rattle.fulltext.specs.Matches.{leastIn}
 use Rattle.fulltext.specs.Inner.Bounds.{leastFrom}
 use Rattle.fulltext.specs.Documents.{present, found, shown, shownIn}
-use Rattle.matcher.specs.Cursors.{listEnd, Stands}
+use Rattle.matcher.specs.Inner.Cursors.{listEnd, Stands}
 use Rattle.plan.specs.declared.outline.Outline.{Outline}
 use Rattle.plan.specs.Inner.Outline.{varsBefore}
-use Rattle.matcher.specs.Tables.{varAt}
-use Rattle.matcher.specs.Settling.{Among, Standing, givenIf, Posed, Ready}
+use Rattle.matcher.specs.Inner.Tables.{varAt}
+use Rattle.matcher.specs.Inner.Settling.{Among, Standing, givenIf, Posed, Ready}
 use Rattle.fulltext.proofs.Laws.Positions.{lists-rise}
 use Rattle.fulltext.proofs.Laws.Least.{leastFrom-all}
 use Rattle.matcher.proofs.Laws.Volume.{list-stretch}

@@ -27,9 +27,9 @@ use Rattle.fulltext.specs.Positions.{limit, listOf}
 use Rattle.fulltext.specs.Calculus.{at, Holds}
 use Rattle.fulltext.specs.Matches.{holds, allHold, fits, startsIn, varsIn, matchesAt, _⊑_}
 use Rattle.fulltext.specs.Inner.Bounds.{MatchFrom, leastFrom}
-use Rattle.matcher.specs.Shortfall.{LeftShort}
-use Rattle.matcher.specs.Cursors.{seekFrom, Stretch, listEnd}
-use Rattle.matcher.specs.Settling.{AtPos, Standing, Low}
+use Rattle.matcher.specs.Inner.Shortfall.{LeftShort}
+use Rattle.matcher.specs.Inner.Cursors.{seekFrom, Stretch, listEnd}
+use Rattle.matcher.specs.Inner.Settling.{AtPos, Standing, Low}
 use Rattle.fulltext.proofs.Laws.Positions.{lists-rise}
 use Rattle.fulltext.proofs.Laws.Least.{fits-iff, allHold-iff, leastFrom-iff, unfoundFrom-iff}
 use Rattle.matcher.proofs.Laws.Volume.{list-stretch, held, holds-at}

@@ -27,9 +27,9 @@ use Rattle.plan.specs.State.{namesBelow}
 use Rattle.fulltext.specs.Calculus.{at}
 use Rattle.fulltext.specs.Matches.{holds}
 use Rattle.fulltext.specs.Inner.Paragraphs.{paraStart}
-use Rattle.matcher.specs.Shortfall.{InDocument, LeftShort}
+use Rattle.matcher.specs.Inner.Shortfall.{InDocument, LeftShort}
 use Rattle.matcher.specs.declared.cursor.Document.{Document}
-use Rattle.matcher.specs.Cursors.{AtDocument}
+use Rattle.matcher.specs.Inner.Cursors.{AtDocument}
 use Rattle.fulltext.proofs.Laws.Needs.{distance-needs-first, distance-needs-second, ordered-needs, samepara-holds, samepara-needs-first, samepara-needs-second, window-holds, window-needs}
 use Rattle.matcher.proofs.Laws.Paragraphs.{para-unparted, para-in}
 

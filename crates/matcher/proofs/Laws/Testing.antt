@@ -49,11 +49,11 @@ use Rattle.matcher.specs.declared.cursor.Document.{Document}
 use Rattle.fulltext.specs.Positions.{limit, listOf, positionsIn}
 use Rattle.fulltext.specs.Calculus.{at, Holds}
 use Rattle.fulltext.specs.Matches.{holds, allHold, fits, startsIn, varsIn, matchesAt}
-use Rattle.matcher.specs.Shortfall.{InDocument, LeftShort}
-use Rattle.matcher.specs.Cursors.{seekFrom, Stretch, sought, listEnd, listCursor, Stands, AtDocument}
-use Rattle.matcher.specs.Tables.{varAt}
+use Rattle.matcher.specs.Inner.Shortfall.{InDocument, LeftShort}
+use Rattle.matcher.specs.Inner.Cursors.{seekFrom, Stretch, sought, listEnd, listCursor, Stands, AtDocument}
+use Rattle.matcher.specs.Inner.Tables.{varAt}
 use Rattle.matcher.specs.Testing.{outOfRange, testBy, testAnswer}
-use Rattle.matcher.specs.Settling.{Asked}
+use Rattle.matcher.specs.Inner.Settling.{Asked}
 use Rattle.fulltext.proofs.Laws.Positions.{positions-hold}
 use Rattle.fulltext.proofs.Laws.Least.{fits-iff, allHold-iff}
 use Rattle.matcher.proofs.Laws.Cursors.{seek-ge, seek-le, seek-at, seek-below}

@@ -32,9 +32,9 @@ use Rattle.plan.specs.declared.outline.Outline.{Outline}
 use Rattle.matcher.specs.declared.cursor.Document.{Document}
 use Rattle.fulltext.specs.Matches.{holds, startsIn}
 use Rattle.fulltext.specs.Inner.Bounds.{leastFrom}
-use Rattle.matcher.specs.Shortfall.{LeftShort}
-use Rattle.matcher.specs.Cursors.{seekFrom, Stretch, listEnd, AtDocument}
-use Rattle.matcher.specs.Settling.{Jumped, Standing, Low, Posed}
+use Rattle.matcher.specs.Inner.Shortfall.{LeftShort}
+use Rattle.matcher.specs.Inner.Cursors.{seekFrom, Stretch, listEnd, AtDocument}
+use Rattle.matcher.specs.Inner.Settling.{Jumped, Standing, Low, Posed}
 use Rattle.matcher.proofs.Laws.Settling.{low-first, low-done, low-var, low-stretch, low-end, low-out, low-later, low-jump}
 
 -- how far positions are from the end of a document, added up

@@ -19,7 +19,7 @@ use Rattle.volume.specs.Check.{Accepted}
 use Rattle.volume.proofs.Laws.Check.{Good, good}
 use Rattle.fulltext.specs.Positions.{limit, listOf}
 use Rattle.fulltext.specs.Calculus.{Holds}
-use Rattle.matcher.specs.Cursors.{Stretch, listEnd}
+use Rattle.matcher.specs.Inner.Cursors.{Stretch, listEnd}
 
 -- where neighbours rise any two do
 pub rising-apart : (xs : List ℕ) → Rising xs → (i j : ℕ) → i < j → j < length xs → getD xs i 0 < getD xs j 0

@@ -21,8 +21,8 @@ use Rattle.seq.proofs.Laws.Decides.{decided, eqb-decides}
 use Rattle.volume.specs.Posting.{docOf}
 use Rattle.volume.specs.Layout.{word}
 use Rattle.fulltext.specs.Positions.{limit}
-use Rattle.matcher.specs.Cursors.{seekFrom, Stretch}
-use Rattle.matcher.specs.Settling.{Among}
+use Rattle.matcher.specs.Inner.Cursors.{seekFrom, Stretch}
+use Rattle.matcher.specs.Inner.Settling.{Among}
 use Rattle.search.specs.Inner.Walk.{Has, Moved, Aligned, turned}
 use Rattle.matcher.proofs.Laws.Cursors.{seek-ge, seek-le, seek-at, seek-below}
 

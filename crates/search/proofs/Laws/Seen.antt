@@ -27,10 +27,10 @@ use Rattle.matcher.specs.declared.cursor.Cursor.{Cursor}
 use Rattle.fulltext.specs.Positions.{limit}
 use Rattle.fulltext.specs.Documents.{found, matching, rowIn, workOf, work}
 use Rattle.fulltext.proofs.Laws.Skips.{matching-none}
-use Rattle.matcher.specs.Cursors.{seekFrom, Stretch, listEnd, Stands, listCursor}
+use Rattle.matcher.specs.Inner.Cursors.{seekFrom, Stretch, listEnd, Stands, listCursor}
 use Rattle.plan.specs.Inner.Outline.{outlineAt, Tabled}
-use Rattle.matcher.specs.Tables.{varAt, Placed, Cursors}
-use Rattle.matcher.specs.Settling.{Candidate, Ready}
+use Rattle.matcher.specs.Inner.Tables.{varAt, Placed, Cursors}
+use Rattle.matcher.specs.Inner.Settling.{Candidate, Ready}
 use Rattle.matcher.proofs.Laws.Cursors.{seek-ge, seek-le, seek-below}
 use Rattle.matcher.proofs.Laws.Volume.{list-stretch}
 use Rattle.plan.proofs.Laws.Outline.{vars-within}

@@ -27,8 +27,8 @@ use Rattle.plan.specs.Check.{Accepted, sizes}
 use Rattle.plan.proofs.Laws.Accepted.{given}
 use Rattle.fulltext.specs.Positions.{limit, listOf, countIn}
 use Rattle.fulltext.specs.Documents.{postingsIn}
-use Rattle.matcher.specs.Cursors.{seekFrom, Stretch, listEnd}
-use Rattle.matcher.specs.Tables.{varAt, Cursors}
+use Rattle.matcher.specs.Inner.Cursors.{seekFrom, Stretch, listEnd}
+use Rattle.matcher.specs.Inner.Tables.{varAt, Cursors}
 use Rattle.search.specs.Inner.Walk.{LeastDoc}
 use Rattle.matcher.proofs.Laws.Cursors.{seek-ge, seek-le, seek-below, stretch-within, galloped-end}
 use Rattle.fulltext.proofs.Laws.Counts.{count-index}

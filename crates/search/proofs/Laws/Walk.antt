@@ -21,10 +21,10 @@ use Rattle.plan.proofs.Laws.Accepted.{given}
 use Rattle.fulltext.specs.Calculus.{at}
 use Rattle.fulltext.specs.Matches.{allHold, fits, startsIn, varsIn, matchesAt}
 use Rattle.fulltext.specs.Documents.{found}
-use Rattle.matcher.specs.Cursors.{Stretch, Stands}
+use Rattle.matcher.specs.Inner.Cursors.{Stretch, Stands}
 use Rattle.plan.specs.Inner.Outline.{varsBefore, Entry, outlineAt}
-use Rattle.matcher.specs.Tables.{varAt}
-use Rattle.matcher.specs.Settling.{Among, Candidate}
+use Rattle.matcher.specs.Inner.Tables.{varAt}
+use Rattle.matcher.specs.Inner.Settling.{Among, Candidate}
 use Rattle.search.specs.Inner.Walk.{Has, Aligned, Stood, Pending, Walks}
 use Rattle.fulltext.proofs.Laws.Positions.{lists-rise}
 use Rattle.fulltext.proofs.Laws.Least.{fits-iff, found-iff}

@@ -15,10 +15,10 @@ use Rattle.fulltext.specs.Positions.{limit}
 use Rattle.fulltext.specs.Documents.{work}
 use Rattle.matcher.specs.declared.cursor.Cursor.{Cursor}
 use Rattle.search.specs.declared.walk.Seen.{Seen}
-use Rattle.matcher.specs.Cursors.{listEnd, Stands}
+use Rattle.matcher.specs.Inner.Cursors.{listEnd, Stands}
 use Rattle.plan.specs.Inner.Outline.{varsBefore, Tabled}
-use Rattle.matcher.specs.Tables.{varAt}
-use Rattle.matcher.specs.Settling.{Among, Candidate}
+use Rattle.matcher.specs.Inner.Tables.{varAt}
+use Rattle.matcher.specs.Inner.Settling.{Among, Candidate}
 
 -- the variable behind variable i of n, in turn
 abbrev pub turned : ℕ → ℕ → ℕ

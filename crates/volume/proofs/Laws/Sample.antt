@@ -1,5 +1,4 @@
--- Document 01's sample volume and its check of 508 zero bytes, computed. No contract cites this file.
--- Assumes nothing.
+-- Document 01's sample volume, computed. No contract cites this file. Assumes nothing.
 use mathlib.Core.Path.{refl}
 use Rattle.seq.specs.Lists.{above, rises, joined}
 use Rattle.seq.specs.Numbers.{firstFrom, run, sumTo}
@@ -14,4 +13,4 @@ unfolding
     above rises joined firstFrom run sumTo sumA sumB offset word listsOf
     lengthWrong numberWrong checksumWrong blockWrong blocksWrong versionWrong listCountWrong extentWrong orderWrong listsWrong paddingWrong tailWrong streamVerdict verdict
     wordBytes blockBody sealed blocksFrom written volumeOf
-sample = record { checks = refl; reads = refl; zerosA = refl; zerosB = refl }
+sample = record { checks = refl; reads = refl }

@@ -10,7 +10,7 @@ zeros-requires : tie.Need-zeros-requires
 zeros-requires c κs = search needs
 
 three-sevens-requires : tie.Need-three-sevens-requires
-three-sevens-requires c κs = (c .before .before .pre, omega arith, rw (c .zeros .ensures) sevens-first)
+three-sevens-requires c κs = (c .before .before .pre, (omega arith, rw (c .zeros .ensures) sevens-first))
 
 three-sevens-requires-2 : tie.Need-three-sevens-requires-2
 three-sevens-requires-2 c κs = search needs
@@ -75,8 +75,8 @@ returns c =
     let d = rows .three-sevens3 .ensures in
     let e = rows .before .before .before .before .before .pre in
     let n = near .before .head .ensures in (
-      rw (c .before .before .columns3 .ensures .0) (checkA-done d e (n .0 .0)),
-      rw (near .columns .ensures .0, c .before .before .before .before .columns2 .ensures .0, c .before .before .before .slope .ensures) (checkB-done d e (n .1 .0)),
+      rw (c .before .before .columns3 .ensures .0) (checkA-done d e (n .0)),
+      rw (near .columns .ensures .0, c .before .before .before .before .columns2 .ensures .0, c .before .before .before .slope .ensures) (checkB-done d e (n .1 .1 .0)),
     )
 
 pub checksum-spec : {M : Type 1} → statement M

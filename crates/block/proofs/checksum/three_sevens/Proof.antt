@@ -15,7 +15,7 @@ abbrev μ-loop : tie.MeasureT-loop
 μ-loop s i all₀ near₀ far₀ k₀ all near far k = 3 - k
 
 loop-holds : tie.Need-loop-holds Inv-loop μ-loop
-loop-holds c = (omega arith, rw add-zero (c .before .before .before .before .pre .2))
+loop-holds c = (omega arith, rw add-zero (c .before .before .before .before .pre .1 .1))
 
 plus-requires : tie.Need-plus-requires Inv-loop μ-loop
 plus-requires c κs = sevens-room-far (c .before .loop .inv .1) (omega arith)
@@ -42,7 +42,14 @@ loop-less : tie.Need-loop-less Inv-loop μ-loop
 loop-less c = omega arith
 
 loop-again : tie.Need-loop-again Inv-loop μ-loop
-loop-again c = (omega arith, rw (← add-assoc) (sevens-again (c .before .before .before .before .before .before .loop .inv .1) (c .before .before .before .seven-rows .ensures) (c .plus2 .ensures) (c .before .before .before .before .plus .ensures) (omega arith)))
+loop-again c =
+    let l = c .before .before .before .before .before .before in
+    let p = l .before .before .before .before .before .pre in
+    let rows = c .before .before .before .seven-rows .ensures in (
+      omega arith,
+      rw (← add-assoc) (sevens-again (l .loop .inv .1) rows (c .plus2 .ensures) (c .before .before .before .before .plus .ensures)
+          (omega (arith, p .0, p .1 .0))),
+    )
 
 returns : tie.Need-returns Inv-loop μ-loop
 returns c = let e : c .before .loop .k ≡ 3 = omega arith in rw e at (c .before .loop .inv .1)

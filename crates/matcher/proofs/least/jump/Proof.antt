@@ -12,7 +12,7 @@ use Rattle.volume.specs.declared.posting.Posting.{Posting}
 use Rattle.volume.specs.Posting.{docOf, posOf}
 use Rattle.volume.specs.Layout.{word}
 use Rattle.matcher.specs.declared.cursor.Cursor.{Cursor}
-use Rattle.matcher.specs.Cursors.{seekFrom}
+use Rattle.matcher.specs.Inner.Cursors.{seekFrom}
 
 mul-positions : tie.Need-mul-positions
 mul-positions c = omega arith

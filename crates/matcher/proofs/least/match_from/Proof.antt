@@ -10,7 +10,7 @@ use borrow.Author.Tests.{not-true, not-false}
 use denote.Ref.{now}
 use Rattle.volume.specs.Layout.{listsOf}
 use Rattle.fulltext.specs.Matches.{startsIn}
-use Rattle.matcher.specs.Shortfall.{LeftShort, Told}
+use Rattle.matcher.specs.Inner.Shortfall.{LeftShort, Told}
 use Rattle.matcher.proofs.Laws.Tried.{slack, Tried, tried-first, tried-last, tried-asks, predicate-asks, tried-holds, jump-var, jump-need, jump-stretch, tried-out, tried-jump, tried-done}
 
 abbrev Inv-loop : tie.InvT-loop

@@ -9,7 +9,7 @@ use denote.Ref.{now}
 use Rattle.volume.specs.Layout.{listsOf}
 use Rattle.plan.specs.Accepted.{patternAt}
 use Rattle.fulltext.specs.Matches.{leastIn}
-use Rattle.matcher.specs.Settling.{givenIf}
+use Rattle.matcher.specs.Inner.Settling.{givenIf}
 use Rattle.matcher.proofs.Laws.Settled.{ready-vars, ready-within, ready-stream, ready-posed, ready-standing, ready-least, settled-found, settled-yes, settled-no}
 use Rattle.matcher.proofs.least.settle.Statement.{statement}
 use Rattle.matcher.proofs.least.settle.Tie as tie

@@ -10,7 +10,7 @@ use Rattle.volume.specs.declared.posting.Posting.{Posting}
 use Rattle.volume.specs.Posting.{docOf}
 use Rattle.volume.specs.Layout.{word}
 use Rattle.matcher.specs.declared.cursor.Cursor.{Cursor}
-use Rattle.matcher.specs.Cursors.{seekFrom}
+use Rattle.matcher.specs.Inner.Cursors.{seekFrom}
 use Rattle.search.proofs.Laws.Align.{Leaping, leap-first, leap-stretch, leap-out, leap-here, leap-on, leap-done}
 
 abbrev Inv-loop : tie.InvT-loop

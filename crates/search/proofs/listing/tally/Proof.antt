@@ -7,7 +7,7 @@ use lib.ListN.{length, getD}
 use denote.Ref.{now}
 use Rattle.plan.proofs.Laws.Accepted.{given}
 use Rattle.matcher.specs.declared.cursor.Cursor.{Cursor}
-use Rattle.matcher.specs.Cursors.{seekFrom}
+use Rattle.matcher.specs.Inner.Cursors.{seekFrom}
 use Rattle.search.proofs.Laws.Tally.{Turn, turn, Tallied, tallied-first, tallied-next, tallied-done}
 use Rattle.search.proofs.listing.tally.Statement.{statement}
 use Rattle.search.proofs.listing.tally.Tie as tie

@@ -8,7 +8,7 @@ use Rattle.volume.specs.declared.layout.Span.{Span}
 use Rattle.volume.specs.Layout.{listCount}
 use Rattle.volume.specs.Inner.Places.{spanOf}
 use Rattle.volume.specs.Check.{Accepted}
-use Rattle.matcher.specs.Cursors.{Stretch, sought}
+use Rattle.matcher.specs.Inner.Cursors.{Stretch, sought}
 use Rattle.matcher.proofs.Laws.Volume.{list-stretch}
 use borrow.Author.Needs.{needs}
 use Rattle.search.proofs.setup.cursor_on.Statement.{statement}

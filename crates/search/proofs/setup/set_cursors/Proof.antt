@@ -7,7 +7,7 @@ use lib.ListN.{length, getD}
 use denote.Ref.{now}
 use Rattle.plan.proofs.Laws.Accepted.{given}
 use Rattle.plan.specs.Inner.Outline.{varsBefore}
-use Rattle.matcher.specs.Tables.{cursorOn}
+use Rattle.matcher.specs.Inner.Tables.{cursorOn}
 use Rattle.plan.proofs.Laws.Outline.{EntryAt, varsBefore-next}
 use Rattle.matcher.proofs.Laws.Placed.{VoicedAt, voiced, Placing, placing-first, placing-as, placing-next, placing-done}
 use Rattle.search.proofs.setup.set_cursors.Statement.{statement}

@@ -16,7 +16,7 @@ use Rattle.plan.specs.Accepted.{patternAt}
 use Rattle.plan.specs.Inner.Outline.{outlineAt}
 use Rattle.plan.proofs.Laws.Accepted.{given}
 use Rattle.fulltext.specs.Documents.{found, shownIn}
-use Rattle.matcher.specs.Settling.{Ready}
+use Rattle.matcher.specs.Inner.Settling.{Ready}
 use Rattle.search.proofs.Laws.Filling.{Filling, relaid, filling-first, filling-room, filling-small, filling-yes, filling-no, filling-done}
 
 abbrev Inv-loop : tie.InvT-loop

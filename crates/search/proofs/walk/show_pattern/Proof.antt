@@ -7,7 +7,7 @@ use mathlib.Core.Path.{sym, ap, subst, _∙_}
 use mathlib.Core.List.{List, _++_}
 use lib.ListN.{drop}
 use denote.Ref.{now}
-use Rattle.matcher.specs.Settling.{Ready}
+use Rattle.matcher.specs.Inner.Settling.{Ready}
 use Rattle.matcher.proofs.Laws.Settled.{away-few, away-found, away-shown}
 
 settle-requires : tie.Need-settle-requires

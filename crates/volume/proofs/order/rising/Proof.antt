@@ -1,4 +1,4 @@
--- `order::rising` meets its contract. The loop's invariant: the words from `from` on rise exactly if those from i on rise above the last one read.
+-- `order::rising` meets its contract. The loop's invariant: the postings from `from` on rise exactly if those from i on rise above the last one read.
 -- The measure is what is left up to the end. Assumes nothing.
 use native.Mathlib.Omega.{arith}
 use Prim.Native.Nat.{ℕ, _+_, _-_, _<_, _≤_}
@@ -7,9 +7,14 @@ use denote.Ref.{now}
 use Rattle.seq.specs.Lists.{above, rises}
 use Rattle.seq.specs.Numbers.{run}
 use Rattle.seq.proofs.Laws.Rising.{rises-none, rises-start, above-next, above-stop, above-done}
+use Rattle.volume.specs.declared.posting.Posting.{Posting}
 use Rattle.volume.specs.Layout.{word}
 use Rattle.volume.proofs.order.rising.Statement.{statement}
 use Rattle.volume.proofs.order.rising.Tie as tie
+
+-- equal postings have equal bits
+bits-are : {x y : Posting} → x ≡ y → x .bits ≡ y .bits
+bits-are e = ap (λ (p : Posting). p .bits) e
 
 abbrev Inv-loop : tie.InvT-loop
 Inv-loop volume from n end last₀ i₀ last i = (from < i) × (i ≤ end) × (end ≡ from + n) × (above last (run (word volume) i (end - i)) ≡ rises (run (word volume) from n))
@@ -26,8 +31,8 @@ returns c =
 add-end : tie.Need-add-end Inv-loop μ-loop
 add-end c = omega arith
 
-word-at-requires : tie.Need-word-at-requires Inv-loop μ-loop
-word-at-requires c κs = omega arith
+posting-at-requires : tie.Need-posting-at-requires Inv-loop μ-loop
+posting-at-requires c κs = omega arith
 
 add-i : tie.Need-add-i Inv-loop μ-loop
 add-i c = omega arith
@@ -40,18 +45,18 @@ loop-holds c =
       omega arith,
       omega arith,
       refl,
-      ap (λ (x : ℕ). above x (run w (a .from + 1) (a .from + a .n - (a .from + 1)))) (c .word-at .ensures) ∙ sym (rises-start w (a .from) (a .n) some-words),
+      ap (λ (x : ℕ). above x (run w (a .from + 1) (a .from + a .n - (a .from + 1)))) (bits-are (c .posting-at .ensures)) ∙ sym (rises-start w (a .from) (a .n) some-words),
     )
 
-word-at-requires-2 : tie.Need-word-at-requires-2 Inv-loop μ-loop
-word-at-requires-2 c κs = omega arith
+posting-at-requires-2 : tie.Need-posting-at-requires-2 Inv-loop μ-loop
+posting-at-requires-2 c κs = omega arith
 
 returns-2 : tie.Need-returns-2 Inv-loop μ-loop
 returns-2 c =
     let l = c .before .before .before .loop in
     let a = c .before .before .before .before .before .before .before .args in
     let w = word (now (a .volume)) in
-    let next = c .before .word-at2 .ensures in
+    let next = bits-are (c .before .posting-at2 .ensures) in
     let low : w (l .i) ≤ l .last = omega arith in
     sym (above-stop w (l .last) (l .i) (a .from + a .n) (c .before .before .loop-test .taken) low) ∙ l .inv .3
 
@@ -66,7 +71,7 @@ loop-again c =
     let l = c .before .before .before .loop in
     let a = c .before .before .before .before .before .before .before .args in
     let w = word (now (a .volume)) in
-    let next = c .before .word-at2 .ensures in
+    let next = bits-are (c .before .posting-at2 .ensures) in
     let up : l .last < w (l .i) = omega arith in (
       omega arith,
       omega arith,
@@ -88,10 +93,10 @@ rising-spec =
     μ-loop
     returns
     add-end
-    word-at-requires
+    posting-at-requires
     add-i
     loop-holds
-    word-at-requires-2
+    posting-at-requires-2
     returns-2
     add-i-2
     loop-less

@@ -52,7 +52,7 @@ add-end : tie.Need-add-end Inv-loop μ-loop
 add-end c = omega (arith, c .shared-slice-known3 .given (c .before .before .loop .i), within c)
 
 rising-in-requires : tie.Need-rising-in-requires Inv-loop μ-loop
-rising-in-requires c κs = (omega arith, omega (arith, c .shared-slice-known3 .given (c .before .before .loop .i)), omega (arith, within c))
+rising-in-requires c κs = (omega arith, (omega (arith, c .shared-slice-known3 .given (c .before .before .loop .i)), omega (arith, within c)))
 
 returns : tie.Need-returns Inv-loop μ-loop
 returns c =

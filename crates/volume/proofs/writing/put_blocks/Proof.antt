@@ -34,7 +34,7 @@ part-put-block-end : tie.Need-part-put-block-end Inv-loop μ-loop
 part-put-block-end c = omega arith
 
 put-block-requires : tie.Need-put-block-requires Inv-loop μ-loop
-put-block-requires c κs = (omega arith, omega arith, simp (length-take, length-drop) (omega arith))
+put-block-requires c κs = (omega arith, (omega arith, simp (length-take, length-drop) (omega arith)))
 
 add-k : tie.Need-add-k Inv-loop μ-loop
 add-k c = omega arith

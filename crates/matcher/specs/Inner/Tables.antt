@@ -8,7 +8,7 @@ use Rattle.plan.specs.Rows.{rowsOf}
 use Rattle.plan.specs.Patterns.{varsOf}
 use Rattle.plan.specs.Check.{sizes}
 use Rattle.matcher.specs.declared.cursor.Cursor.{Cursor}
-use Rattle.matcher.specs.Cursors.{seekFrom, listEnd}
+use Rattle.matcher.specs.Inner.Cursors.{seekFrom, listEnd}
 
 -- the list of variable x among those of the plan
 abbrev pub varAt : List ℕ → ℕ → ℕ

@@ -14,11 +14,11 @@ use Rattle.plan.specs.Accepted.{patternAt}
 use Rattle.fulltext.specs.Calculus.{at}
 use Rattle.fulltext.specs.Inner.Bounds.{MatchFrom}
 use Rattle.matcher.specs.declared.cursor.Document.{Document}
-use Rattle.matcher.specs.Cursors.{seekFrom, listEnd, Stands, AtDocument}
-use Rattle.matcher.specs.Shortfall.{InDocument}
+use Rattle.matcher.specs.Inner.Cursors.{seekFrom, listEnd, Stands, AtDocument}
+use Rattle.matcher.specs.Inner.Shortfall.{InDocument}
 use Rattle.plan.specs.declared.outline.Outline.{Outline}
 use Rattle.plan.specs.Inner.Outline.{varsBefore, Entry}
-use Rattle.matcher.specs.Tables.{varAt}
+use Rattle.matcher.specs.Inner.Tables.{varAt}
 use Rattle.fulltext.specs.Positions.{limit}
 use Rattle.fulltext.specs.Documents.{found}
 

@@ -1,0 +1,9 @@
+-- What serves contracts inside the engine only.
+--     Cursors      where cursors stand on the lists of a volume, and how they move
+--     Tables       the cursor of each variable of a plan
+--     Shortfall    what a predicate that fails needs
+--     Settling     where a pattern's variables stand on the way to its least match
+pub mod Cursors
+pub mod Tables
+pub mod Shortfall
+pub mod Settling
