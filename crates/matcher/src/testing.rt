@@ -29,6 +29,7 @@ use plan::Checked;
 use plan::Outline;
 use plan::Predicate;
 use plan::lay_out;
+use plan::list_at;
 use plan::outline_at;
 use plan::predicate_at;
 use volume::Posting;
@@ -81,8 +82,8 @@ fn all_listed(volume: &[u8], plan: &[u32], outline: Outline, doc: u32, positions
     let mut x: usize = 0;
     while x < n {
         let row = outline.condition - outline.vars + x;
-        let list = plan[4 * row + 1] as usize;
-        if !list_holds(volume, list, doc, positions[x]) {
+        let list = list_at(plan, row);
+        if !list_holds(volume, list as usize, doc, positions[x]) {
             return false;
         }
         x += 1;

@@ -6,7 +6,7 @@
 --     Passed               a plan that passes every test
 --     Check                the rungs of the verdict, and what its tests decide
 --     Patterns, Given      what a plan that passes every test gives
---     Spans                the first row of a kind
+--     Spans                the first row of a sort
 --     Reading, Walk, Parts     the rows that say a pattern, the walk over them, and where they lie
 --     Shown                what showing a pattern answers
 --     CheckFirst           checking answers the first refusal that applies

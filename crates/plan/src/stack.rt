@@ -39,7 +39,8 @@ fn operate(operator: Operator, stack: u32) -> u32
 // found and 0 if not.
 pub fn answer_of(plan: &[u32], bits: u32) -> bool
     requires { ⌜ ((v : List ℕ) × Accepted v (now plan)) ⌝ }
-    ensures { λ r. ⌜ ((found : Pattern → Bool) → bits ≡ foundBits found (now (plan .entry)) → r ≡ answer found (rowsOf (now (plan .entry)))) ⌝ }
+    ensures { λ r. ⌜ ((found : Pattern → Bool) → bits ≡ foundBits found (now (plan .entry))
+        → r ≡ answer found (rowsOf (now (plan .entry)))) ⌝ }
 {
     let n = plan.len() / 4;
     let mut stack: u32 = 0;

@@ -1,6 +1,6 @@
 -- The laws of `specs/Inner/Tables.antt` on cursors: the list of each variable of an accepted plan, and a cursor for each. No contract cites this file.
 --     varAt-is                                 the variables of a plan are those of its patterns in order
---     Voiced, VoicedAt, voiced                 what the VOICE row of a variable gives
+--     Voiced, voiced, voiced-list              what the VOICE row of a variable gives
 --     Placing, placing-first, placing-as, placing-next, placing-done     cursors that are set one by one
 -- Assumes nothing.
 use Prim.Native.Nat.{ℕ, zero, suc, _+_, _-_, _*_, _<_, _≤_}
@@ -15,12 +15,13 @@ use lib.Seq.{getD-append-add, getD-set-same, getD-set-other}
 use Rattle.seq.specs.Lists.{total, joined}
 use Rattle.seq.proofs.Laws.Tests.{below-or}
 use Rattle.volume.specs.Layout.{listCount}
+use Rattle.plan.specs.declared.row.Kind.{Kind}
 use Rattle.plan.specs.declared.row.Kind.the-variants as kind
-use Rattle.plan.specs.Rows.{rowCount, kindAt, aAt, bAt, cAt, rowAt, rowsOf, formWrongAt, wordsOf}
+use Rattle.plan.specs.declared.outline.Outline.{Outline}
+use Rattle.plan.specs.Rows.{rowCount, rowAt, rowsOf, formWrongAt}
 use Rattle.plan.specs.Patterns.{Pattern, noRow, patternsOf, varsOf}
 use Rattle.plan.specs.Check.{Accepted, sizes}
 use Rattle.plan.specs.Accepted.{patternAt}
-use Rattle.plan.proofs.Laws.Rows.{words-of}
 use Rattle.plan.proofs.Laws.Accepted.{given}
 use Rattle.matcher.specs.declared.cursor.Cursor.{Cursor}
 use Rattle.plan.specs.Inner.Outline.{varsBefore, Entry}
@@ -43,35 +44,42 @@ pub varAt-is : (p : List ℕ) (k i : ℕ) → k < sizes p .patterns → i < leng
 unfolding varsOf varsBefore sizes
 varAt-is p k i h l = joined-at (patternsOf (rowsOf p)) k i h l
 
--- the list that a VOICE row names
-list-at : (p : List ℕ) (j list : ℕ) → formWrongAt p j ≡ false → rowAt p j .kind ≡ kind.Voice list → aAt p j ≡ list
-unfolding rowAt
-list-at p j list formed e = ap (λ (ws : List ℕ). getD ws 1 0) (sym (words-of (kindAt p j) (aAt p j) (bAt p j) (cAt p j) formed) ∙ ap wordsOf e)
+-- what row `row` gives, the VOICE over `list` of variable x among those of the plan
+pub record Voiced (v p : List ℕ) (row x list : ℕ) : Type 0 where
+  pub inside : row < rowCount p
+  pub formed : formWrongAt p row ≡ false
+  pub kind-is : rowAt p row .kind ≡ kind.Voice list
+  pub var-is : list ≡ varAt p x
+  pub there : list < listCount v
+  pub few : x < 51
 
--- what row `row` + i gives, the VOICE of variable `first` + i
-pub record Voiced (v p : List ℕ) (first row i : ℕ) : Type 0 where
-  pub inside : row + i < rowCount p
-  pub list-is : aAt p (row + i) ≡ varAt p (first + i)
-  pub there : aAt p (row + i) < listCount v
-  pub few : first + i < 51
-
--- the same, by the table
-abbrev pub VoicedAt : List ℕ → List ℕ → List ℕ → ℕ → ℕ → Type 0
-VoicedAt v p table k i = Voiced v p (getD table (4 * k) 0) (getD table (4 * k + 2) 0 - getD table (4 * k + 1) 0) i
-
-pub voiced : (v p : List ℕ) → Accepted v p → (k : ℕ) → k < sizes p .patterns → (first vars condition last : ℕ) → Entry p (record { pattern = k; first = first; vars = vars; condition = condition; last = last }) → (i : ℕ) → i < vars → Voiced v p first (condition - vars) i
-voiced v p accepted k h first vars condition last e i l =
+pub voiced :
+    (v p : List ℕ) → Accepted v p → (o : Outline) → o .pattern < sizes p .patterns → Entry p o
+    → (i : ℕ) → i < o .vars → Voiced v p (o .condition - o .vars + i) (o .first + i) (getD (patternAt p (o .pattern) .vars) i 0)
+voiced v p accepted o h e i l =
     let g = given v p accepted in
     let n = e .vars-are in
-    let m : i < length (patternAt p k .vars) = omega arith in
-    let inside : (condition - vars) + i < rowCount p = let a = e .room in let b = e .last-is in let c = e .inside in omega arith in
-    let list : aAt p ((condition - vars) + i) ≡ getD (patternAt p k .vars) i 0 = list-at p ((condition - vars) + i) (getD (patternAt p k .vars) i 0) (g .formed ((condition - vars) + i) inside) (e .voices i l) in
+    let m : i < length (patternAt p (o .pattern) .vars) = omega arith in
+    let inside : o .condition - o .vars + i < rowCount p = let a = e .room in let b = e .last-is in let c = e .inside in omega arith in
     record {
       inside = inside;
-      list-is = list ∙ sym (ap (λ (x : ℕ). varAt p (x + i)) (e .first-is) ∙ varAt-is p k i h m);
-      there = rw list (g .well-made k h .lists i m .1);
-      few = let w = vars-within p k h in let f = e .first-is in let b = g .most-vars in omega arith;
+      formed = g .formed (o .condition - o .vars + i) inside;
+      kind-is = e .voices i l;
+      var-is = sym (ap (λ (x : ℕ). varAt p (x + i)) (e .first-is) ∙ varAt-is p (o .pattern) i h m);
+      there = g .well-made (o .pattern) h .lists i m .1;
+      few = let w = vars-within p (o .pattern) h in let f = e .first-is in let b = g .most-vars in omega arith;
     }
+
+-- the list that a row is read to name is that list
+named : Kind → ℕ
+named (kind.Voice list) = list
+named (kind.Condition c) = 0
+named kind.End = 0
+named (kind.Operator o) = 0
+
+pub voiced-list : {v p : List ℕ} {row x list : ℕ} → Voiced v p row x list → (r : ℕ) → rowAt p row .kind ≡ kind.Voice r → r ≡ list
+unfolding named
+voiced-list w r e = ap named (sym e ∙ w .kind-is)
 
 -- the cursors of the first x variables, in two buffers of n and m numbers
 pub record Placing (v p : List ℕ) (d n m : ℕ) (ats ends : List ℕ) (x : ℕ) : Type 0 where

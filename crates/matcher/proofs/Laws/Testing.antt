@@ -35,7 +35,7 @@ use Rattle.volume.proofs.Laws.Check.{good}
 use Rattle.plan.specs.declared.row.Predicate.{Predicate}
 use Rattle.plan.specs.declared.row.Predicate.the-variants.{Window}
 use Rattle.plan.specs.declared.row.Kind.the-variants as kind
-use Rattle.plan.specs.Rows.{rowCount, aAt, rowAt, formWrongAt, InRange}
+use Rattle.plan.specs.Rows.{rowCount, rowAt, formWrongAt, InRange}
 use Rattle.plan.specs.State.{namesBelow}
 use Rattle.plan.specs.Patterns.{Pattern}
 use Rattle.plan.specs.Answers.{Sizes}
@@ -58,7 +58,7 @@ use Rattle.fulltext.proofs.Laws.Positions.{positions-hold}
 use Rattle.fulltext.proofs.Laws.Least.{fits-iff, allHold-iff}
 use Rattle.matcher.proofs.Laws.Cursors.{seek-ge, seek-le, seek-at, seek-below}
 use Rattle.matcher.proofs.Laws.Volume.{list-stretch, held, holds-at}
-use Rattle.matcher.proofs.Laws.Placed.{varAt-is, voiced}
+use Rattle.matcher.proofs.Laws.Placed.{Voiced, voiced, voiced-list}
 
 pub small-decides : (ps : List ℕ) → Decides (all (λ q. leb q 65535) ps) (InDocument ps)
 small-decides ps = record {
@@ -184,14 +184,6 @@ pub record LaidOut (p : List ℕ) (k : ℕ) (o : Outline) : Type 0 where
 pub laid : {p : List ℕ} (table : List ℕ) → Tabled p table → (k : ℕ) → k < sizes p .patterns → {o : Outline} → o ≡ outlineAt table k → LaidOut p k o
 laid table t k h e = record { entry = rw e (t k h); pattern-is = ap (λ (o : Outline). o .pattern) e; vars-are = ap (λ (o : Outline). o .vars) e ∙ t k h .vars-are }
 
--- the VOICE row of a variable over `list`
-pub record Voice (v p : List ℕ) (row list : ℕ) : Type 0 where
-  pub inside : row < rowCount p
-  pub few : row < 64
-  pub there : aAt p row < listCount v
-  pub small : aAt p row < 1024
-  pub list-is : aAt p row ≡ list
-
 -- the row of predicate c, for n variables
 pub record Stated (p : List ℕ) (row n : ℕ) (c : Predicate) : Type 0 where
   pub inside : row < rowCount p
@@ -236,22 +228,22 @@ module _ {v p : List ℕ} {o : Outline} {d : ℕ} {ps : List ℕ} (posed : Asked
   pub vars-order : o .vars ≤ condition
   vars-order = posed .entry .room
 
-  pub voice-of : (x : ℕ) → x < length ps → Voice v p (firstVar + x) (getD vars x 0)
+  pub voice-of : (x : ℕ) → x < length ps → Voiced v p (firstVar + x) (o .first + x) (getD vars x 0)
   voice-of x h =
       let e = posed .entry in
       let n = posed .number in
       let m = e .vars-are in
-      let w = voiced v p (posed .accepted) k (posed .pattern) (o .first) (o .vars) condition last e x (omega arith) in
-      let g = posed-given in
-      let i = w .inside in
-      let t = w .there in
-      let r = g .most-rows in
-      let b = good v (g .volume-accepted) .lists-most in
-      record { inside = i; few = omega arith; there = t; small = omega arith; list-is = w .list-is ∙ ap (λ (y : ℕ). varAt p (y + x)) (e .first-is) ∙ varAt-is p k x (posed .pattern) (omega arith) }
+      voiced v p (posed .accepted) o (posed .pattern) e x (omega arith)
 
-  module _ (x : ℕ) (h : x < length ps) (t : Bool) (e : t ≡ elem (at ps x) (positionsIn d (listOf (listsOf v) (aAt p (firstVar + x))))) where
+  pub voice-few : (x : ℕ) → x < length ps → firstVar + x < 64
+  voice-few x h = let i = voice-of x h .inside in let r = posed-given .most-rows in omega arith
+
+  -- the list that is read of the VOICE row of variable x, and what it is told to hold
+  module _
+      (x : ℕ) (h : x < length ps) (l : ℕ) (r : rowAt p (firstVar + x) .kind ≡ kind.Voice l)
+      (t : Bool) (e : t ≡ elem (at ps x) (positionsIn d (listOf (listsOf v) l))) where
     variable : t ≡ elem (at ps x) (positionsIn d (listOf (listsOf v) (getD vars x 0)))
-    variable = e ∙ ap (λ (l : ℕ). elem (at ps x) (positionsIn d (listOf (listsOf v) l))) (voice-of x h .list-is)
+    variable = e ∙ ap (λ (l : ℕ). elem (at ps x) (positionsIn d (listOf (listsOf v) l))) (voiced-list (voice-of x h) l r)
 
     pub listed-next : Listed v p k d ps x → t ≡ true → Listed v p k d ps (x + 1)
     listed-next l q y m =

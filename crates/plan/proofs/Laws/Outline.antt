@@ -280,27 +280,37 @@ pub laid-first : (p table : List ℕ) → Laid p (length table) table 0 0
 laid-first p table = record { within = omega arith; same = refl; vars-are = sym (varsBefore-first p); entries = λ j h. absurd (let z : ⊥ = omega arith in z) }
 
 -- one more entry
-pub laid-next : (v p : List ℕ) → Accepted v p → (n : ℕ) (table : List ℕ) (vars k : ℕ) → Laid p n table vars k → k < sizes p .patterns → 4 * sizes p .patterns ≤ n → (start len behind : ℕ) → Spanned p k start len behind → Laid p n (stored table (4 * k) vars (behind - start / 4) behind (start / 4 + len / 4 - 1)) (vars + (behind - start / 4)) (k + 1)
-laid-next v p accepted n table vars k r h l start len behind t =
-    let s = r .same in
-    record {
-      within = omega arith;
-      same = stored-length table (4 * k) vars (behind - start / 4) behind (start / 4 + len / 4 - 1) ∙ r .same;
-      vars-are = let e = r .vars-are in let m = varsBefore-next p k h in omega arith;
-      entries = λ j m. ⊎-elim (earlier j) (λ (o : k ≤ j). let e : j ≡ k = omega arith in rw e here) (below-or j k);
-    }
-  where
-    here : EntryAt p (stored table (4 * k) vars (behind - start / 4) behind (start / 4 + len / 4 - 1)) k
-    here =
+module _ (v p : List ℕ) (accepted : Accepted v p) (n : ℕ) (table : List ℕ) (vars k start len behind : ℕ) where
+  -- its four numbers are stored
+  abbrev pub entered : List ℕ
+  entered = stored table (4 * k) vars (behind - start / 4) behind (start / 4 + len / 4 - 1)
+
+  module _ (r : Laid p n table vars k) (h : k < sizes p .patterns) (l : 4 * sizes p .patterns ≤ n) (t : Spanned p k start len behind) where
+    entry-here : EntryAt p entered k
+    entry-here =
         let s = r .same in
         let m : 4 * k + 3 < length table = omega arith in
-        rw (stored-0 table (4 * k) vars (behind - start / 4) behind (start / 4 + len / 4 - 1) m, stored-1 table (4 * k) vars (behind - start / 4) behind (start / 4 + len / 4 - 1) m, stored-2 table (4 * k) vars (behind - start / 4) behind (start / 4 + len / 4 - 1) m, stored-3 table (4 * k) vars (behind - start / 4) behind (start / 4 + len / 4 - 1) m)
-        (entry-is v p accepted k h vars (behind - start / 4) behind (start / 4 + len / 4 - 1) (r .vars-are) (omega arith) (omega arith) (t .ends))
+        let count = behind - start / 4 in
+        let last = start / 4 + len / 4 - 1 in
+        rw (stored-0 table (4 * k) vars count behind last m, stored-1 table (4 * k) vars count behind last m)
+        (rw (stored-2 table (4 * k) vars count behind last m, stored-3 table (4 * k) vars count behind last m)
+        (entry-is v p accepted k h vars count behind last (r .vars-are) (omega arith) (omega arith) (t .ends)))
 
-    earlier : (j : ℕ) → j < k → EntryAt p (stored table (4 * k) vars (behind - start / 4) behind (start / 4 + len / 4 - 1)) j
-    earlier j m =
-        rw (stored-before table (4 * k) vars (behind - start / 4) behind (start / 4 + len / 4 - 1) (4 * j) (omega arith), stored-before table (4 * k) vars (behind - start / 4) behind (start / 4 + len / 4 - 1) (4 * j + 1) (omega arith), stored-before table (4 * k) vars (behind - start / 4) behind (start / 4 + len / 4 - 1) (4 * j + 2) (omega arith), stored-before table (4 * k) vars (behind - start / 4) behind (start / 4 + len / 4 - 1) (4 * j + 3) (omega arith))
+    entry-before : (j : ℕ) → j < k → EntryAt p entered j
+    entry-before j m =
+        let same = stored-before table (4 * k) vars (behind - start / 4) behind (start / 4 + len / 4 - 1) in
+        rw (same (4 * j) (omega arith), same (4 * j + 1) (omega arith), same (4 * j + 2) (omega arith), same (4 * j + 3) (omega arith))
         (r .entries j m)
+
+    pub laid-next : Laid p n entered (vars + (behind - start / 4)) (k + 1)
+    laid-next =
+        let s = r .same in
+        record {
+          within = omega arith;
+          same = stored-length table (4 * k) vars (behind - start / 4) behind (start / 4 + len / 4 - 1) ∙ r .same;
+          vars-are = let e = r .vars-are in let m = varsBefore-next p k h in omega arith;
+          entries = λ j m. ⊎-elim (entry-before j) (λ (o : k ≤ j). let e : j ≡ k = omega arith in rw e entry-here) (below-or j k);
+        }
 
 pub laid-done : (p : List ℕ) (n : ℕ) (table : List ℕ) (vars k : ℕ) → Laid p n table vars k → sizes p .patterns ≤ k → Tabled p table
 laid-done p n table vars k r h = λ j m. r .entries j (omega arith)

@@ -1,10 +1,14 @@
 -- `testing::all_listed` meets its contract. The invariant of the loop: the lists of the variables so far hold their positions. The measure is
 -- what is left. Assumes nothing.
 use native.Mathlib.Omega.{arith}
-use Prim.Native.Nat.{_-_, _≤_}
+use Prim.Native.Nat.{_-_, _<_, _≤_}
+use mathlib.Core.Path.{_≡_}
 use lib.ListN.{length}
+use denote.Ref.{now}
 use borrow.Author.Tests.{not-true, not-false}
-use Rattle.matcher.proofs.Laws.Testing.{posed-given, vars-order, voice-of, Listed, listed-next, listed-not, listed-all}
+use Rattle.volume.specs.Layout.{listCount}
+use Rattle.matcher.proofs.Laws.Placed.{voiced-list}
+use Rattle.matcher.proofs.Laws.Testing.{posed-given, vars-order, voice-of, voice-few, Listed, listed-next, listed-not, listed-all}
 use Rattle.matcher.proofs.testing.all_listed.Statement.{statement}
 use Rattle.matcher.proofs.testing.all_listed.Tie as tie
 
@@ -14,6 +18,12 @@ Inv-loop volume plan outline doc positions n x₀ x = Listed volume plan (outlin
 abbrev μ-loop : tie.MeasureT-loop
 μ-loop volume plan outline doc positions n x₀ x = length positions - x
 
+-- the list that a turn reads is one of the volume
+there : (c : tie.After-list-at Inv-loop μ-loop) → c .list-at .result < listCount (now (c .before .before .before .before .before .before .before .args .volume))
+there c =
+    let w = voice-of (c .before .before .before .before .before .before .before .pre) (c .before .before .before .loop .x) (omega arith) in
+    rw (voiced-list w (c .list-at .result) (c .list-at .ensures)) (w .there)
+
 loop-holds : tie.Need-loop-holds Inv-loop μ-loop
 loop-holds c = (λ y h. absurd (let z : ⊥ = omega arith in z), omega arith)
 
@@ -21,22 +31,15 @@ sub-row : tie.Need-sub-row Inv-loop μ-loop
 sub-row c = vars-order (c .before .before .before .before .before .before .pre)
 
 add-row : tie.Need-add-row Inv-loop μ-loop
-add-row c = let w = voice-of (c .before .before .before .before .before .before .pre) (c .before .before .loop .x) (omega arith) in omega arith
+add-row c = let w = voice-few (c .before .before .before .before .before .before .pre) (c .before .before .loop .x) (omega arith) in omega arith
 
-mul-list : tie.Need-mul-list Inv-loop μ-loop
-mul-list c = let w = voice-of (c .before .before .before .before .before .before .pre) (c .before .before .loop .x) (omega arith) in omega arith
+list-at-requires : tie.Need-list-at-requires Inv-loop μ-loop
+list-at-requires c κs =
+    let w = voice-of (c .before .before .before .before .before .before .pre) (c .before .before .loop .x) (omega arith) in
+    (w .inside, (w .formed, (_, w .kind-is)))
 
-add-list : tie.Need-add-list Inv-loop μ-loop
-add-list c = let w = voice-of (c .before .before .before .before .before .before .pre) (c .before .before .loop .x) (omega arith) in omega arith
-
-mul-list-2 : tie.Need-mul-list-2 Inv-loop μ-loop
-mul-list-2 c = let w = voice-of (c .before .before .before .before .before .before .pre) (c .before .before .loop .x) (omega arith) in omega arith
-
-shared-slice-read-list : tie.Need-shared-slice-read-list Inv-loop μ-loop
-shared-slice-read-list c = let w = voice-of (c .before .before .before .before .before .before .before .pre) (c .before .before .before .loop .x) (omega arith) in omega arith
-
-cast-list : tie.Need-cast-list Inv-loop μ-loop
-cast-list c = let w = voice-of (c .before .before .before .before .before .before .before .pre) (c .before .before .before .loop .x) (omega arith) in omega arith
+cast-list-holds : tie.Need-cast-list-holds Inv-loop μ-loop
+cast-list-holds c = omega arith
 
 mul-list-holds : tie.Need-mul-list-holds Inv-loop μ-loop
 mul-list-holds c = omega arith
@@ -47,11 +50,13 @@ shared-slice-read-list-holds c = omega arith
 list-holds-requires : tie.Need-list-holds-requires Inv-loop μ-loop
 list-holds-requires c κs =
     let s = c .before .before .before .before .before .before .before .before in
-    let w = voice-of (s .pre) (c .before .before .before .before .loop .x) (omega arith) in
-    (posed-given (s .pre) .volume-accepted, (w .there, (s .pre .doc-small, s .pre .small (c .before .before .before .before .loop .x) (omega arith))))
+    (posed-given (s .pre) .volume-accepted, (there (c .before), (s .pre .doc-small, s .pre .small (c .before .before .before .before .loop .x) (omega arith))))
 
 returns : tie.Need-returns Inv-loop μ-loop
-returns c = listed-not (c .before .before .before .before .before .before .before .before .before .before .pre) (c .before .before .before .before .before .before .loop .x) (omega arith) _ (c .before .list-holds .ensures) (not-true _ (c .if1 .taken))
+returns c =
+    let s = c .before .before .before .before .before .before .before .before .before .before in
+    let l = c .before .before .before .before .before .before .loop in
+    listed-not (s .pre) (l .x) (omega arith) _ (c .before .before .before .list-at .ensures) _ (c .before .list-holds .ensures) (not-true _ (c .if1 .taken))
 
 add-x : tie.Need-add-x Inv-loop μ-loop
 add-x c = omega arith
@@ -61,8 +66,10 @@ loop-less c = omega arith
 
 loop-again : tie.Need-loop-again Inv-loop μ-loop
 loop-again c =
+    let s = c .before .before .before .before .before .before .before .before .before .before in
     let l = c .before .before .before .before .before .before .loop in
-    (listed-next (c .before .before .before .before .before .before .before .before .before .before .pre) (l .x) (omega arith) _ (c .before .list-holds .ensures) (l .inv .0) (not-false _ (c .if1 .left)), omega arith)
+    let listed = c .before .before .before .list-at .ensures in
+    (listed-next (s .pre) (l .x) (omega arith) _ listed _ (c .before .list-holds .ensures) (l .inv .0) (not-false _ (c .if1 .left)), omega arith)
 
 returns-2 : tie.Need-returns-2 Inv-loop μ-loop
 returns-2 c = listed-all (c .before .before .before .before .before .pre) _ (c .loop-test .left) (c .before .loop .inv .0)
@@ -76,11 +83,8 @@ all-listed-spec =
     loop-holds
     sub-row
     add-row
-    mul-list
-    add-list
-    mul-list-2
-    shared-slice-read-list
-    cast-list
+    list-at-requires
+    cast-list-holds
     mul-list-holds
     shared-slice-read-list-holds
     list-holds-requires

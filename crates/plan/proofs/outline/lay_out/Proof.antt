@@ -102,7 +102,7 @@ loop-again c =
     let l = c .before .before .before .before .before .loop in
     let start = c .before .before .before .before .before .before .before .before in
     let s = c .before .before .before .span-at .result in
-    laid-next (start .pre .0 .0) (now (start .args .plan)) (start .pre .0 .1) (length (now (start .args .table))) (l .table) (l .vars) (l .k) (l .inv) (omega arith) (omega arith) (s .start) (s .len) (c .before .first-of .result) (turn (c .before))
+    laid-next (start .pre .0 .0) (now (start .args .plan)) (start .pre .0 .1) (length (now (start .args .table))) (l .table) (l .vars) (l .k) (s .start) (s .len) (c .before .first-of .result) (l .inv) (omega arith) (omega arith) (turn (c .before))
 
 same-length : tie.Need-same-length Inv-loop μ-loop
 same-length c = c .before .loop .inv .same

@@ -19,14 +19,20 @@ abbrev μ-loop : tie.MeasureT-loop
 μ-loop plan pattern behind₀ k₀ behind k = pattern - k
 
 -- the two searches of a turn, and those behind the loop
-turn : (c : tie.After-first-of2 Inv-loop μ-loop) → (c .first-of2 .result ≡ parts.ending (now (c .before .before .before .before .before .args .plan)) (c .before .before .before .loop .behind)) × (c .first-of2 .result ≤ rowCount (now (c .before .before .before .before .before .args .plan)) + c .before .before .before .loop .k)
+turn :
+    (c : tie.After-first-of2 Inv-loop μ-loop)
+    → (c .first-of2 .result ≡ parts.ending (now (c .before .before .before .before .before .args .plan)) (c .before .before .before .loop .behind))
+    × (c .first-of2 .result ≤ rowCount (now (c .before .before .before .before .before .args .plan)) + c .before .before .before .loop .k)
 turn c =
     let l = c .before .before .before .loop in
     let p = now (c .before .before .before .before .before .args .plan) in
     let e = c .first-of2 .ensures ∙ ap (parts.firstOf isEnd p) (c .before .first-of .ensures) in
     (e, rw e (found-within isEnd p (parts.opening p (l .behind)) (rowCount p + l .k) (found-within isVoice p (l .behind) (rowCount p + l .k) (l .inv .2) (omega arith)) (omega arith)))
 
-last : (c : tie.After-first-of4 Inv-loop μ-loop) → (c .before .first-of3 .result ≡ parts.firstRow (now (c .before .before .before .before .before .args .plan)) (c .before .before .before .before .before .args .pattern)) × (c .first-of4 .result ≡ parts.lastRow (now (c .before .before .before .before .before .args .plan)) (c .before .before .before .before .before .args .pattern))
+last :
+    (c : tie.After-first-of4 Inv-loop μ-loop)
+    → (c .before .first-of3 .result ≡ parts.firstRow (now (c .before .before .before .before .before .args .plan)) (c .before .before .before .before .before .args .pattern))
+    × (c .first-of4 .result ≡ parts.lastRow (now (c .before .before .before .before .before .args .plan)) (c .before .before .before .before .before .args .pattern))
 last c =
     let l = c .before .before .before .loop in
     let a = c .before .before .before .before .before .args in
