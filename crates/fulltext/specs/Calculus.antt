@@ -1,7 +1,7 @@
 -- The full-text calculus of document 000 (3.2) as data, with its truth in a document, and the formula of a pattern and of a plan.
--- Where 000 gives a position one token, here two lists may hold one position. ∃ ranges over all numbers: `hasPos` stands inside it and says that the
--- number is a position of the document. Left out of 000: ∀, which is ¬ ∃ ¬, and SearchContext, since a formula here is about one document.
--- Assumes nothing.
+-- Where 000 gives a position one token, here two lists may hold one position. ∃ ranges over all numbers: `hasPos` stands inside it and
+-- says that the number is a position of the document. Left out of 000: ∀, which is ¬ ∃ ¬, and SearchContext, since a formula here is about
+-- one document. Assumes nothing.
 use Prim.Native.Nat.{ℕ, zero, suc, _+_, _-_, _*_, _<_, _≤_}
 use mathlib.Core.Path.{_≡_}
 use mathlib.Core.Logic.{_⊎_}

@@ -1,5 +1,5 @@
--- Demand 2 for patterns and plans: the tests that compute and the calculus of document 000 agree. `proofs/Demands.antt` proves it in a line.
--- Assumes nothing.
+-- Demand 2 for patterns and plans: the tests that compute and the calculus of document 000 agree. `proofs/Demands.antt` proves it in a
+-- line. Assumes nothing.
 use Prim.Native.Nat.{ℕ, _<_}
 use mathlib.Core.Path.{_≡_}
 use mathlib.Core.Bool.{true}

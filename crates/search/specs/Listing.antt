@@ -10,7 +10,7 @@ use Rattle.plan.specs.Answers.{Sizes}
 use Rattle.plan.specs.Check.{verdict}
 use Rattle.fulltext.specs.Positions.{limit}
 use Rattle.fulltext.specs.Documents.{Work, docsIn, rowsOfDocs, work}
-use Rattle.search.specs.Pages.{Portion, portion}
+use Rattle.seq.specs.Pages.{Portion, portion}
 use Rattle.search.specs.Answers.{Next, Page, done, more}
 
 -- behind the rows that are written: DONE, with the postings to the end, or MORE and the first document left, with the postings up to it

@@ -69,9 +69,8 @@ fn next_docs(
                 continue;
             }
         }
-        let first = table[4 * k];
-        let n = table[4 * k + 1];
-        docs[k] = align(volume, ats, ends, first, n, doc);
+        let outline = outline_at(table, k);
+        docs[k] = align(volume, ats, ends, outline.first, outline.vars, doc);
         k += 1;
     }
 }

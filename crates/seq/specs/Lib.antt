@@ -1,7 +1,10 @@
 -- The words that the definitions of every crate use, in reading order.
 --     Lists      keep, all, total, joined, elem, rises: lists and tests on them
 --     Numbers    firstFrom, run, sumTo: a test's first index, a function's values as a list, and their sum
---     Refusals   Said, laid, FirstRefusalOf, stageIn, FirstRefusal: what a call answers, what it leaves in a lent buffer, and which refusal comes first
+--     Refusals   Said, laid, FirstRefusalOf, stageIn, FirstRefusal: what a call answers, what it leaves in a lent buffer, and which refusal
+--                comes first
+--     Pages      Portion, portion: what is written of a list of which only so many fit, and the first one left
 pub mod Lists
 pub mod Numbers
 pub mod Refusals
+pub mod Pages

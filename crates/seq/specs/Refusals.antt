@@ -24,7 +24,8 @@ unfolding elem
 stageIn [] n = 0
 stageIn (g ∷ gs) n = let rest = suc (stageIn gs n) in cond (elem n g) 0 rest
 
--- refusal m at place q of stage s comes before refusal n at place p of stage t: by the stage of the call, in a stage by place, at a place by number
+-- refusal m at place q of stage s comes before refusal n at place p of stage t: by the stage of the call, in a stage by place, at a place
+-- by number
 abbrev pub Precedes : ℕ → ℕ → ℕ → ℕ → ℕ → ℕ → Type 0
 Precedes s m q t n p = (s < t) ⊎ ((s ≡ t) × ((q < p) ⊎ ((q ≡ p) × (m < n))))
 

@@ -34,7 +34,7 @@ use Rattle.fulltext.specs.Positions.{limit, listOf, positionsIn, countIn}
 use Rattle.fulltext.specs.Matches.{holds, withEach, tuples, matches, leastIn}
 use Rattle.fulltext.specs.Documents.{found, matching, rowIn, postingsIn, Work, workOf, docsIn, rowsOfDocs, work}
 use Rattle.search.specs.Answers.{Page}
-use Rattle.search.specs.Pages.{portion}
+use Rattle.seq.specs.Pages.{portion}
 use Rattle.search.specs.Listing.{pageBy, pageOf, rowsFrom, listBy, listAnswer, listOut}
 use Rattle.lister.specs.Text.{line, doneWord, refusedWord}
 use Rattle.lister.specs.Printed.{planWords, docLines, listing, printed}

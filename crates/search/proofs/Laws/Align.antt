@@ -58,7 +58,7 @@ lately-not n i s h q = ⊎-elim (λ (x : (i < i) × (i ≤ i + s)). let z : ⊥ 
 lately-all : (n i s j : ℕ) → i < n → n ≤ s → j < n → Lately n i s j
 lately-all n i s j h k l = ⊎-elim (λ (x : j < i). inl (x, omega arith)) (λ (x : i ≤ j). inr (x, omega arith)) (below-or j i)
 
-pub turned-below : (i n : ℕ) → i < n → turned i n < n
+turned-below : (i n : ℕ) → i < n → turned i n < n
 turned-below i n h = go (eqb (i + 1) n) refl
   where
     go : (t : Bool) → eqb (i + 1) n ≡ t → cond t 0 (i + 1) < n

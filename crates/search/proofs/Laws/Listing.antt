@@ -40,13 +40,13 @@ module _ (v p : List ℕ) (start : ℕ) (out : List ℕ) where
   out-answered page e = laid-answered (listAnswer v p start (length out)) page (rowsFrom (work v p) start (length out / work v p .width)) out e
 
   -- 1 to 14
-  pub list-plan-refused : (n q : ℕ) → verdict v p ≡ refused n q → (listAnswer v p start (length out) ≡ refused n q) × (listOut v p start out ≡ out)
+  list-plan-refused : (n q : ℕ) → verdict v p ≡ refused n q → (listAnswer v p start (length out) ≡ refused n q) × (listOut v p start out ≡ out)
   unfolding listAnswer
   list-plan-refused n q e = let a : listAnswer v p start (length out) ≡ refused n q = rw e in (a, out-refused n q a)
 
   -- behind an accepted volume and plan
   module _ (s : Sizes) (ok : verdict v p ≡ answered s) where
-    pub list-start : 65535 < start → (listAnswer v p start (length out) ≡ refused 15 0) × (listOut v p start out ≡ out)
+    list-start : 65535 < start → (listAnswer v p start (length out) ≡ refused 15 0) × (listOut v p start out ≡ out)
     unfolding listAnswer
     list-start h = let a : listAnswer v p start (length out) ≡ refused 15 0 = rw (ok, lt-ltb 65535 start h) in (a, out-refused 15 0 a)
 

@@ -44,7 +44,7 @@ begins w start out₀ h = record {
 
 module _ (w : Work) (even : (d : ℕ) → length (w .rowOf d) ≡ w .width) {start : ℕ} {out₀ : List ℕ} {d n : ℕ} {out : List ℕ} (h : Progress w start out₀ d n out) where
   -- the words of the rows that are laid
-  pub laid-words : length (rowsOfDocs w (docsIn w start d)) ≡ n * w .width
+  laid-words : length (rowsOfDocs w (docsIn w start d)) ≡ n * w .width
   laid-words = length-rows w even (docsIn w start d) ∙ ap (λ (k : ℕ). k * w .width) (sym (h .rows))
 
   pub same-size : length out ≡ length out₀

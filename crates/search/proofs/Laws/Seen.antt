@@ -122,7 +122,7 @@ module _ (v p table ends : List ℕ) (w : Walks v p table ends) where
         (λ (h : limit ≤ doc). let c = b .each 0 (given v p (w .accepted) .some-patterns) in let f = c .from in let t = c .to in omega arith)
         (below-or doc limit)
 
-    pub seen-none : (j : ℕ) → from ≤ j → j < doc → work v p .isTrue j ≡ false
+    seen-none : (j : ℕ) → from ≤ j → j < doc → work v p .isTrue j ≡ false
     unfolding work workOf sizes
     seen-none j f h = matching-none (listsOf v) (rowsOf p) j (λ k i. b .each k i .absent j f (let m = least k i in omega arith))
 

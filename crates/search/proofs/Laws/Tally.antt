@@ -53,7 +53,7 @@ module _ (docs : List ℕ) where
     one = λ b. let o = l .one b in (o .0, (let m = o .1 .0 in omega arith, o .1 .1));
   }
 
-pub length-vars : (p : List ℕ) → length (varsOf (rowsOf p)) ≡ sizes p .vars
+length-vars : (p : List ℕ) → length (varsOf (rowsOf p)) ≡ sizes p .vars
 unfolding varsOf sizes
 length-vars p = length-joined (map (λ (f : Pattern). f .vars) (patternsOf (rowsOf p))) ∙ total-map length (λ (f : Pattern). f .vars) (patternsOf (rowsOf p))
 
@@ -81,7 +81,7 @@ unfolding varsOf sizes
 var-there v p ok x h = let e = length-vars p in joined-below (listCount v) (patternsOf (rowsOf p)) (λ k b i l. given v p ok .well-made k b .lists i l .1) x (omega arith)
 
 -- seeking on from an index that was sought for less is seeking from the start
-pub seek-on : (v : List ℕ) (t u i e : ℕ) → Stretch v i e → t ≤ u → seekFrom v u (seekFrom v t i e) e ≡ seekFrom v u i e
+seek-on : (v : List ℕ) (t u i e : ℕ) → Stretch v i e → t ≤ u → seekFrom v u (seekFrom v t i e) e ≡ seekFrom v u i e
 seek-on v t u i e s h =
     galloped-end v u i e s (seekFrom v t i e) (record { from = seek-ge v t i e; to = seek-le v t i e (s .order); below = λ j a b. let w = seek-below v t i e j a b in omega arith })
 

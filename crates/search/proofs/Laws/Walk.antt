@@ -72,14 +72,11 @@ module _ (v p table ends : List ℕ) (w : Walks v p table ends) where
   g : Given v p
   g = given v p (w .accepted)
 
-  pub walk-patterns : sizes p .patterns ≤ 8
-  walk-patterns = g .most-patterns
-
   module _ (k : ℕ) (inside : k < sizes p .patterns) where
     made : WellMade (listCount v) (patternAt p k)
     made = g .well-made k inside
 
-    pub walk-entry : Entry p (outlineAt table k)
+    walk-entry : Entry p (outlineAt table k)
     walk-entry = w .tabled k inside
 
     pub walk-within : getD table (4 * k) 0 + getD table (4 * k + 1) 0 ≤ sizes p .vars
@@ -147,7 +144,7 @@ module _ (v p table ends : List ℕ) (w : Walks v p table ends) where
               }
 
     -- the other patterns' cursors stay
-    pub others-same : (ats nexts : List ℕ) (d r j : ℕ) → j < sizes p .patterns → j ≢ k → Aligned v ends ats (getD table (4 * k) 0) (getD table (4 * k + 1) 0) d r nexts
+    others-same : (ats nexts : List ℕ) (d r j : ℕ) → j < sizes p .patterns → j ≢ k → Aligned v ends ats (getD table (4 * k) 0) (getD table (4 * k + 1) 0) d r nexts
         → (x : ℕ) → Among (varsBefore p j) (length (patternAt p j .vars)) x → getD nexts x 0 ≡ getD ats x 0
     others-same ats nexts d r j h n al x a = al .others x (λ b. vars-apart p j k x n h inside a (among x b))
 

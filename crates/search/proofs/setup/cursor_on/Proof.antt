@@ -1,4 +1,4 @@
--- `setup::cursor_on` meets its contract. Assumes nothing.
+-- A list's span gives its cursor, which seeks the document.
 use native.Mathlib.Omega.{arith}
 use Prim.Native.Nat.{ℕ, _+_, _*_, _<_}
 use mathlib.Core.Path.{_≡_, ap, _∙_}

@@ -1,4 +1,4 @@
--- `listing::put_row` meets its contract. The loop's invariant: the first i words are copied (`Shown`). The measure is what is left of n. Assumes nothing.
+-- The loop's invariant: the first i words are copied (`Shown`). The measure is what is left of n. Assumes nothing.
 use native.Mathlib.Omega.{arith}
 use Prim.Native.Nat.{_-_, _≤_}
 use mathlib.Core.Path.{_≡_}

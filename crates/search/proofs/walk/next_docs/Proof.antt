@@ -10,7 +10,7 @@ use lib.ListN.{length, getD}
 use borrow.Author.Tests.{not-true, not-false}
 use denote.Ref.{now}
 use Rattle.plan.specs.Check.{sizes}
-use Rattle.search.proofs.Laws.Walk.{walk-patterns, walk-within, walk-few, walk-stretch, Bringing, bringing-first, bringing-kept, bringing-due, bringing-next}
+use Rattle.search.proofs.Laws.Walk.{walk-within, walk-few, walk-stretch, Bringing, bringing-first, bringing-kept, bringing-due, bringing-next}
 
 abbrev Inv-loop : tie.InvT-loop
 Inv-loop volume plan table fresh doc ats₀ ends docs₀ k₀ ats docs k = Bringing volume plan ends doc fresh ats₀ docs₀ ats docs k
@@ -23,7 +23,10 @@ abbrev start-of : tie.At-loop Inv-loop μ-loop → tie.Start Inv-loop μ-loop
 start-of c = c .before .before .before .before .before .before .before
 
 abbrev turn-of : tie.After-align Inv-loop μ-loop → tie.At-loop Inv-loop μ-loop
-turn-of c = c .before .before .before .before .before .before
+turn-of c = c .before .before .before .before .before
+
+abbrev joined-of : tie.After-align Inv-loop μ-loop → tie.Joined1 Inv-loop μ-loop
+joined-of c = c .before .before .before
 
 -- why pattern k is due: no pattern has a document yet, or its own is in front of the document
 due : (c : tie.Joined1 Inv-loop μ-loop) → let start = start-of (c .before .before) in
@@ -69,55 +72,26 @@ loop-again c =
     let n = l .inv .docs-length in
     bringing-kept _ _ _ _ _ _ _ (l .ats) (l .docs) (l .k) (l .inv) (omega arith) (not-true (a .args .fresh) (c .before .before .if1 .taken)) (c .if2 .taken)
 
-mul-first : tie.Need-mul-first Inv-loop μ-loop
-mul-first c =
+outline-at-requires : tie.Need-outline-at-requires Inv-loop μ-loop
+outline-at-requires c κs =
     let start = start-of (c .before .before) in
-    let a = start in let m = walk-patterns _ _ _ _ (a .pre .0) in let i = inside c in omega arith
-
-mul-first-2 : tie.Need-mul-first-2 Inv-loop μ-loop
-mul-first-2 c =
-    let start = start-of (c .before .before) in
-    let a = start in let m = walk-patterns _ _ _ _ (a .pre .0) in let i = inside c in omega arith
-
-shared-slice-read-first : tie.Need-shared-slice-read-first Inv-loop μ-loop
-shared-slice-read-first c =
-    let start = start-of (c .before .before .before) in
-    let a = start in let r = a .pre .0 .table-room in let i = inside (c .before) in omega arith
-
-mul-n : tie.Need-mul-n Inv-loop μ-loop
-mul-n c =
-    let start = start-of (c .before .before .before) in
-    let a = start in let m = walk-patterns _ _ _ _ (a .pre .0) in let i = inside (c .before) in omega arith
-
-add-n : tie.Need-add-n Inv-loop μ-loop
-add-n c =
-    let start = start-of (c .before .before .before) in
-    let a = start in let m = walk-patterns _ _ _ _ (a .pre .0) in let i = inside (c .before) in omega arith
-
-mul-n-2 : tie.Need-mul-n-2 Inv-loop μ-loop
-mul-n-2 c =
-    let start = start-of (c .before .before .before) in
-    let a = start in let m = walk-patterns _ _ _ _ (a .pre .0) in let i = inside (c .before) in omega arith
-
-shared-slice-read-n : tie.Need-shared-slice-read-n Inv-loop μ-loop
-shared-slice-read-n c =
-    let start = start-of (c .before .before .before .before) in
-    let a = start in let r = a .pre .0 .table-room in let i = inside (c .before .before) in omega arith
+    let r = start .pre .0 .table-room in let i = inside c in omega arith
 
 align-requires : tie.Need-align-requires Inv-loop μ-loop
 align-requires c κs =
-    let turn = c .before .before .before .before .before in
+    let joined = c .before .before in
+    let turn = joined .before .before in
     let start = start-of turn in
-    let a = start in
     let l = turn .loop in
-    let w = a .pre .0 in
-    let i = inside (c .before .before .before) in
+    let w = start .pre .0 in
+    let i = inside joined in
     let t = walk-within _ _ _ _ w (l .k) i in
     let f = walk-few _ _ _ _ w (l .k) i in
     let n = l .inv .ats-length in
-    let r = a .pre .1 .1 .0 in
+    let r = start .pre .1 .1 .0 in
     let e = w .ends-room in
-    (omega arith, (omega arith, (f .0, (f .1, (a .pre .1 .1 .1 .0, walk-stretch _ _ _ _ w (l .k) i (l .ats) (a .args .doc) (bringing-due _ _ _ _ _ _ _ (l .ats) (l .docs) (l .k) (l .inv) i (due (c .before .before .before))))))))
+    let stretch = walk-stretch _ _ _ _ w (l .k) i (l .ats) (start .args .doc) (bringing-due _ _ _ _ _ _ _ (l .ats) (l .docs) (l .k) (l .inv) i (due joined)) in
+    rw (c .before .outline-at .ensures) (omega arith, (omega arith, (f .0, (f .1, (start .pre .1 .1 .1 .0, stretch)))))
 
 mul-docs : tie.Need-mul-docs Inv-loop μ-loop
 mul-docs c = omega arith
@@ -127,7 +101,7 @@ slice-write-docs c =
     let aligned = c .before .before in
     let turn = turn-of aligned in
     let start = start-of turn in
-    let r = start .pre .1 .0 in let l = turn .loop .inv .docs-length in let i = inside (aligned .before .before .before .before) in omega arith
+    let r = start .pre .1 .0 in let l = turn .loop .inv .docs-length in let i = inside (joined-of aligned) in omega arith
 
 add-k-2 : tie.Need-add-k-2 Inv-loop μ-loop
 add-k-2 c = omega arith
@@ -143,9 +117,9 @@ loop-again-2 c =
     let a = start in
     let l = turn .loop in
     let r = a .pre .1 .0 in
-    bringing-next _ _ _ _ _ _ _ (l .ats) (l .docs) (l .k) (l .inv) (inside (aligned .before .before .before .before)) (now (a .args .table))
+    bringing-next _ _ _ _ _ _ _ (l .ats) (l .docs) (l .k) (l .inv) (inside (joined-of aligned)) (now (a .args .table))
     (a .pre .0) (omega arith) (c .before .before .align .result) (c .before .before .align .last .1 .0)
-    (due (aligned .before .before .before .before)) (c .before .before .align .ensures)
+    (due (joined-of aligned)) (rw (aligned .before .before .outline-at .ensures) at (aligned .align .ensures))
 
 same-length : tie.Need-same-length Inv-loop μ-loop
 same-length c = c .before .loop .inv .ats-length
@@ -173,13 +147,7 @@ next-docs-spec =
     add-k
     loop-less
     loop-again
-    mul-first
-    mul-first-2
-    shared-slice-read-first
-    mul-n
-    add-n
-    mul-n-2
-    shared-slice-read-n
+    outline-at-requires
     align-requires
     mul-docs
     slice-write-docs
