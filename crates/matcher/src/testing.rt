@@ -26,6 +26,7 @@ use super::cursor::starts_of;
 use super::predicates::Shortfall;
 use super::predicates::falls_short;
 use plan::Checked;
+use plan::MOST_PATTERNS;
 use plan::Outline;
 use plan::Predicate;
 use plan::lay_out;
@@ -76,7 +77,8 @@ fn list_holds(volume: &[u8], list: usize, doc: u32, pos: u32) -> bool
 // Whether the list of each variable of a pattern holds its position.
 fn all_listed(volume: &[u8], plan: &[u32], outline: Outline, doc: u32, positions: &[u32]) -> bool
     requires { ⌜ Asked (now volume) (now plan) outline doc (now positions) ⌝ }
-    ensures { λ r. ⌜ r ≡ fits (varsIn (listsOf (now (volume .entry))) doc (patternAt (now (plan .entry)) (outline .pattern) .vars)) (now (positions .entry)) ⌝ }
+    ensures { λ r. ⌜ r ≡ fits (varsIn (listsOf (now (volume .entry))) doc (patternAt (now (plan .entry)) (outline .pattern) .vars))
+        (now (positions .entry)) ⌝ }
 {
     let n = positions.len();
     let mut x: usize = 0;
@@ -159,7 +161,7 @@ fn test_pattern(
     requires { ⌜ pattern < patterns ⌝ }
     ensures { λ r. ⌜ saidTested r ≡ testAnswer (now (volume .entry)) (now (plan .entry)) pattern doc (now (positions .entry)) ⌝ }
 {
-    let mut table: [usize; 32] = [0; 32];
+    let mut table: [usize; 4 * MOST_PATTERNS] = [0; 4 * MOST_PATTERNS];
     lay_out(plan, patterns, &mut table);
     let outline = outline_at(&table, pattern);
     let vars = outline.vars;
