@@ -3,7 +3,7 @@
 --     Used, formed-known           what four words of the right form are
 --     words-of, range-of           they are the words of their row, whose limit is in range
 --     reads-row                    and such words are read as their row
---     words-at, numberOf, number-at     row i of a plan has the words there; the number of its kind
+--     words-at     row i of a plan has the words there
 --     form-below, form-above       the form of a row of unknown kind
 --     form-a .. form-pair          the form of a row of a known kind, word by word
 --     never-decides                a test that is always false
@@ -39,10 +39,6 @@ use Rattle.plan.specs.Rows.{rowCount, kindAt, aAt, bAt, cAt, kindOf, row
 use Rattle.plan.specs.Refusals.{Stray, WrongPair, WrongForm}
 use Rattle.plan.proofs.Laws.Passed.{Passed}
 use Rattle.seq.proofs.Laws.Slices.{length-slice, getD-slice, slice-run}
-
--- the first word of a row
-abbrev pub numberOf : Kind → ℕ
-numberOf k = getD (wordsOf k) 0 0
 
 pub each-kind : (P : ℕ → Type 0) → P 1 → P 2 → P 3 → P 4 → P 5 → P 6 → P 7 → P 8 → P 9 → (k : ℕ) → 1 ≤ k → k ≤ lastKind → P k
 each-kind P p1 p2 p3 p4 p5 p6 p7 p8 p9 zero l h = absurd (let z : ⊥ = omega arith in z)
@@ -166,9 +162,6 @@ module _ (p : List ℕ) where
   words-at : (i : ℕ) → formWrongAt p i ≡ false → wordsOf (rowAt p i .kind) ≡ kindAt p i ∷ aAt p i ∷ bAt p i ∷ cAt p i ∷ []
   unfolding rowAt
   words-at i e = words-of (kindAt p i) (aAt p i) (bAt p i) (cAt p i) e
-
-  pub number-at : (i : ℕ) → formWrongAt p i ≡ false → numberOf (rowAt p i .kind) ≡ kindAt p i
-  number-at i e = ap (λ (ws : List ℕ). getD ws 0 0) (words-at i e)
 
   -- the words of m rows of the right form, from row i on
   words-run : (i m : ℕ) → ((j : ℕ) → i ≤ j → j < i + m → formWrongAt p j ≡ false) → planOf (run (rowAt p) i m) ≡ run (λ j. getD p j 0) (4 * i) (4 * m)

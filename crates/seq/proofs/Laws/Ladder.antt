@@ -63,14 +63,26 @@ module _ (stage : ℕ → ℕ) (Applies : ℕ → ℕ → Type 0) where
 
 module _ {A : Type 0} (stage : ℕ → ℕ) (Applies : ℕ → ℕ → Type 0) (value : A) where
   -- a rung of a stage with one number n, which applies at the places of P, at the lowest of them
-  pub searched : (t : Bool) (n p : ℕ) (rest : Said A) (P : ℕ → Type 0) → Clear stage Applies (stage n) → ((m q : ℕ) → Applies m q → stage m ≡ stage n → (m ≡ n) × P q) → (t ≡ true → Applies n p × ((q : ℕ) → P q → q < p → ⊥)) → (t ≡ false → (q : ℕ) → P q → ⊥) → (Clear stage Applies (suc (stage n)) → Sound stage Applies value rest) → Sound stage Applies value (cond t (refused n p) rest)
+  pub searched : (t : Bool) (n p : ℕ) (rest : Said A) (P : ℕ → Type 0)
+      → Clear stage Applies (stage n)
+      → ((m q : ℕ) → Applies m q → stage m ≡ stage n → (m ≡ n) × P q)
+      → (t ≡ true → Applies n p × ((q : ℕ) → P q → q < p → ⊥))
+      → (t ≡ false → (q : ℕ) → P q → ⊥)
+      → (Clear stage Applies (suc (stage n)) → Sound stage Applies value rest)
+      → Sound stage Applies value (cond t (refused n p) rest)
   searched t n p rest P c only found none later =
       rung stage Applies value t n p rest
       (λ e. let f = found e in alone stage Applies n p P c only (f .0) (f .1))
       (λ e. later (clear-next stage Applies (stage n) c (λ m q a s. none e q (only m q a s .1))))
 
   -- a rung of a stage with one number n, which has no place
-  pub single : (t : Bool) (n : ℕ) (rest : Said A) (P : Type 0) → Decides t P → (P → Applies n 0) → Clear stage Applies (stage n) → ((m q : ℕ) → Applies m q → stage m ≡ stage n → (m ≡ n) × ((q ≡ 0) × P)) → (Clear stage Applies (suc (stage n)) → Sound stage Applies value rest) → Sound stage Applies value (cond t (refused n 0) rest)
+  pub single : (t : Bool) (n : ℕ) (rest : Said A) (P : Type 0)
+      → Decides t P
+      → (P → Applies n 0)
+      → Clear stage Applies (stage n)
+      → ((m q : ℕ) → Applies m q → stage m ≡ stage n → (m ≡ n) × ((q ≡ 0) × P))
+      → (Clear stage Applies (suc (stage n)) → Sound stage Applies value rest)
+      → Sound stage Applies value (cond t (refused n 0) rest)
   single t n rest P d make c only later =
       searched t n 0 rest (λ q. (q ≡ 0) × P) c only
       (λ e. (make (d .yes e), λ q w h. let z : q ≡ 0 = w .0 in omega arith))
