@@ -3,7 +3,7 @@
 --     Used, formed-known           what four words of the right form are
 --     words-of, range-of           they are the words of their row, whose limit is in range
 --     reads-row                    and such words are read as their row
---     words-at     row i of a plan has the words there
+--     words-at                     row i of a plan has the words there
 --     form-below, form-above       the form of a row of unknown kind
 --     form-a .. form-pair          the form of a row of a known kind, word by word
 --     never-decides                a test that is always false
