@@ -31,11 +31,12 @@ fn the_sample_listing() {
     assert_eq!(printed, "scene 1 1 2 5\nscene 2 1 4 9\ndone 6\n");
 }
 
-/// The plans of the table, each with the words of its rows and its tally. A buffer of every length
-/// gives them, in as many calls as it takes.
+/// The plans of the table, each with the words of its rows and its tally, and BOTH and EITHER in the
+/// place of its FIRST NOT SECOND. A buffer of every length gives them, in as many calls as it takes.
 #[test]
 fn the_table_of_cases() {
-    let before_not_near = [two(&[before(0, 1)]), two(&[near(0, 1, 0)]), vec![FIRST_NOT_SECOND]];
+    let before_and_near =
+        |operator: Row| [two(&[before(0, 1)]), two(&[near(0, 1, 0)]), vec![operator]].concat();
     let rows: &[(&str, Vec<Row>, &[u32], u32)] = &[
         ("the listing", SAMPLE.to_vec(), &[1, 1, 2, 5, 2, 1, 4, 9], 6),
         ("NEAR 0 1, c = 0", two(&[near(0, 1, 0)]), &[1, 1, 8, 7], 6),
@@ -48,8 +49,15 @@ fn the_table_of_cases() {
         ("BEFORE 0 0", vec![voice(1), before(0, 0), END], &[], 3),
         (
             "BEFORE 0 1 FIRST NOT SECOND NEAR c = 0",
-            before_not_near.concat(),
+            before_and_near(FIRST_NOT_SECOND),
             &[2, 1, 4, 9, 0, 0, 0],
+            12,
+        ),
+        ("BEFORE 0 1 BOTH NEAR c = 0", before_and_near(BOTH), &[1, 1, 2, 5, 1, 8, 7], 12),
+        (
+            "BEFORE 0 1 EITHER NEAR c = 0",
+            before_and_near(EITHER),
+            &[1, 1, 2, 5, 1, 8, 7, 2, 1, 4, 9, 0, 0, 0],
             12,
         ),
     ];
