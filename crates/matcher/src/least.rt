@@ -14,6 +14,7 @@ use super::cursor::Cursor;
 use super::cursor::Document;
 use super::predicates::Shortfall;
 use super::predicates::falls_short;
+use plan::MOST_PATTERN_VARS;
 use plan::Outline;
 use plan::predicate_at;
 
@@ -156,8 +157,8 @@ pub fn settle(
 {
     let first = outline.first;
     let n = outline.vars;
-    let mut here: [usize; 8] = [0; 8];
-    let mut positions: [u32; 8] = [0; 8];
+    let mut here: [usize; MOST_PATTERN_VARS] = [0; MOST_PATTERN_VARS];
+    let mut positions: [u32; MOST_PATTERN_VARS] = [0; MOST_PATTERN_VARS];
     stand(volume, ats, first, n, &mut here, &mut positions);
     let matches = match_from(
         volume,
@@ -172,7 +173,7 @@ pub fn settle(
         show(1, &positions, n, row);
         return true;
     }
-    let zeros: [u32; 8] = [0; 8];
+    let zeros: [u32; MOST_PATTERN_VARS] = [0; MOST_PATTERN_VARS];
     show(0, &zeros, n, row);
     false
 }

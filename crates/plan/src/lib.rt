@@ -4,7 +4,7 @@
 //
 // None of the three has a `requires`, nor has `pattern_span`. What each one answers is an equation
 // with a definition of `specs/`. `row_at`, `list_at`, `predicate_at`, `has_samepara`, `lay_out`,
-// `outline_at` and `answer_of` serve the crates above, on a plan that they have checked.
+// `outline_at`, `answer_of` and `recall` serve the crates above, on a plan that they have checked.
 mod answers;
 mod checking;
 mod codes;
@@ -22,6 +22,8 @@ pub use answers::Fault;
 pub use answers::Refusal;
 pub use checking::check;
 pub use codes::code_of;
+pub use limits::MOST_FOUND_SETS;
+pub use limits::MOST_PATTERN_VARS;
 pub use limits::MOST_PATTERNS;
 pub use limits::MOST_ROW_WORDS;
 pub use limits::MOST_VARS;
@@ -42,3 +44,4 @@ pub use showing::Span;
 pub use showing::pattern_rows;
 pub use showing::pattern_span;
 pub use stack::answer_of;
+pub use stack::recall;

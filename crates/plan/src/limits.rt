@@ -11,6 +11,8 @@ pub const MOST_ROWS: usize = 64;
 pub const MOST_WORDS: usize = 4 * MOST_ROWS;
 // The most patterns (01: figures) of a plan.
 pub const MOST_PATTERNS: usize = 8;
+// The sets of found patterns of a plan with the most patterns.
+pub const MOST_FOUND_SETS: usize = 256;
 // The most variables (01: voices) of a pattern.
 pub const MOST_PATTERN_VARS: usize = 8;
 // The most variables of an accepted plan: 7 patterns have 7 ENDs, and 6 operators make one answer of

@@ -2,13 +2,13 @@
 ghost use mathlib.Core.Path.{_≡_};
 ghost use mathlib.Core.Bool.{Bool};
 ghost use mathlib.Core.List.{List};
-ghost use Prim.Native.Nat.{ℕ, _≤_};
-ghost use lib.ListN.{length};
+ghost use Prim.Native.Nat.{ℕ, _+_, _<_, _≤_};
+ghost use lib.ListN.{length, set};
 ghost use Rattle.plan.specs.Rows.{rowsOf};
 ghost use Rattle.plan.specs.Patterns as patterns;
 ghost use Rattle.plan.specs.Patterns.{Pattern, answer};
 ghost use Rattle.plan.specs.Check.{Accepted};
-ghost use Rattle.plan.specs.Inner.Stack.{bitsOf, foundBits, joinsTwo};
+ghost use Rattle.plan.specs.Inner.Stack.{flagOf, bitsOf, foundBits, joinsTwo, Remembers};
 use super::row::Kind;
 use super::row::Operator;
 use super::row::row_at;
@@ -63,4 +63,24 @@ pub fn answer_of(plan: &[u32], bits: u32) -> bool
         i += 1;
     }
     stack % 2 == 1
+}
+
+// The same, each set of found patterns asked once: `known` has a number for each set, 0 where it was
+// not asked, 1 for no and 2 for yes.
+pub fn recall(plan: &[u32], bits: u32, known: &mut [u8]) -> bool
+    requires { ⌜ ((v : List ℕ) × Accepted v (now plan)) ⌝ }
+    requires { ⌜ Remembers (now plan) (now known) ⌝ }
+    requires { ⌜ bits < length (now known) ⌝ }
+    ensures { λ r. ⌜ ((found : Pattern → Bool) → bits ≡ foundBits found (now (plan .entry))
+        → r ≡ answer found (rowsOf (now (plan .entry)))) ⌝ }
+    ensures { λ r. ⌜ now (known .exit) ≡ set (now (known .entry)) bits (1 + flagOf r) ⌝ }
+{
+    let at = bits as usize;
+    let mark = known[at];
+    if mark != 0 {
+        return mark == 2;
+    }
+    let yes = answer_of(plan, bits);
+    known[at] = 1 + yes as u8;
+    yes
 }

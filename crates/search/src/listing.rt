@@ -19,11 +19,13 @@ use super::walk::visit;
 use matcher::Cursor;
 use matcher::starts_of;
 use plan::Checked;
+use plan::MOST_FOUND_SETS;
 use plan::MOST_PATTERNS;
 use plan::MOST_ROW_WORDS;
 use plan::MOST_VARS;
 use plan::has_samepara;
 use plan::lay_out;
+use plan::recall;
 use plan::row_words;
 use volume::Posting;
 
@@ -81,6 +83,7 @@ fn list_docs(
     let mut starts = starts_of(volume);
     let mut docs: [u32; MOST_PATTERNS] = [0; MOST_PATTERNS];
     let mut row: [u32; MOST_ROW_WORDS] = [0; MOST_ROW_WORDS];
+    let mut known: [u8; MOST_FOUND_SETS] = [0; MOST_FOUND_SETS];
     let mut rows: usize = 0;
     let mut from = start;
     loop {
@@ -107,7 +110,7 @@ fn list_docs(
         }
         from = doc + 1;
         starts = seen.starts;
-        if !seen.matching {
+        if !recall(plan, seen.bits, &mut known) {
             continue;
         }
         if rows == room {

@@ -20,8 +20,8 @@ use matcher::Cursor;
 use matcher::Document;
 use matcher::settle;
 use matcher::show;
+use plan::MOST_PATTERN_VARS;
 use plan::Outline;
-use plan::answer_of;
 use plan::outline_at;
 
 // Where a walk goes on: the document from which on, whether no pattern has a document yet, a cursor
@@ -33,10 +33,11 @@ pub struct Walk {
     pub paras: bool,
 }
 
-// A document, whether it is true, and a cursor on list 0 that has not passed it.
+// A document, the bits of the patterns that are found there, that of pattern 0 the lowest, and a
+// cursor on list 0 that has not passed it.
 pub struct Seen {
     pub doc: u32,
-    pub matching: bool,
+    pub bits: u32,
     pub starts: Cursor,
 }
 
@@ -127,7 +128,7 @@ fn show_pattern(
     if next == document.doc {
         return settle(volume, plan, outline, document, ats, ends, row);
     }
-    let zeros: [u32; 8] = [0; 8];
+    let zeros: [u32; MOST_PATTERN_VARS] = [0; MOST_PATTERN_VARS];
     show(0, &zeros, outline.vars, row);
     false
 }
@@ -180,8 +181,8 @@ fn fill_row(
     bits
 }
 
-// The next document in which a pattern can be found, 65,536 where there is none: whether it is true,
-// and its row.
+// The next document in which a pattern can be found, 65,536 where there is none: which patterns are
+// found there, and its row.
 pub fn visit(
     volume: &[u8],
     plan: &[u32],
@@ -204,17 +205,12 @@ pub fn visit(
     if doc == 65536 {
         return Seen {
             doc,
-            matching: false,
+            bits: 0,
             starts: passed,
         };
     }
     let starts = bring_starts(volume, passed, walk.paras, doc);
     let document = Document { doc, starts };
     let bits = fill_row(volume, plan, table, document, ats, ends, docs, row);
-    let matching = answer_of(plan, bits);
-    Seen {
-        doc,
-        matching,
-        starts,
-    }
+    Seen { doc, bits, starts }
 }

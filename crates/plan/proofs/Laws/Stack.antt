@@ -5,16 +5,22 @@
 --     reading-small                        the bits are eight at most
 --     reading-voice, reading-condition, reading-end, reading-operate     behind a row, by its kind
 --     reading-done                         behind the last row
+--     found-small                          the bits of the found patterns are eight at most
+--     remembers-first, remembers-next      nothing is known; one answer more is
+--     recalled, recalled-same              what is known is the answer, and stays
 -- Assumes nothing.
 use Prim.Native.Nat.{ℕ, zero, suc, _+_, _-_, _*_, _^_, _/_, _%_, _<_, _≤_}
 use native.Mathlib.Nat.{two-pow-succ}
 use native.Mathlib.Omega.{arith}
-use mathlib.Core.Path.{_≡_, refl, sym, ap, ap₂, _∙_}
+use mathlib.Core.Path.{_≡_, refl, sym, ap, ap₂, subst, _∙_}
 use mathlib.Core.Bool.{Bool, true, false}
+use mathlib.Core.Logic.{_≢_, ⊎-elim}
 use mathlib.Core.List.{List, [], _∷_, _++_, map}
-use lib.ListN.{length, getD}
+use lib.ListN.{length, getD, set, replicate, length-map}
+use lib.Seq.{getD-set-same, getD-set-other, set-getD}
 use lib.Dec.{eqb}
 use Rattle.seq.specs.Numbers.{run}
+use Rattle.seq.proofs.Laws.Decides.{decided, eqb-decides}
 use Rattle.seq.proofs.Laws.Numbers.{run-end, run-step}
 use Rattle.plan.specs.declared.row.Predicate.{Predicate}
 use Rattle.plan.specs.declared.row.Operator.{Operator}
@@ -25,9 +31,9 @@ use Rattle.plan.specs.declared.state.State.{State}
 use Rattle.plan.specs.declared.row.Row.{Row}
 use Rattle.plan.specs.Rows.{rowCount, rowAt, rowsOf}
 use Rattle.plan.specs.State.{takes, after, stateAt, orderWrong}
-use Rattle.plan.specs.Patterns.{Pattern, noRow, openAfter, closed, patternsFrom, operate, answersAfter, answersFrom, answer}
+use Rattle.plan.specs.Patterns.{Pattern, noRow, openAfter, closed, patternsFrom, patternsOf, operate, answersAfter, answersFrom, answer}
 use Rattle.plan.specs.Check.{sizes}
-use Rattle.plan.specs.Inner.Stack.{flagOf, bitsOf, foundBits, joinsTwo}
+use Rattle.plan.specs.Inner.Stack.{flagOf, bitsOf, foundBits, joinsTwo, Remembers}
 use Rattle.plan.proofs.Laws.State.{stateAt-first, stateAt-next, takes-two, operator-stands}
 use Rattle.plan.proofs.Laws.Patterns.{operate-length}
 
@@ -238,3 +244,57 @@ module _ (p : List ℕ) (bits stack rest i : ℕ) (r : Reading p bits stack rest
         (omega arith)
         (rest-same x e refl)
         (λ found f. refl)
+
+-- the bits of the found patterns
+pub found-small : (found : Pattern → Bool) (p : List ℕ) → sizes p .patterns ≤ 8 → foundBits found p < 256
+unfolding sizes
+found-small found p h = bits-lt 8 (map found (patternsOf (rowsOf p))) (let l = length-map (patternsOf (rowsOf p)) found in omega arith)
+
+-- a mark is 1 more than the flag of its answer
+mark-of : (n : ℕ) → n ≢ 0 → n ≤ 2 → n ≡ 1 + flagOf (eqb n 2)
+mark-of zero h l = absurd (h refl)
+mark-of (suc zero) h l = refl
+mark-of (suc (suc zero)) h l = refl
+mark-of (suc (suc (suc n))) h l = absurd (let z : ⊥ = omega arith in z)
+
+mark-back : (t : Bool) → eqb (1 + flagOf t) 2 ≡ t
+mark-back true = refl
+mark-back false = refl
+
+nothing : (n b : ℕ) → getD {A = ℕ} (replicate n 0) b 0 ≡ 0
+nothing zero b = refl
+nothing (suc n) zero = refl
+nothing (suc n) (suc b) = nothing n b
+
+pub remembers-first : (p : List ℕ) (n : ℕ) → Remembers p (replicate n 0)
+remembers-first p n = record {
+  small = λ b. rw (nothing n b) (omega arith);
+  right = λ found h. absurd (h (nothing n (foundBits found p)));
+}
+
+module _ (p known : List ℕ) (m : Remembers p known) (bits : ℕ) where
+  pub remembers-next :
+      bits < length known → (r : Bool) → ((found : Pattern → Bool) → bits ≡ foundBits found p → r ≡ answer found (rowsOf p))
+      → Remembers p (set known bits (1 + flagOf r))
+  remembers-next h r told = record {
+    small = λ b.
+        ⊎-elim
+        (λ (e : b ≡ bits). rw (e, getD-set-same known bits (1 + flagOf r) 0 h) (let f = flag-le r in omega arith))
+        (λ (n : b ≢ bits). rw (getD-set-other known bits b (1 + flagOf r) 0 n) (m .small b))
+        (decided (eqb-decides b bits));
+    right = λ found.
+        ⊎-elim
+        (λ (e : foundBits found p ≡ bits) a. rw (e, getD-set-same known bits (1 + flagOf r) 0 h) (ap (λ (t : Bool). 1 + flagOf t) (told found (sym e))))
+        (λ (n : foundBits found p ≢ bits). rw (getD-set-other known bits (foundBits found p) (1 + flagOf r) 0 n) (m .right found))
+        (decided (eqb-decides (foundBits found p) bits));
+  }
+
+  module _ (asked : getD known bits 0 ≢ 0) where
+    pub recalled : (found : Pattern → Bool) → bits ≡ foundBits found p → eqb (getD known bits 0) 2 ≡ answer found (rowsOf p)
+    recalled found e =
+        ap (λ (b : ℕ). eqb (getD known b 0) 2) e
+        ∙ ap (λ (n : ℕ). eqb n 2) (m .right found (subst (λ (b : ℕ). getD known b 0 ≢ 0) e asked))
+        ∙ mark-back (answer found (rowsOf p))
+
+    pub recalled-same : known ≡ set known bits (1 + flagOf (eqb (getD known bits 0) 2))
+    recalled-same = sym (set-getD known bits 0) ∙ ap (set known bits) (mark-of (getD known bits 0) asked (m .small bits))

@@ -1,12 +1,15 @@
 -- The answers of a plan in a document as the bits of a number. Assumes nothing.
-use Prim.Native.Nat.{ℕ, _+_, _*_}
+use Prim.Native.Nat.{ℕ, _+_, _*_, _≤_}
+use mathlib.Core.Path.{_≡_}
 use mathlib.Core.Bool.{Bool, true, false, not}
 use mathlib.Core.List.{List, [], _∷_, map}
+use mathlib.Core.Logic.{_≢_}
 use lib.Dec.{eqb}
+use lib.ListN.{getD}
 use Rattle.plan.specs.declared.row.Operator.{Operator}
 use Rattle.plan.specs.declared.row.Operator.the-variants.{Both, Either, FirstNotSecond}
 use Rattle.plan.specs.Rows.{rowsOf}
-use Rattle.plan.specs.Patterns.{Pattern, patternsOf}
+use Rattle.plan.specs.Patterns.{Pattern, patternsOf, answer}
 
 -- 1 for yes, 0 for no
 abbrev pub flagOf : Bool → ℕ
@@ -27,3 +30,8 @@ abbrev pub joinsTwo : Operator → ℕ → Bool
 joinsTwo Both two = eqb two 3
 joinsTwo Either two = not (eqb two 0)
 joinsTwo FirstNotSecond two = eqb two 2
+
+-- a number for each set of found patterns: 0 where nothing is known, else 1 for the answer no and 2 for the answer yes
+pub record Remembers (p known : List ℕ) : Type 0 where
+  pub small : (b : ℕ) → getD known b 0 ≤ 2
+  pub right : (found : Pattern → Bool) → getD known (foundBits found p) 0 ≢ 0 → getD known (foundBits found p) 0 ≡ 1 + flagOf (answer found (rowsOf p))

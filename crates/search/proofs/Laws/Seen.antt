@@ -2,7 +2,7 @@
 --     tabled-part, cursors-part     the parts of what is laid out that the walk is handed
 --     walking-first             before the first document
 --     seen-from, seen-none      it is not in front of the document that was reached; no document between is true
---     seen-out, seen-in         there is none; its truth, its row, and where the walk goes on
+--     seen-out, seen-in         there is none; its found patterns, its row, and where the walk goes on
 --     seen-ready                what its row asks
 --     seen-true                 whether it is true
 --     starts-later, starts-sought, starts-stretch     the cursor on list 0
@@ -148,24 +148,24 @@ module _ (v p table ends : List ℕ) (w : Walks v p table ends) where
       candidate = here k i;
     }
 
-    pub seen-out : (starts : Cursor) (row : List ℕ) → doc ≡ limit → Visited v p ends from (record { doc = doc; matching = false; starts = starts }) ats docs row
+    pub seen-out : (starts : Cursor) (row : List ℕ) → doc ≡ limit → Visited v p ends from (record { doc = doc; bits = 0; starts = starts }) ats docs row
     seen-out starts row e = record {
       later = seen-from;
       most = l .most;
       none = seen-none;
-      truth = λ h. absurd (let z : ⊥ = omega arith in z);
+      bits-are = λ h. absurd (let z : ⊥ = omega arith in z);
       shown = λ h. absurd (let z : ⊥ = omega arith in z);
       walking = λ h. absurd (let z : ⊥ = omega arith in z);
     }
 
-    pub seen-in : (matching : Bool) (starts : Cursor) (row : List ℕ) → work v p .isTrue doc ≡ matching → take (1 + sizes p .patterns + sizes p .vars) row ≡ rowIn (listsOf v) (rowsOf p) doc
-        → Stands v 0 doc (starts .at) → starts .end ≡ listEnd v 0 → sizes p .vars ≤ length ats → Visited v p ends from (record { doc = doc; matching = matching; starts = starts }) ats docs row
+    pub seen-in : (bits : ℕ) (starts : Cursor) (row : List ℕ) → bits ≡ foundBits (found (listsOf v) doc) p → take (1 + sizes p .patterns + sizes p .vars) row ≡ rowIn (listsOf v) (rowsOf p) doc
+        → Stands v 0 doc (starts .at) → starts .end ≡ listEnd v 0 → sizes p .vars ≤ length ats → Visited v p ends from (record { doc = doc; bits = bits; starts = starts }) ats docs row
     unfolding work workOf
-    seen-in matching starts row t shown s e room = record {
+    seen-in bits starts row f shown s e room = record {
       later = seen-from;
       most = l .most;
       none = seen-none;
-      truth = λ h. t;
+      bits-are = λ h. f;
       shown = λ h. ap (λ (n : ℕ). take n row) (work-words v p) ∙ shown;
       walking = λ h. record {
         to = omega arith;

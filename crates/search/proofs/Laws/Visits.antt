@@ -72,18 +72,18 @@ module _ (v p ends : List ℕ) (start : ℕ) (out₀ : List ℕ) (from : ℕ) (s
     onward : Walking v p ends ats docs (seen .doc + 1) (eqb (seen .doc + 1) start) (seen .starts)
     onward = rw (ne-eqb (seen .doc + 1) start (λ e. let f = g .from in let l = s .later in omega arith)) (s .walking inside)
 
-    pub visit-passed : seen .matching ≡ false → Visiting v p ends start out₀ ats docs out (seen .doc + 1) rows (seen .starts)
+    pub visit-passed : work v p .isTrue (seen .doc) ≡ false → Visiting v p ends start out₀ ats docs out (seen .doc + 1) rows (seen .starts)
     visit-passed t = record {
-      progress = over (work v p) (work-even v p) visit-reached (seen .doc + 1) (omega arith) (omega arith) (λ j a b. let q : j ≡ seen .doc = omega arith in rw q (s .truth inside ∙ t));
+      progress = over (work v p) (work-even v p) visit-reached (seen .doc + 1) (omega arith) (omega arith) (λ j a b. let q : j ≡ seen .doc = omega arith in rw q t);
       walking = onward;
     }
 
     -- the row is put behind the others, where one more fits
-    pub visit-put : seen .matching ≡ true → (wide : ℕ) → wide ≡ 1 + sizes p .patterns + sizes p .vars → rows ≢ length out₀ / wide → (out′ : List ℕ)
+    pub visit-put : work v p .isTrue (seen .doc) ≡ true → (wide : ℕ) → wide ≡ 1 + sizes p .patterns + sizes p .vars → rows ≢ length out₀ / wide → (out′ : List ℕ)
         → out′ ≡ take (rows * wide) out ++ take wide row ++ drop (rows * wide + wide) out
         → Visiting v p ends start out₀ ats docs out′ (seen .doc + 1) (rows + 1) (seen .starts)
     visit-put t wide e less out′ put = record {
-      progress = wrote (work v p) (work-even v p) visit-reached (work-wide v p) inside (s .truth inside ∙ t) fits out′
+      progress = wrote (work v p) (work-even v p) visit-reached (work-wide v p) inside t fits out′
           (put ∙ ap (λ (n : ℕ). take (rows * n) out ++ take n row ++ drop (rows * n + n) out) same
           ∙ ap (λ (xs : List ℕ). take (rows * work v p .width) out ++ xs ++ drop (rows * work v p .width + work v p .width) out) (s .shown inside));
       walking = onward;

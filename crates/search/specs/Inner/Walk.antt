@@ -8,15 +8,16 @@ use mathlib.Core.List.{List}
 use lib.Dec.{eqb}
 use lib.ListN.{length, getD, take}
 use Rattle.volume.specs.Posting.{docOf}
-use Rattle.volume.specs.Layout.{word}
+use Rattle.volume.specs.Layout.{word, listsOf}
 use Rattle.plan.specs.Check.{Accepted, sizes}
 use Rattle.plan.specs.Accepted.{patternAt}
 use Rattle.fulltext.specs.Positions.{limit}
-use Rattle.fulltext.specs.Documents.{work}
+use Rattle.fulltext.specs.Documents.{found, work}
 use Rattle.matcher.specs.declared.cursor.Cursor.{Cursor}
 use Rattle.search.specs.declared.walk.Seen.{Seen}
 use Rattle.matcher.specs.Inner.Cursors.{listEnd, Stands}
 use Rattle.plan.specs.Inner.Outline.{varsBefore, Tabled}
+use Rattle.plan.specs.Inner.Stack.{foundBits}
 use Rattle.matcher.specs.Inner.Tables.{varAt}
 use Rattle.matcher.specs.Inner.Settling.{Among, Candidate}
 
@@ -85,12 +86,12 @@ pub record Walking (v p ends ats docs : List ℕ) (from : ℕ) (fresh : Bool) (s
   pub starts-at : Stands v 0 from (starts .at)
   pub starts-end : starts .end ≡ listEnd v 0
 
--- the next document in which a pattern can be found, or 65,536: no true one is in front of it, whether it is true, its row at the front of
--- `row`, and where the walk goes on
+-- the next document in which a pattern can be found, or 65,536: no true one is in front of it, which patterns are found there, its row at
+-- the front of `row`, and where the walk goes on
 pub record Visited (v p ends : List ℕ) (from : ℕ) (seen : Seen) (ats docs row : List ℕ) : Type 0 where
   pub later : from ≤ seen .doc
   pub most : seen .doc ≤ limit
   pub none : (d : ℕ) → from ≤ d → d < seen .doc → work v p .isTrue d ≡ false
-  pub truth : seen .doc < limit → work v p .isTrue (seen .doc) ≡ seen .matching
+  pub bits-are : seen .doc < limit → seen .bits ≡ foundBits (found (listsOf v) (seen .doc)) p
   pub shown : seen .doc < limit → take (work v p .width) row ≡ work v p .rowOf (seen .doc)
   pub walking : seen .doc < limit → Walking v p ends ats docs (seen .doc + 1) false (seen .starts)

@@ -1,27 +1,30 @@
--- The rows of the true documents below `from` are laid, and the walk goes on there (`Visiting`). Each turn ends in an answer or a later document.
+-- The rows of the true documents below `from` are laid, the walk goes on there (`Visiting`), and `known` has answers of the plan. Each turn ends in an answer or a later document.
 use Rattle.search.proofs.listing.list_docs.Statement.{statement}
 use Rattle.search.proofs.listing.list_docs.Tie as tie
 use Prim.Native.Nat.{_+_, _-_, _/_, _<_, _≤_}
 use native.Mathlib.Omega.{arith}
-use mathlib.Core.Path.{_≡_, refl, sym, _∙_}
+use mathlib.Core.Path.{_≡_, refl, sym, subst, _∙_}
 use lib.ListN.{length, take}
 use lib.Seq.{length-take-le}
 use borrow.Author.Tests.{not-true, not-false}
 use denote.Ref.{now}
 use Rattle.plan.specs.Check.{sizes}
+use Rattle.plan.specs.Inner.Stack.{Remembers}
 use Rattle.plan.proofs.Laws.Accepted.{given}
+use Rattle.plan.proofs.Laws.Stack.{found-small, remembers-first, remembers-next}
 use Rattle.fulltext.specs.Documents.{work}
 use Rattle.fulltext.proofs.Laws.Counts.{work-even}
 use Rattle.search.proofs.Laws.Loop.{Progress, same-size}
-use Rattle.search.proofs.Laws.Seen.{walking-first}
+use Rattle.search.proofs.Laws.Seen.{walking-first, seen-true}
 use Rattle.search.proofs.Laws.Visits.{Visiting, visiting-first, visiting-part, part-length, visit-reached, visit-passed, visit-put, visit-room, visit-words, visit-rows, visit-few, visit-done, visit-more}
 
 abbrev Inv-loop : tie.InvT-loop
-Inv-loop volume plan table start firsts ends ats₀ out₀ patterns width room paras starts₀ docs₀ row₀ rows₀ from₀ ats out starts docs row rows from =
-    Visiting volume plan ends start out₀ ats (take patterns docs) out from rows starts × ((length docs ≡ 8) × ((length row ≡ 59) × (length ats ≡ length ats₀)))
+Inv-loop volume plan table start firsts ends ats₀ out₀ patterns width room paras starts₀ docs₀ row₀ known₀ rows₀ from₀ ats out starts docs row known rows from =
+    Visiting volume plan ends start out₀ ats (take patterns docs) out from rows starts ×
+    ((length docs ≡ 8) × ((length row ≡ 59) × ((length ats ≡ length ats₀) × ((length known ≡ 256) × Remembers plan known))))
 
 abbrev μ-loop : tie.MeasureT-loop
-μ-loop volume plan table start firsts ends ats₀ out₀ patterns width room paras starts₀ docs₀ row₀ rows₀ from₀ ats out starts docs row rows from = 65537 - from
+μ-loop volume plan table start firsts ends ats₀ out₀ patterns width room paras starts₀ docs₀ row₀ known₀ rows₀ from₀ ats out starts docs row known rows from = 65537 - from
 
 -- the places that the answers speak of, each from the one behind it
 abbrev start-of : tie.At-loop Inv-loop μ-loop → tie.Start Inv-loop μ-loop
@@ -36,8 +39,11 @@ turn-of c = c .before .before .before .before
 abbrev seen-of : tie.Else1 Inv-loop μ-loop → tie.After-visit Inv-loop μ-loop
 seen-of c = c .before .before .before .before .before
 
-abbrev found-of : tie.Else2 Inv-loop μ-loop → tie.Else1 Inv-loop μ-loop
+abbrev found-of : tie.After-recall Inv-loop μ-loop → tie.Else1 Inv-loop μ-loop
 found-of c = c .before .before .before
+
+abbrev told-of : tie.Else2 Inv-loop μ-loop → tie.After-recall Inv-loop μ-loop
+told-of c = c .before .before
 
 -- the number of patterns, and the words of a row
 many : (c : tie.Start Inv-loop μ-loop) → length (now (c .args .table)) / 4 ≡ sizes (now (c .args .plan)) .patterns
@@ -68,7 +74,33 @@ row-size : (c : tie.After-visit Inv-loop μ-loop) → length (c .visit .last .1 
 row-size c = c .visit .kept .1 .1 .1 .1 .1 .1 .1 .0 ∙ turn-of c .loop .inv .1 .1 .0
 
 ats-size : (c : tie.After-visit Inv-loop μ-loop) → length (c .visit .last .1 .1 .1 .1 .0) ≡ length (now (start-of (turn-of c) .args .ats))
-ats-size c = c .visit .kept .1 .1 .1 .1 .0 ∙ turn-of c .loop .inv .1 .1 .1
+ats-size c = c .visit .kept .1 .1 .1 .1 .0 ∙ turn-of c .loop .inv .1 .1 .1 .0
+
+-- the bits of the found patterns are below 256
+bits-small : (c : tie.Else1 Inv-loop μ-loop) → seen-of c .visit .result .bits < 256
+bits-small c =
+    let start = start-of (turn-of (seen-of c)) in
+    rw (seen-of c .visit .ensures .bits-are (inside c)) (found-small _ (now (start .args .plan)) (few start .0))
+
+-- whether the document is true
+told : (c : tie.After-recall Inv-loop μ-loop) → let seen = seen-of (found-of c) in let start = start-of (turn-of seen) in
+    work (now (start .args .volume)) (now (start .args .plan)) .isTrue (seen .visit .result .doc) ≡ c .recall .result
+told c =
+    let seen = seen-of (found-of c) in
+    let start = start-of (turn-of seen) in
+    seen-true (now (start .args .volume)) (now (start .args .plan)) (seen .visit .result .bits) (seen .visit .result .doc) (c .recall .result) (c .recall .ensures .0) (seen .visit .ensures .bits-are (inside (found-of c)))
+
+-- one answer more is known
+known-size : (c : tie.After-recall Inv-loop μ-loop) → length (c .recall .last .1 .1 .0) ≡ 256
+known-size c = c .recall .kept .1 .1 .0 ∙ turn-of (seen-of (found-of c)) .loop .inv .1 .1 .1 .1 .0
+
+remembers : (c : tie.After-recall Inv-loop μ-loop) → Remembers (now (start-of (turn-of (seen-of (found-of c))) .args .plan)) (c .recall .last .1 .1 .0)
+remembers c =
+    let turn = turn-of (seen-of (found-of c)) in
+    let b = bits-small (found-of c) in
+    let l = turn .loop .inv .1 .1 .1 .1 .0 in
+    subst (Remembers (now (start-of turn .args .plan))) (sym (c .recall .ensures .1))
+    (remembers-next _ _ (turn .loop .inv .1 .1 .1 .1 .1) _ (omega arith) _ (c .recall .ensures .0))
 
 cast-row-words : tie.Need-cast-row-words Inv-loop μ-loop
 cast-row-words c = let m = many (c .before .before .before .before .before .before .before) in let f = few (c .before .before .before .before .before .before .before) .0 in omega arith
@@ -96,7 +128,7 @@ loop-holds c =
     let low : start .args .start ≤ 65536 = let l = p .1 .1 .1 .0 in omega arith in
     let m = many start in
     let n = few start .0 in
-    (visiting-first _ _ _ _ _ _ _ _ low (walking-first _ _ _ _ (p .0) _ (now (start .args .firsts)) _ _ low (omega arith) (p .1 .1 .1 .1 .0) (p .1 .1 .1 .1 .1 .0) (length-take-le (length (now (start .args .table)) / 4) _ (omega arith) ∙ m) _ (c .starts-of .ensures)), (refl, (refl, refl)))
+    (visiting-first _ _ _ _ _ _ _ _ low (walking-first _ _ _ _ (p .0) _ (now (start .args .firsts)) _ _ low (omega arith) (p .1 .1 .1 .1 .0) (p .1 .1 .1 .1 .1 .0) (length-take-le (length (now (start .args .table)) / 4) _ (omega arith) ∙ m) _ (c .starts-of .ensures)), (refl, (refl, (refl, (refl, remembers-first (now (start .args .plan)) 256)))))
 
 array-borrow-prefix-docs : tie.Need-array-borrow-prefix-docs Inv-loop μ-loop
 array-borrow-prefix-docs c =
@@ -135,8 +167,8 @@ tally-requires c κs =
     let r = p .0 .ends-room in
     (p .0 .accepted, (e, (omega arith, (reached seen .from, (seen .visit .ensures .most, p .1 .1 .1 .1 .0)))))
 
-cast-t33 : tie.Need-cast-t33 Inv-loop μ-loop
-cast-t33 c = let n = visit-rows _ _ _ _ _ _ _ (reached (c .before .before .before .before .before .before)) in omega arith
+cast-t34 : tie.Need-cast-t34 Inv-loop μ-loop
+cast-t34 c = let n = visit-rows _ _ _ _ _ _ _ (reached (c .before .before .before .before .before .before)) in omega arith
 
 same-length : tie.Need-same-length Inv-loop μ-loop
 same-length c = ats-size (c .before .before .before .before .before .before)
@@ -157,63 +189,76 @@ returns c =
 add-from : tie.Need-add-from Inv-loop μ-loop
 add-from c = let l = inside c in omega arith
 
+slice-aggregate-recall : tie.Need-slice-aggregate-recall Inv-loop μ-loop
+slice-aggregate-recall c = sym (turn-of (seen-of (c .before .before)) .loop .inv .1 .1 .1 .1 .0)
+
+recall-requires : tie.Need-recall-requires Inv-loop μ-loop
+recall-requires c κs =
+    let turn = turn-of (seen-of (c .before .before)) in
+    let start = start-of turn in
+    let b = bits-small (c .before .before) in
+    let l = turn .loop .inv .1 .1 .1 .1 .0 in
+    ((now (start .args .volume), start .pre .0 .accepted), (turn .loop .inv .1 .1 .1 .1 .1, omega arith))
+
 loop-less : tie.Need-loop-less Inv-loop μ-loop
 loop-less c =
-    let found = c .before .before .before in
+    let told-at = c .before .before in
+    let found = found-of told-at in
     let l = inside found in
     let f = seen-of found .visit .ensures .later in
     omega arith
 
 loop-again : tie.Need-loop-again Inv-loop μ-loop
 loop-again c =
-    let found = c .before .before .before in
+    let told-at = c .before .before in
+    let found = found-of told-at in
     let seen = seen-of found in
     let turn = turn-of seen in
     let start = start-of turn in (
       visiting-part _ _ _ _ _ _ _ _ _ _ _ _ _ (many start)
-          (visit-passed _ _ _ _ _ _ _ _ _ _ (seen .visit .ensures) _ _ (turn .loop .inv .0 .progress) (inside found) (not-true _ (c .if2 .taken))),
+          (visit-passed _ _ _ _ _ _ _ _ _ _ (seen .visit .ensures) _ _ (turn .loop .inv .0 .progress) (inside found) (told told-at ∙ not-true _ (c .if2 .taken))),
       (
         part-length (turn .loop .docs) (seen .visit .last .1 .1 .1 .1 .1 .1 .0) (length (now (start .args .table)) / 4) 8 (docs-size seen)
             (turn .loop .inv .1 .0),
-        (row-size seen, ats-size seen),
+        (row-size seen, (ats-size seen, (known-size told-at, remembers told-at))),
       ),
     )
 
 tally-requires-2 : tie.Need-tally-requires-2 Inv-loop μ-loop
 tally-requires-2 c κs =
-    let seen = seen-of (found-of (c .before)) in
+    let seen = seen-of (found-of (told-of (c .before))) in
     let p = start-of (turn-of seen) .pre in
     let e = p .1 .1 .0 in
     let r = p .0 .ends-room in
     (p .0 .accepted, (e, (omega arith, (reached seen .from, (seen .visit .ensures .most, p .1 .1 .1 .1 .0)))))
 
-cast-t34 : tie.Need-cast-t34 Inv-loop μ-loop
-cast-t34 c = let n = visit-rows _ _ _ _ _ _ _ (reached (seen-of (found-of (c .before .before)))) in omega arith
+cast-t38 : tie.Need-cast-t38 Inv-loop μ-loop
+cast-t38 c = let n = visit-rows _ _ _ _ _ _ _ (reached (seen-of (found-of (told-of (c .before .before))))) in omega arith
 
 same-length-3 : tie.Need-same-length-3 Inv-loop μ-loop
-same-length-3 c = ats-size (seen-of (found-of (c .before .before)))
+same-length-3 c = ats-size (seen-of (found-of (told-of (c .before .before))))
 
 same-length-4 : tie.Need-same-length-4 Inv-loop μ-loop
 same-length-4 c =
-    let turn = turn-of (seen-of (found-of (c .before .before))) in
+    let turn = turn-of (seen-of (found-of (told-of (c .before .before)))) in
     let start = start-of turn in
     same-size (work (now (start .args .volume)) (now (start .args .plan))) (work-even (now (start .args .volume)) (now (start .args .plan))) (turn .loop .inv .0 .progress)
 
 returns-2 : tie.Need-returns-2 Inv-loop μ-loop
 returns-2 c =
-    let found = found-of (c .before .before) in
+    let found = found-of (told-of (c .before .before)) in
     let seen = seen-of found in
     let turn = turn-of seen in
     let start = start-of turn in
     let p = start .pre in
-    visit-more _ _ _ _ (p .0) _ _ (p .1 .1 .1 .0) (p .1 .1 .1 .1 .1 .1) _ _ _ (reached seen) (c .tally2 .result) (c .tally2 .ensures) (inside found) (seen .visit .ensures .truth (inside found) ∙ not-false _ (c .before .before .if2 .left)) _ (wide (words-of turn)) (c .before .if3 .taken)
+    visit-more _ _ _ _ (p .0) _ _ (p .1 .1 .1 .0) (p .1 .1 .1 .1 .1 .1) _ _ _ (reached seen) (c .tally2 .result) (c .tally2 .ensures) (inside found) (told (told-of (c .before .before)) ∙ not-false _ (c .before .before .if2 .left)) _ (wide (words-of turn)) (c .before .if3 .taken)
 
 slice-aggregate-put-row : tie.Need-slice-aggregate-put-row Inv-loop μ-loop
-slice-aggregate-put-row c = sym (row-size (seen-of (found-of (c .before .before))))
+slice-aggregate-put-row c = sym (row-size (seen-of (found-of (told-of (c .before .before)))))
 
 mul-put-row : tie.Need-mul-put-row Inv-loop μ-loop
 mul-put-row c =
-    let turn = turn-of (seen-of (found-of (c .before .before .before))) in
+    let turn = turn-of (seen-of (found-of (told-of (c .before .before .before)))) in
     let start = start-of turn in
     let m = few start .1 in
     let n = visit-rows _ _ _ _ _ _ _ (turn .loop .inv .0 .progress) in
@@ -223,7 +268,7 @@ mul-put-row c =
 
 put-row-requires : tie.Need-put-row-requires Inv-loop μ-loop
 put-row-requires c κs =
-    let seen = seen-of (found-of (c .before .before .before)) in
+    let seen = seen-of (found-of (told-of (c .before .before .before))) in
     let turn = turn-of seen in
     let start = start-of turn in
     let m = few start .1 in
@@ -232,29 +277,30 @@ put-row-requires c κs =
     (omega arith, visit-room _ _ _ _ _ _ (turn .loop .rows) _ w (turn .loop .inv .0 .progress) (c .before .before .if3 .left))
 
 add-rows : tie.Need-add-rows Inv-loop μ-loop
-add-rows c = let n = visit-rows _ _ _ _ _ _ _ (reached (seen-of (found-of (c .before .before .before .before .before .before)))) in omega arith
+add-rows c = let n = visit-rows _ _ _ _ _ _ _ (reached (seen-of (found-of (told-of (c .before .before .before .before .before .before))))) in omega arith
 
 loop-less-2 : tie.Need-loop-less-2 Inv-loop μ-loop
 loop-less-2 c =
-    let found = found-of (c .before .before .before .before .before .before) in
+    let found = found-of (told-of (c .before .before .before .before .before .before)) in
     let l = inside found in
     let f = seen-of found .visit .ensures .later in
     omega arith
 
 loop-again-2 : tie.Need-loop-again-2 Inv-loop μ-loop
 loop-again-2 c =
-    let found = found-of (c .before .before .before .before .before .before) in
+    let told-at = told-of (c .before .before .before .before .before .before) in
+    let found = found-of told-at in
     let seen = seen-of found in
     let turn = turn-of seen in
     let start = start-of turn in (
       visiting-part _ _ _ _ _ _ _ _ _ _ _ _ _ (many start)
           (visit-put _ _ _ _ _ _ _ _ _ _ (seen .visit .ensures) _ _ (turn .loop .inv .0 .progress) (inside found)
-          (not-false _ (c .before .before .before .before .before .before .if2 .left)) _ (wide (words-of turn))
+          (told told-at ∙ not-false _ (c .before .before .before .before .before .before .if2 .left)) _ (wide (words-of turn))
           (c .before .before .before .before .before .if3 .left) _ (c .before .before .put-row .ensures)),
       (
         part-length (turn .loop .docs) (seen .visit .last .1 .1 .1 .1 .1 .1 .0) (length (now (start .args .table)) / 4) 8 (docs-size seen)
             (turn .loop .inv .1 .0),
-        (row-size seen, ats-size seen),
+        (row-size seen, (ats-size seen, (known-size told-at, remembers told-at))),
       ),
     )
 
@@ -276,15 +322,17 @@ list-docs-spec =
     slice-aggregate-visit-2
     visit-requires
     tally-requires
-    cast-t33
+    cast-t34
     same-length
     same-length-2
     returns
     add-from
+    slice-aggregate-recall
+    recall-requires
     loop-less
     loop-again
     tally-requires-2
-    cast-t34
+    cast-t38
     same-length-3
     same-length-4
     returns-2

@@ -1,4 +1,4 @@
--- The cursors are brought to the next document, its row is filled, and the plan answers.
+-- The cursors are brought to the next document, and its row is filled.
 use borrow.Author.Needs.{needs}
 use Rattle.search.proofs.walk.visit.Statement.{statement}
 use Rattle.search.proofs.walk.visit.Tie as tie
@@ -8,7 +8,7 @@ use mathlib.Core.Path.{_≡_, _∙_}
 use lib.ListN.{length}
 use denote.Ref.{now}
 use Rattle.plan.specs.Check.{sizes}
-use Rattle.search.proofs.Laws.Seen.{seen-from, seen-ready, seen-true, seen-out, seen-in, starts-later, starts-stretch}
+use Rattle.search.proofs.Laws.Seen.{seen-from, seen-ready, seen-out, seen-in, starts-later, starts-stretch}
 
 -- the places that the answers speak of, each from the one behind it
 abbrev start-of : tie.After-next-docs → tie.Start
@@ -22,9 +22,6 @@ least-of c = c .before .before .before
 
 abbrev brought-of : tie.After-fill-row → tie.After-bring-starts
 brought-of c = c .before .before .before .before
-
-abbrev filled-of : tie.After-answer-of → tie.After-fill-row
-filled-of c = c .before .before .before
 
 -- it is not in front of the document that was reached
 from-doc : (c : tie.After-least-of) → start-of (docs-of c) .args .walk .from ≤ c .least-of .result
@@ -90,11 +87,6 @@ fill-row-requires c κs =
     (inside (c .before .before .before .before)) (brought .bring-starts .result) (cursor .0) (cursor .1) (room docs) in
     (size docs, (start .pre .0 .table-room, (start .pre .1 .1, ready)))
 
-answer-of-requires : tie.Need-answer-of-requires
-answer-of-requires c κs =
-    let start = c .before .before .before .before .before .before .before .before .before .before .before .before .before .before .before .before .before .before .before .before .before .before .before .before .before in
-    (now (start .args .volume), start .pre .0 .accepted)
-
 same-length-3 : tie.Need-same-length-3
 same-length-3 c = search needs
 
@@ -106,16 +98,15 @@ same-length-5 c = search needs
 
 returns-2 : tie.Need-returns-2
 returns-2 c =
-    let filled = filled-of c in
+    let filled = c .before .before in
     let brought = brought-of filled in
     let least = least-of brought in
     let docs = docs-of least in
     let start = start-of docs in
     let e = filled .fill-row .ensures in
     let cursor = brought .bring-starts .ensures in
-    let truth = seen-true (now (start .args .volume)) (now (start .args .plan)) (filled .fill-row .result) (least .least-of .result) (c .answer-of .result) (c .answer-of .ensures) (e .1) in
     seen-in _ _ _ _ (start .pre .0) _ _ _ _ _ _ (docs .next-docs .ensures) (least .least-of .ensures) (start .pre .1 .0 .docs-length) _ _ _
-    truth (e .0) (cursor .0) (cursor .1) (room docs)
+    (e .1) (e .0) (cursor .0) (cursor .1) (room docs)
 
 pub visit-spec : {M : Type 1} → statement M
 visit-spec =
@@ -128,7 +119,6 @@ visit-spec =
     returns
     bring-starts-requires
     fill-row-requires
-    answer-of-requires
     same-length-3
     same-length-4
     same-length-5
