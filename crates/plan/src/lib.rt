@@ -4,7 +4,7 @@
 //
 // None of the three has a `requires`, nor has `pattern_span`. What each one answers is an equation
 // with a definition of `specs/`. `row_at`, `list_at`, `predicate_at`, `has_samepara`, `lay_out`,
-// `outline_at`, `answer_of` and `recall` serve the crates above, on a plan that they have checked.
+// `outline_at` and `answer_of` serve the crates above, on a plan that they have checked.
 mod answers;
 mod checking;
 mod codes;
@@ -44,4 +44,3 @@ pub use showing::Span;
 pub use showing::pattern_rows;
 pub use showing::pattern_span;
 pub use stack::answer_of;
-pub use stack::recall;

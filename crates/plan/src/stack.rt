@@ -37,7 +37,7 @@ fn operate(operator: Operator, stack: u32) -> u32
 
 // The one answer left, where `bits` has a bit for each pattern, the first one the lowest: 1 if it is
 // found and 0 if not.
-pub fn answer_of(plan: &[u32], bits: u32) -> bool
+fn answer_by_rows(plan: &[u32], bits: u32) -> bool
     requires { ⌜ ((v : List ℕ) × Accepted v (now plan)) ⌝ }
     ensures { λ r. ⌜ ((found : Pattern → Bool) → bits ≡ foundBits found (now (plan .entry))
         → r ≡ answer found (rowsOf (now (plan .entry)))) ⌝ }
@@ -65,9 +65,9 @@ pub fn answer_of(plan: &[u32], bits: u32) -> bool
     stack % 2 == 1
 }
 
-// The same, each set of found patterns asked once: `known` has a number for each set, 0 where it was
-// not asked, 1 for no and 2 for yes.
-pub fn recall(plan: &[u32], bits: u32, known: &mut [u8]) -> bool
+// The same, with the rows read once for each set of found patterns: `known` has a number for each
+// set, 0 where the rows were not read for it, 1 for the answer no and 2 for yes.
+pub fn answer_of(plan: &[u32], bits: u32, known: &mut [u8]) -> bool
     requires { ⌜ ((v : List ℕ) × Accepted v (now plan)) ⌝ }
     requires { ⌜ Remembers (now plan) (now known) ⌝ }
     requires { ⌜ bits < length (now known) ⌝ }
@@ -80,7 +80,7 @@ pub fn recall(plan: &[u32], bits: u32, known: &mut [u8]) -> bool
     if mark != 0 {
         return mark == 2;
     }
-    let yes = answer_of(plan, bits);
+    let yes = answer_by_rows(plan, bits);
     known[at] = 1 + yes as u8;
     yes
 }

@@ -23,9 +23,9 @@ use plan::MOST_FOUND_SETS;
 use plan::MOST_PATTERNS;
 use plan::MOST_ROW_WORDS;
 use plan::MOST_VARS;
+use plan::answer_of;
 use plan::has_samepara;
 use plan::lay_out;
-use plan::recall;
 use plan::row_words;
 use volume::Posting;
 
@@ -110,7 +110,7 @@ fn list_docs(
         }
         from = doc + 1;
         starts = seen.starts;
-        if !recall(plan, seen.bits, &mut known) {
+        if !answer_of(plan, seen.bits, &mut known) {
             continue;
         }
         if rows == room {

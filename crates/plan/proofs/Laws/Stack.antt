@@ -7,7 +7,7 @@
 --     reading-done                         behind the last row
 --     found-small                          the bits of the found patterns are eight at most
 --     remembers-first, remembers-next      nothing is known; one answer more is
---     recalled, recalled-same              what is known is the answer, and stays
+--     known-answer, known-same             what is known is the answer, and stays
 -- Assumes nothing.
 use Prim.Native.Nat.{ℕ, zero, suc, _+_, _-_, _*_, _^_, _/_, _%_, _<_, _≤_}
 use native.Mathlib.Nat.{two-pow-succ}
@@ -29,6 +29,7 @@ use Rattle.plan.specs.declared.row.Kind.{Kind}
 use Rattle.plan.specs.declared.row.Kind.the-variants as kind
 use Rattle.plan.specs.declared.state.State.{State}
 use Rattle.plan.specs.declared.row.Row.{Row}
+use Rattle.plan.specs.Limits.{mostPatterns, mostFoundSets}
 use Rattle.plan.specs.Rows.{rowCount, rowAt, rowsOf}
 use Rattle.plan.specs.State.{takes, after, stateAt, orderWrong}
 use Rattle.plan.specs.Patterns.{Pattern, noRow, openAfter, closed, patternsFrom, patternsOf, operate, answersAfter, answersFrom, answer}
@@ -246,7 +247,7 @@ module _ (p : List ℕ) (bits stack rest i : ℕ) (r : Reading p bits stack rest
         (λ found f. refl)
 
 -- the bits of the found patterns
-pub found-small : (found : Pattern → Bool) (p : List ℕ) → sizes p .patterns ≤ 8 → foundBits found p < 256
+pub found-small : (found : Pattern → Bool) (p : List ℕ) → sizes p .patterns ≤ mostPatterns → foundBits found p < mostFoundSets
 unfolding sizes
 found-small found p h = bits-lt 8 (map found (patternsOf (rowsOf p))) (let l = length-map (patternsOf (rowsOf p)) found in omega arith)
 
@@ -290,11 +291,11 @@ module _ (p known : List ℕ) (m : Remembers p known) (bits : ℕ) where
   }
 
   module _ (asked : getD known bits 0 ≢ 0) where
-    pub recalled : (found : Pattern → Bool) → bits ≡ foundBits found p → eqb (getD known bits 0) 2 ≡ answer found (rowsOf p)
-    recalled found e =
+    pub known-answer : (found : Pattern → Bool) → bits ≡ foundBits found p → eqb (getD known bits 0) 2 ≡ answer found (rowsOf p)
+    known-answer found e =
         ap (λ (b : ℕ). eqb (getD known b 0) 2) e
         ∙ ap (λ (n : ℕ). eqb n 2) (m .right found (subst (λ (b : ℕ). getD known b 0 ≢ 0) e asked))
         ∙ mark-back (answer found (rowsOf p))
 
-    pub recalled-same : known ≡ set known bits (1 + flagOf (eqb (getD known bits 0) 2))
-    recalled-same = sym (set-getD known bits 0) ∙ ap (set known bits) (mark-of (getD known bits 0) asked (m .small bits))
+    pub known-same : known ≡ set known bits (1 + flagOf (eqb (getD known bits 0) 2))
+    known-same = sym (set-getD known bits 0) ∙ ap (set known bits) (mark-of (getD known bits 0) asked (m .small bits))

@@ -34,4 +34,5 @@ joinsTwo FirstNotSecond two = eqb two 2
 -- a number for each set of found patterns: 0 where nothing is known, else 1 for the answer no and 2 for the answer yes
 pub record Remembers (p known : List ℕ) : Type 0 where
   pub small : (b : ℕ) → getD known b 0 ≤ 2
-  pub right : (found : Pattern → Bool) → getD known (foundBits found p) 0 ≢ 0 → getD known (foundBits found p) 0 ≡ 1 + flagOf (answer found (rowsOf p))
+  pub right : (found : Pattern → Bool) → getD known (foundBits found p) 0 ≢ 0
+      → getD known (foundBits found p) 0 ≡ 1 + flagOf (answer found (rowsOf p))

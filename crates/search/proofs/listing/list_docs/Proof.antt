@@ -39,10 +39,10 @@ turn-of c = c .before .before .before .before
 abbrev seen-of : tie.Else1 Inv-loop μ-loop → tie.After-visit Inv-loop μ-loop
 seen-of c = c .before .before .before .before .before
 
-abbrev found-of : tie.After-recall Inv-loop μ-loop → tie.Else1 Inv-loop μ-loop
+abbrev found-of : tie.After-answer-of Inv-loop μ-loop → tie.Else1 Inv-loop μ-loop
 found-of c = c .before .before .before
 
-abbrev told-of : tie.Else2 Inv-loop μ-loop → tie.After-recall Inv-loop μ-loop
+abbrev told-of : tie.Else2 Inv-loop μ-loop → tie.After-answer-of Inv-loop μ-loop
 told-of c = c .before .before
 
 -- the number of patterns, and the words of a row
@@ -83,24 +83,24 @@ bits-small c =
     rw (seen-of c .visit .ensures .bits-are (inside c)) (found-small _ (now (start .args .plan)) (few start .0))
 
 -- whether the document is true
-told : (c : tie.After-recall Inv-loop μ-loop) → let seen = seen-of (found-of c) in let start = start-of (turn-of seen) in
-    work (now (start .args .volume)) (now (start .args .plan)) .isTrue (seen .visit .result .doc) ≡ c .recall .result
+told : (c : tie.After-answer-of Inv-loop μ-loop) → let seen = seen-of (found-of c) in let start = start-of (turn-of seen) in
+    work (now (start .args .volume)) (now (start .args .plan)) .isTrue (seen .visit .result .doc) ≡ c .answer-of .result
 told c =
     let seen = seen-of (found-of c) in
     let start = start-of (turn-of seen) in
-    seen-true (now (start .args .volume)) (now (start .args .plan)) (seen .visit .result .bits) (seen .visit .result .doc) (c .recall .result) (c .recall .ensures .0) (seen .visit .ensures .bits-are (inside (found-of c)))
+    seen-true (now (start .args .volume)) (now (start .args .plan)) (seen .visit .result .bits) (seen .visit .result .doc) (c .answer-of .result) (c .answer-of .ensures .0) (seen .visit .ensures .bits-are (inside (found-of c)))
 
 -- one answer more is known
-known-size : (c : tie.After-recall Inv-loop μ-loop) → length (c .recall .last .1 .1 .0) ≡ 256
-known-size c = c .recall .kept .1 .1 .0 ∙ turn-of (seen-of (found-of c)) .loop .inv .1 .1 .1 .1 .0
+known-size : (c : tie.After-answer-of Inv-loop μ-loop) → length (c .answer-of .last .1 .1 .0) ≡ 256
+known-size c = c .answer-of .kept .1 .1 .0 ∙ turn-of (seen-of (found-of c)) .loop .inv .1 .1 .1 .1 .0
 
-remembers : (c : tie.After-recall Inv-loop μ-loop) → Remembers (now (start-of (turn-of (seen-of (found-of c))) .args .plan)) (c .recall .last .1 .1 .0)
+remembers : (c : tie.After-answer-of Inv-loop μ-loop) → Remembers (now (start-of (turn-of (seen-of (found-of c))) .args .plan)) (c .answer-of .last .1 .1 .0)
 remembers c =
     let turn = turn-of (seen-of (found-of c)) in
     let b = bits-small (found-of c) in
     let l = turn .loop .inv .1 .1 .1 .1 .0 in
-    subst (Remembers (now (start-of turn .args .plan))) (sym (c .recall .ensures .1))
-    (remembers-next _ _ (turn .loop .inv .1 .1 .1 .1 .1) _ (omega arith) _ (c .recall .ensures .0))
+    subst (Remembers (now (start-of turn .args .plan))) (sym (c .answer-of .ensures .1))
+    (remembers-next _ _ (turn .loop .inv .1 .1 .1 .1 .1) _ (omega arith) _ (c .answer-of .ensures .0))
 
 cast-row-words : tie.Need-cast-row-words Inv-loop μ-loop
 cast-row-words c = let m = many (c .before .before .before .before .before .before .before) in let f = few (c .before .before .before .before .before .before .before) .0 in omega arith
@@ -189,11 +189,11 @@ returns c =
 add-from : tie.Need-add-from Inv-loop μ-loop
 add-from c = let l = inside c in omega arith
 
-slice-aggregate-recall : tie.Need-slice-aggregate-recall Inv-loop μ-loop
-slice-aggregate-recall c = sym (turn-of (seen-of (c .before .before)) .loop .inv .1 .1 .1 .1 .0)
+slice-aggregate-answer-of : tie.Need-slice-aggregate-answer-of Inv-loop μ-loop
+slice-aggregate-answer-of c = sym (turn-of (seen-of (c .before .before)) .loop .inv .1 .1 .1 .1 .0)
 
-recall-requires : tie.Need-recall-requires Inv-loop μ-loop
-recall-requires c κs =
+answer-of-requires : tie.Need-answer-of-requires Inv-loop μ-loop
+answer-of-requires c κs =
     let turn = turn-of (seen-of (c .before .before)) in
     let start = start-of turn in
     let b = bits-small (c .before .before) in
@@ -327,8 +327,8 @@ list-docs-spec =
     same-length-2
     returns
     add-from
-    slice-aggregate-recall
-    recall-requires
+    slice-aggregate-answer-of
+    answer-of-requires
     loop-less
     loop-again
     tally-requires-2
