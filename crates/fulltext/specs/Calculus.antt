@@ -7,6 +7,7 @@ use mathlib.Core.Path.{_≡_}
 use mathlib.Core.Logic.{_⊎_}
 use mathlib.Core.List.{List, [], _∷_, _++_}
 use lib.ListN.{length, getD}
+use Rattle.volume.specs.Posting.{postingOf}
 use Rattle.plan.specs.declared.row.Predicate.{Predicate}
 use Rattle.plan.specs.declared.row.Predicate.the-variants as predicate
 use Rattle.plan.specs.declared.row.Operator.{Operator}
@@ -46,7 +47,7 @@ In x l = (i : ℕ) × (i < length l) × (getD l i 0 ≡ x)
 
 -- the list holds position p of document d
 abbrev pub Holds : ℕ → ℕ → List ℕ → Type 0
-Holds d p l = (p < limit) × In (d * 65536 + p) l
+Holds d p l = (p < limit) × In (postingOf d p .bits) l
 
 -- p is a position of document d: some list but list 0 holds it
 abbrev pub HasPos : List (List ℕ) → ℕ → ℕ → Type 0

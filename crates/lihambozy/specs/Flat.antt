@@ -5,6 +5,7 @@ use Rattle.seq.specs.Refusals.{Said, refused, answered}
 use Rattle.volume.specs.Answers.{Sizes}
 use Rattle.plan.specs.Answers as planAnswers
 use Rattle.plan.specs.declared.showing.Span.{Span}
+use Rattle.fulltext.specs.Positions.{limit}
 use Rattle.search.specs.Answers.{Next, done, more, Page}
 use Rattle.lihambozy.specs.declared.VolumeSizes.{VolumeSizes}
 use Rattle.lihambozy.specs.declared.ListLength.{ListLength}
@@ -45,7 +46,7 @@ flatTest (answered b) = record { refusal = 0; at = 0; passes = cond b 1 0 }
 
 -- the document to go on from, or 65,536
 abbrev pub flatNext : Next → ℕ
-flatNext done = 65536
+flatNext done = limit
 flatNext (more s) = s
 
 -- the answer of listing

@@ -19,6 +19,7 @@ use search::Listed;
 use search::Tested;
 use volume::Checked;
 use volume::ListRead;
+use volume::Posting;
 use volume::Written;
 
 // What `lhz_check_volume` answers: the number of lists and of postings.
@@ -275,7 +276,7 @@ pub extern "C" fn lhz_list(volume: &[u8], plan: &[u32], start: u32, out: &mut [u
             at: 0,
             rows,
             tally,
-            next: 65536,
+            next: Posting::DOCS,
         },
         Listed::More(next, rows, tally) => Listing {
             refusal: 0,

@@ -2,10 +2,11 @@
 --     Whole     what the program's turns have printed and what is still to come are together the whole
 --     Seen      the bytes that the program reads of the two files are enough
 --     Cases     the starred cases of document 01
-use Prim.Native.Nat.{ℕ}
+use Prim.Native.Nat.{ℕ, _+_, _*_}
 use mathlib.Core.Path.{_≡_}
 use mathlib.Core.List.{List, _++_, map}
 use lib.ListN.{take}
+use Rattle.plan.specs.Limits.{mostWords}
 use Rattle.fulltext.specs.Positions.{limit}
 use Rattle.lister.specs.Printed.{printed}
 use Rattle.lister.specs.Turns.{textFrom, Came}
@@ -19,7 +20,7 @@ Whole = (v b texts : List ℕ) (from tally : ℕ) → Came v b texts from tally 
 
 -- What is printed of two files is what is printed of the first 65,537 bytes of one and the first 1,025 of the other
 unfoldable pub Seen : Type 0
-Seen = (v b : List ℕ) → printed (take 65537 v) (take 1025 b) ≡ printed v b
+Seen = (v b : List ℕ) → printed (take 65537 v) (take (4 * mostWords + 1) b) ≡ printed v b
 
 -- The starred cases: on each row of the table the definitions say what is wanted
 unfoldable pub Cases : Type 0

@@ -9,6 +9,7 @@ use Rattle.seq.specs.Numbers.{run}
 use Rattle.seq.specs.Refusals.{Said, refused, answered}
 use Rattle.block.specs.Bytes.{le32}
 use Rattle.plan.specs.Answers.{Sizes}
+use Rattle.plan.specs.Limits.{mostWords}
 use Rattle.plan.specs.Check.{verdict}
 use Rattle.fulltext.specs.Positions.{limit}
 use Rattle.fulltext.specs.Documents.{Work, docsIn, work}
@@ -16,7 +17,7 @@ use Rattle.lister.specs.Text.{line, sceneWord, doneWord, refusedWord, to
 
 -- a plan file has 1 to 64 rows of 16 bytes
 abbrev pub wholeRows : ℕ → Bool
-wholeRows n = ltb 0 n && (leb n 1024 && eqb (n % 16) 0)
+wholeRows n = ltb 0 n && (leb n (4 * mostWords) && eqb (n % 16) 0)
 
 -- the words of a plan file, little-endian; a file of another length is an empty plan, which is refusal 9
 unfoldable pub planWords : List ℕ → List ℕ

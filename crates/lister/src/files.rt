@@ -1,6 +1,7 @@
 // The two files: their bytes, and the words of a plan file.
 ghost use Prim.Native.Nat.{_≤_};
 ghost use lib.ListN.{length};
+ghost use Rattle.plan.specs.Limits.{mostWords};
 ghost use Rattle.io.specs.Counts.{Counts};
 ghost use Rattle.lister.specs.Printed.{planWords};
 ghost use Rattle.lister.specs.Inner.Stored.{Stored};
@@ -72,7 +73,7 @@ pub const PLAN_BYTES: usize = 4 * plan::MOST_WORDS;
 // The words of a plan file at the front of words: how many there are. A file of 0 bytes, over 1,024
 // bytes or of no multiple of 16 has none.
 pub fn plan_words(file: &[u8], words: &mut [u32]) -> usize
-    requires { ⌜ 256 ≤ length (now words) ⌝ }
+    requires { ⌜ mostWords ≤ length (now words) ⌝ }
     ensures { λ r. ⌜ Stored (now (words .entry)) 0 (planWords (now (file .entry))) (now (words .exit)) r ⌝ }
 {
     if file.len() == 0 {

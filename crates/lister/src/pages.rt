@@ -26,7 +26,7 @@ const PAGE: usize = 16384;
 
 // The bytes that hold the text of any turn: 11 for each word of a page, 6 for each row, 30 for a
 // line that is not a row's.
-pub const TEXT: usize = 278558;
+pub const TEXT: usize = 17 * PAGE + 30;
 
 // What a turn gives: how many bytes are to be printed, and nothing behind them, or the document and
 // the sum of the tallies that the next turn starts with.

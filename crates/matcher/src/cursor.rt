@@ -1,8 +1,10 @@
 // Cursors on the posting lists of a volume.
 ghost use mathlib.Core.Path.{_≡_};
 ghost use Prim.Native.Nat.{_+_, _*_, _<_, _≤_};
+ghost use Rattle.volume.specs.Layout.{listCount};
 ghost use Rattle.volume.specs.Check as volumes;
 ghost use Rattle.matcher.specs.Inner.Cursors.{seekFrom, listCursor, Stretch, sought, Forward};
+use volume::Posting;
 
 // A place in a posting list: a stream index, and the index behind the list.
 pub struct Cursor {
@@ -81,7 +83,8 @@ impl Cursor {
         ensures { λ r. ⌜ r ≡ sought (now (volume .entry)) (doc * 65536) self ⌝ }
         ensures { λ r. ⌜ Forward self r ⌝ }
     {
-        let at = gallop(volume, self.at, self.end, doc as u64 * 65536);
+        let bound = doc as u64 * Posting::POSITIONS as u64;
+        let at = gallop(volume, self.at, self.end, bound);
         Cursor { at, end: self.end }
     }
 
@@ -92,25 +95,30 @@ impl Cursor {
         ensures { λ r. ⌜ r ≡ sought (now (volume .entry)) (doc * 65536 + pos + 1) self ⌝ }
         ensures { λ r. ⌜ Forward self r ⌝ }
     {
-        let at = gallop(
-            volume,
-            self.at,
-            self.end,
-            doc as u64 * 65536 + pos as u64 + 1,
-        );
+        let bound = doc as u64 * Posting::POSITIONS as u64 + pos as u64 + 1;
+        let at = gallop(volume, self.at, self.end, bound);
         Cursor { at, end: self.end }
     }
 }
 
-// A cursor on list 0, at its first posting.
-pub fn starts_of(volume: &[u8]) -> Cursor
+// A cursor on a list, at its first posting.
+pub fn list_cursor(volume: &[u8], list: usize) -> Cursor
     requires { ⌜ volumes.Accepted (now volume) ⌝ }
-    ensures { λ r. ⌜ r ≡ listCursor (now (volume .entry)) 0 ⌝ }
+    requires { ⌜ list < listCount (now volume) ⌝ }
+    ensures { λ r. ⌜ r ≡ listCursor (now (volume .entry)) list ⌝ }
 {
-    let span = volume::list_span(volume, 0);
+    let span = volume::list_span(volume, list);
     let end = span.start + span.count;
     Cursor {
         at: span.start,
         end,
     }
+}
+
+// The cursor on list 0, at its first posting.
+pub fn starts_of(volume: &[u8]) -> Cursor
+    requires { ⌜ volumes.Accepted (now volume) ⌝ }
+    ensures { λ r. ⌜ r ≡ listCursor (now (volume .entry)) 0 ⌝ }
+{
+    list_cursor(volume, 0)
 }

@@ -13,6 +13,7 @@ mod testing;
 pub use answers::Tested;
 pub use cursor::Cursor;
 pub use cursor::Document;
+pub use cursor::list_cursor;
 pub use cursor::starts_of;
 pub use least::settle;
 pub use least::show;

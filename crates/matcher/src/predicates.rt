@@ -16,6 +16,7 @@ ghost use Rattle.matcher.specs.Inner.Shortfall.{InDocument, Told};
 ghost use Rattle.matcher.specs.Inner.Cursors.{AtDocument};
 use super::cursor::Document;
 use plan::Predicate;
+use volume::Posting;
 
 // What a predicate says of some positions: that it holds, or a variable that stands before a position
 // which it needs at least.
@@ -37,11 +38,11 @@ fn para_start(volume: &[u8], document: Document, pos: u32) -> u32
     let past = starts.advance_past(volume, doc, pos);
     let at = past.at;
     if at == starts.at {
-        return 65536;
+        return Posting::POSITIONS;
     }
     let last = volume::posting_at(volume, at - 1);
     if last.doc() != doc {
-        return 65536;
+        return Posting::POSITIONS;
     }
     last.pos()
 }

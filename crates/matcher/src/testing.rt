@@ -20,8 +20,8 @@ ghost use Rattle.matcher.specs.Answers.{saidTested};
 ghost use Rattle.matcher.specs.Testing.{testAnswer};
 ghost use Rattle.matcher.specs.Inner.Settling.{Asked};
 use super::answers::Tested;
-use super::cursor::Cursor;
 use super::cursor::Document;
+use super::cursor::list_cursor;
 use super::cursor::starts_of;
 use super::predicates::Shortfall;
 use super::predicates::falls_short;
@@ -58,15 +58,10 @@ fn list_holds(volume: &[u8], list: usize, doc: u32, pos: u32) -> bool
     requires { ⌜ pos ≤ 65535 ⌝ }
     ensures { λ r. ⌜ r ≡ elem pos (positionsIn doc (listOf (listsOf (now (volume .entry))) list)) ⌝ }
 {
-    let span = volume::list_span(volume, list);
-    let end = span.start + span.count;
-    let first = Cursor {
-        at: span.start,
-        end,
-    };
+    let first = list_cursor(volume, list);
     let past = first.advance_past(volume, doc, pos);
     let at = past.at;
-    if at == span.start {
+    if at == first.at {
         return false;
     }
     let last = volume::posting_at(volume, at - 1);

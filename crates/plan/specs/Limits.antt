@@ -17,10 +17,6 @@ mostWords = 4 * mostRows
 abbrev pub mostPatterns : ℕ
 mostPatterns = 8
 
--- the sets of found patterns of a plan with the most patterns, two to the power of their number
-abbrev pub mostFoundSets : ℕ
-mostFoundSets = 256
-
 -- the most variables (01: voices) of a pattern
 abbrev pub mostPatternVars : ℕ
 mostPatternVars = 8

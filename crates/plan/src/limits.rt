@@ -1,5 +1,5 @@
 // The limits of a plan, and the words of a row of a listing, each in one place; `specs/Limits.antt`
-// has the same numbers.
+// and `specs/Inner/Stack.antt` have the same numbers.
 ghost use mathlib.Core.Path.{_≡_};
 ghost use Rattle.plan.specs.Limits.{rowWords};
 

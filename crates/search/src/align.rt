@@ -2,10 +2,12 @@
 ghost use mathlib.Core.Path.{_≡_};
 ghost use Prim.Native.Nat.{ℕ, _+_, _<_, _≤_};
 ghost use lib.ListN.{length, getD};
+ghost use Rattle.plan.specs.Limits.{mostPatternVars};
 ghost use Rattle.matcher.specs.Inner.Cursors.{Stretch};
 ghost use Rattle.matcher.specs.Inner.Settling.{Among};
 ghost use Rattle.search.specs.Inner.Walk.{Aligned, turned};
 use matcher::Cursor;
+use volume::Posting;
 
 // The variable behind variable i of n, in turn.
 fn turn(i: usize, n: usize) -> usize
@@ -33,7 +35,7 @@ pub fn align(
     requires { ⌜ first + n ≤ length (now ats) ⌝ }
     requires { ⌜ first + n ≤ length (now ends) ⌝ }
     requires { ⌜ 1 ≤ n ⌝ }
-    requires { ⌜ n ≤ 8 ⌝ }
+    requires { ⌜ n ≤ mostPatternVars ⌝ }
     requires { ⌜ doc ≤ 65536 ⌝ }
     requires { ⌜ ((x : ℕ) → Among first n x → Stretch (now volume) (getD (now ats) x 0) (getD (now ends) x 0)) ⌝ }
     ensures { λ r. ⌜ Aligned (now (volume .entry)) (now (ends .entry)) (now (ats .entry)) first n doc r (now (ats .exit)) ⌝ }
@@ -49,7 +51,7 @@ pub fn align(
         let at = moved.at;
         ats[x] = at;
         if end <= at {
-            return 65536;
+            return Posting::DOCS;
         }
         let posting = volume::posting_at(volume, at);
         let here = posting.doc();

@@ -5,10 +5,10 @@
 // the lent buffer, is an equation with a definition of `specs/`. That every search by `list` is
 // right as a whole is demand 3 in `specs/Demands.antt`.
 //
-// `list` is one forward pass: `setup` places a cursor for each variable, `walk::visit` brings each
-// pattern to the next document in which it can be found (`align`), fills the row there
-// (`matcher::settle`) and asks the plan's answer (`plan::answer_of`), and `store` puts the row into the
-// buffer.
+// `list` is one forward pass: `setup` places a cursor for each variable. `walk::visit` brings each
+// pattern to the next document in which it can be found (`align`) and fills the row there
+// (`matcher::settle`). `listing` asks the plan's answer for the patterns found (`plan::answer_of`),
+// and `store` puts the row into the buffer.
 mod align;
 mod answers;
 mod listing;

@@ -104,13 +104,13 @@ fn list_docs(
             &mut row,
         );
         let doc = seen.doc;
-        if doc == 65536 {
+        if doc == Posting::DOCS {
             let passed = tally(volume, plan, start, doc, firsts, ends);
             return Listed::Done(rows as u32, passed);
         }
         from = doc + 1;
         starts = seen.starts;
-        if !answer_of(plan, seen.bits, &mut known) {
+        if !answer_of(plan, seen.found, &mut known) {
             continue;
         }
         if rows == room {

@@ -1,4 +1,4 @@
-// What is laid out of a plan before its documents are walked.
+// A cursor for each variable of a plan, before its documents are walked.
 ghost use mathlib.Core.Path.{_≡_};
 ghost use Prim.Native.Nat.{_*_, _<_, _≤_};
 ghost use lib.ListN.{length};
@@ -9,20 +9,17 @@ ghost use Rattle.plan.specs.Check.{Accepted, sizes};
 ghost use Rattle.plan.specs.Inner.Outline.{Tabled};
 ghost use Rattle.matcher.specs.Inner.Tables.{cursorOn, Cursors};
 use matcher::Cursor;
+use matcher::list_cursor;
 use plan::list_at;
 use plan::outline_at;
 
 // The cursor on a list at its first posting in document `doc` or a later one.
 fn cursor_on(volume: &[u8], list: usize, doc: u32) -> Cursor
-    requires { ⌜ volumes.Accepted (now volume) × (list < listCount (now volume)) ⌝ }
+    requires { ⌜ volumes.Accepted (now volume) ⌝ }
+    requires { ⌜ list < listCount (now volume) ⌝ }
     ensures { λ r. ⌜ r ≡ cursorOn (now (volume .entry)) list doc ⌝ }
 {
-    let span = volume::list_span(volume, list);
-    let end = span.start + span.count;
-    let cursor = Cursor {
-        at: span.start,
-        end,
-    };
+    let cursor = list_cursor(volume, list);
     cursor.seek(volume, doc)
 }
 

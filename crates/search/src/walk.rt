@@ -23,6 +23,7 @@ use matcher::show;
 use plan::MOST_PATTERN_VARS;
 use plan::Outline;
 use plan::outline_at;
+use volume::Posting;
 
 // Where a walk goes on: the document from which on, whether no pattern has a document yet, a cursor
 // on list 0 that has not passed it, and whether that cursor is asked for.
@@ -33,11 +34,11 @@ pub struct Walk {
     pub paras: bool,
 }
 
-// A document, the bits of the patterns that are found there, that of pattern 0 the lowest, and a
-// cursor on list 0 that has not passed it.
+// A document, a bit for each pattern, 1 where it is found there, pattern 0 the lowest, and a cursor
+// on list 0 that has not passed it.
 pub struct Seen {
     pub doc: u32,
-    pub bits: u32,
+    pub found: u32,
     pub starts: Cursor,
 }
 
@@ -81,7 +82,7 @@ fn least_of(docs: &[u32]) -> u32
     requires { ⌜ ((k : ℕ) → k < length (now docs) → getD (now docs) k 0 ≤ 65536) ⌝ }
     ensures { λ r. ⌜ LeastDoc (now (docs .entry)) (length (now (docs .entry))) r ⌝ }
 {
-    let mut least: u32 = 65536;
+    let mut least = Posting::DOCS;
     let mut k: usize = 0;
     while k < docs.len() {
         let doc = docs[k];
@@ -98,7 +99,8 @@ fn bring_starts(volume: &[u8], starts: Cursor, needed: bool, doc: u32) -> Cursor
     requires { ⌜ Stands (now volume) 0 doc (starts .at) ⌝ }
     requires { ⌜ starts .end ≡ listEnd (now volume) 0 ⌝ }
     requires { ⌜ Stretch (now volume) (starts .at) (starts .end) ⌝ }
-    ensures { λ r. ⌜ Stands (now (volume .entry)) 0 doc (r .at) × (r .end ≡ listEnd (now (volume .entry)) 0) ⌝ }
+    ensures { λ r. ⌜ Stands (now (volume .entry)) 0 doc (r .at) ⌝ }
+    ensures { λ r. ⌜ r .end ≡ listEnd (now (volume .entry)) 0 ⌝ }
 {
     if !needed {
         return starts;
@@ -202,15 +204,15 @@ pub fn visit(
     next_docs(volume, plan, table, walk.fresh, walk.from, ats, ends, docs);
     let doc = least_of(docs);
     let passed = walk.starts;
-    if doc == 65536 {
+    if doc == Posting::DOCS {
         return Seen {
             doc,
-            bits: 0,
+            found: 0,
             starts: passed,
         };
     }
     let starts = bring_starts(volume, passed, walk.paras, doc);
     let document = Document { doc, starts };
-    let bits = fill_row(volume, plan, table, document, ats, ends, docs, row);
-    Seen { doc, bits, starts }
+    let found = fill_row(volume, plan, table, document, ats, ends, docs, row);
+    Seen { doc, found, starts }
 }

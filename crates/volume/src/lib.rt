@@ -23,7 +23,7 @@ pub use answers::Written;
 pub use checking::check;
 pub use codes::Code;
 pub use codes::code_of;
-pub use layout::Span;
+pub use layout::ListSpan;
 pub use posting::Posting;
 pub use reading::list_span;
 pub use reading::read_list;

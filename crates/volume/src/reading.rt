@@ -6,13 +6,13 @@ ghost use lib.ListN.{length, drop};
 ghost use Rattle.seq.specs.Numbers.{run};
 ghost use Rattle.volume.specs.Answers.{saidRead};
 ghost use Rattle.volume.specs.Layout.{word, listCount, streamLength};
-ghost use Rattle.volume.specs.Inner.Places.{spanOf};
+ghost use Rattle.volume.specs.Inner.Places.{listSpanOf};
 ghost use Rattle.volume.specs.Check.{Accepted};
 ghost use Rattle.volume.specs.Read.{readAnswer, readOut};
 use super::answers::Checked;
 use super::answers::ListRead;
 use super::checking::check;
-use super::layout::Span;
+use super::layout::ListSpan;
 use super::layout::lead;
 use super::stream::count_at;
 use super::stream::count_sum;
@@ -20,16 +20,16 @@ use super::stream::posting_at;
 use super::stream::word_at;
 
 // The span of a list of an accepted volume.
-pub fn list_span(volume: &[u8], list: usize) -> Span
+pub fn list_span(volume: &[u8], list: usize) -> ListSpan
     requires { ⌜ Accepted (now volume) ⌝ }
     requires { ⌜ list < listCount (now volume) ⌝ }
-    ensures { λ r. ⌜ r ≡ spanOf (now (volume .entry)) list ⌝ }
+    ensures { λ r. ⌜ r ≡ listSpanOf (now (volume .entry)) list ⌝ }
 {
     let lists = word_at(volume, 1) as usize;
     let before = count_sum(volume, list) as usize;
     let count = count_at(volume, list) as usize;
     let start = lead(lists) + before;
-    Span { start, count }
+    ListSpan { start, count }
 }
 
 // Copies the postings from stream index `from` on, n of them, to the front of out.

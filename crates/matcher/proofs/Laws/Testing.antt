@@ -27,9 +27,7 @@ use Rattle.seq.proofs.Laws.Tests.{below-or, true-or, contrary}
 use Rattle.seq.proofs.Laws.Decides as decides
 use Rattle.seq.proofs.Laws.Decides.{Decides, eqb-decides}
 use Rattle.seq.proofs.Laws.Lists.{all-each}
-use Rattle.volume.specs.declared.layout.Span.{Span}
 use Rattle.volume.specs.Layout.{streamLength, word, listCount, start, listsOf}
-use Rattle.volume.specs.Inner.Places.{spanOf}
 use Rattle.volume.specs.Check as volume
 use Rattle.volume.proofs.Laws.Check.{good}
 use Rattle.plan.specs.declared.row.Predicate.{Predicate}
@@ -69,23 +67,20 @@ small-decides ps = record {
     each : (all (λ q. leb q 65535) ps ≡ true) ↔ ((x : ℕ) → x < length ps → leb (getD ps x 0) 65535 ≡ true)
     each = all-each (λ q. leb q 65535) 0 ps
 
--- list l lies at span s
-module _ (v : List ℕ) (ok : volume.Accepted v) (l : ℕ) (h : l < listCount v) (s : Span) (e : s ≡ spanOf v l) where
-  pub span-stretch : Stretch v (s .start) (s .start + s .count)
-  span-stretch = rw e (list-stretch v ok l h)
+-- a cursor on list l, at its first posting
+module _ (v : List ℕ) (ok : volume.Accepted v) (l : ℕ) (h : l < listCount v) (first : Cursor) (e : first ≡ listCursor v l) where
+  pub list-before : Stretch v (first .at) (first .end)
+  list-before = rw e (list-stretch v ok l h)
 
-  pub span-small : s .start + s .count ≤ 1032192
-  span-small = let w = span-stretch .within in let m = good v ok .blocks-most in omega arith
-
-  -- a cursor on it is advanced past position p of document d
-  module _ (d p : ℕ) (moved : Cursor) (small : p ≤ 65535) (found : moved ≡ sought v (d * 65536 + p + 1) (record { at = s .start; end = s .start + s .count })) where
+  -- it is advanced past position p of document d
+  module _ (d p : ℕ) (moved : Cursor) (small : p ≤ 65535) (found : moved ≡ sought v (d * 65536 + p + 1) first) where
     abbrev past : ℕ
     past = moved .at
 
     past-is : past ≡ seekFrom v (d * 65536 + p + 1) (start v l) (listEnd v l)
     past-is = ap (λ (r : Cursor). r .at) found ∙ rw e refl
 
-    start-is : s .start ≡ start v l
+    start-is : first .at ≡ start v l
     start-is = rw e refl
 
     within : (start v l ≤ past) × (past ≤ listEnd v l)
@@ -149,13 +144,13 @@ module _ (v : List ℕ) (ok : volume.Accepted v) (l : ℕ) (h : l < listCount v)
             (below-or j (past - 1))
 
     -- where it has moved there is a posting in front of it
-    pub list-passed : past ≢ s .start → (1 ≤ past) × (past - 1 < streamLength v)
+    pub list-passed : past ≢ first .at → (1 ≤ past) × (past - 1 < streamLength v)
     list-passed n = let a = within in let b = start-is in let c = list-stretch v ok l h .within in (omega arith, omega arith)
 
-    pub list-without : past ≡ s .start → false ≡ elem p (positionsIn d (listOf (listsOf v) l))
+    pub list-without : past ≡ first .at → false ≡ elem p (positionsIn d (listOf (listsOf v) l))
     list-without q = let b = start-is in sym (decides.fails (positions-hold d p (listOf (listsOf v) l)) (λ w. let t = there w .0 in omega arith))
 
-    pub list-with : (w : ℕ) → w ≡ word v (past - 1) → past ≢ s .start → eqb w (d * 65536 + p) ≡ elem p (positionsIn d (listOf (listsOf v) l))
+    pub list-with : (w : ℕ) → w ≡ word v (past - 1) → past ≢ first .at → eqb w (d * 65536 + p) ≡ elem p (positionsIn d (listOf (listsOf v) l))
     list-with w x n =
         ⊎-elim
         (λ (y : w ≡ d * 65536 + p).

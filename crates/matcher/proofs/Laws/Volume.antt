@@ -1,6 +1,7 @@
 -- The lists of an accepted volume as stretches of its stream. No contract cites this file.
 --     list-is            list l of the volume's lists is the run of its postings
 --     list-stretch       its words lie in the stream and rise
+--     span-small         its span ends in the stream of a volume with the most blocks
 --     held, holds-at     a position that a list holds stands at an index of its stretch, and the converse
 -- Assumes nothing.
 use Prim.Native.Nat.{ℕ, zero, suc, _+_, _-_, _*_, _<_, _≤_}
@@ -14,7 +15,9 @@ use Rattle.seq.specs.Lists.{Rising}
 use Rattle.seq.proofs.Laws.Numbers.{length-run, getD-run}
 use Rattle.seq.proofs.Laws.Rising.{rises-rising}
 use Rattle.seq.proofs.Laws.Tests.{below-or}
+use Rattle.volume.specs.declared.layout.ListSpan.{ListSpan}
 use Rattle.volume.specs.Layout.{streamLength, word, listCount, count, start, postingsOf, listsOf}
+use Rattle.volume.specs.Inner.Places.{listSpanOf}
 use Rattle.volume.specs.Check.{Accepted}
 use Rattle.volume.proofs.Laws.Check.{Good, good}
 use Rattle.fulltext.specs.Positions.{limit, listOf}
@@ -66,6 +69,9 @@ module _ (v : List ℕ) (ok : Accepted v) (l : ℕ) (h : l < listCount v) where
           let x' = ap (word v) ej in
           let y' = ap (word v) ek in
           omega arith
+
+  pub span-small : (s : ListSpan) → s ≡ listSpanOf v l → s .start + s .count ≤ 1032192
+  span-small s e = rw e (let w = list-stretch .within in let m = good v ok .blocks-most in omega arith)
 
   -- a position that the list holds stands at an index
   pub held : (d p : ℕ) → Holds d p (listOf (listsOf v) l) → (p < limit) × ((j : ℕ) × ((start v l ≤ j) × ((j < listEnd v l) × (word v j ≡ d * 65536 + p))))

@@ -29,12 +29,12 @@ use Rattle.plan.specs.declared.row.Kind.{Kind}
 use Rattle.plan.specs.declared.row.Kind.the-variants as kind
 use Rattle.plan.specs.declared.state.State.{State}
 use Rattle.plan.specs.declared.row.Row.{Row}
-use Rattle.plan.specs.Limits.{mostPatterns, mostFoundSets}
+use Rattle.plan.specs.Limits.{mostPatterns}
 use Rattle.plan.specs.Rows.{rowCount, rowAt, rowsOf}
 use Rattle.plan.specs.State.{takes, after, stateAt, orderWrong}
 use Rattle.plan.specs.Patterns.{Pattern, noRow, openAfter, closed, patternsFrom, patternsOf, operate, answersAfter, answersFrom, answer}
 use Rattle.plan.specs.Check.{sizes}
-use Rattle.plan.specs.Inner.Stack.{flagOf, bitsOf, foundBits, joinsTwo, Remembers}
+use Rattle.plan.specs.Inner.Stack.{flagOf, bitsOf, foundBits, joinsTwo, mostFoundSets, Remembers}
 use Rattle.plan.proofs.Laws.State.{stateAt-first, stateAt-next, takes-two, operator-stands}
 use Rattle.plan.proofs.Laws.Patterns.{operate-length}
 

@@ -31,6 +31,10 @@ joinsTwo Both two = eqb two 3
 joinsTwo Either two = not (eqb two 0)
 joinsTwo FirstNotSecond two = eqb two 2
 
+-- the sets of found patterns of a plan with the most patterns, two to the power of their number
+abbrev pub mostFoundSets : ℕ
+mostFoundSets = 256
+
 -- a number for each set of found patterns: 0 where nothing is known, else 1 for the answer no and 2 for the answer yes
 pub record Remembers (p known : List ℕ) : Type 0 where
   pub small : (b : ℕ) → getD known b 0 ≤ 2

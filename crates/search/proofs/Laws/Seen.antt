@@ -148,24 +148,24 @@ module _ (v p table ends : List ℕ) (w : Walks v p table ends) where
       candidate = here k i;
     }
 
-    pub seen-out : (starts : Cursor) (row : List ℕ) → doc ≡ limit → Visited v p ends from (record { doc = doc; bits = 0; starts = starts }) ats docs row
+    pub seen-out : (starts : Cursor) (row : List ℕ) → doc ≡ limit → Visited v p ends from (record { doc = doc; found = 0; starts = starts }) ats docs row
     seen-out starts row e = record {
       later = seen-from;
       most = l .most;
       none = seen-none;
-      bits-are = λ h. absurd (let z : ⊥ = omega arith in z);
+      found-are = λ h. absurd (let z : ⊥ = omega arith in z);
       shown = λ h. absurd (let z : ⊥ = omega arith in z);
       walking = λ h. absurd (let z : ⊥ = omega arith in z);
     }
 
     pub seen-in : (bits : ℕ) (starts : Cursor) (row : List ℕ) → bits ≡ foundBits (found (listsOf v) doc) p → take (1 + sizes p .patterns + sizes p .vars) row ≡ rowIn (listsOf v) (rowsOf p) doc
-        → Stands v 0 doc (starts .at) → starts .end ≡ listEnd v 0 → sizes p .vars ≤ length ats → Visited v p ends from (record { doc = doc; bits = bits; starts = starts }) ats docs row
+        → Stands v 0 doc (starts .at) → starts .end ≡ listEnd v 0 → sizes p .vars ≤ length ats → Visited v p ends from (record { doc = doc; found = bits; starts = starts }) ats docs row
     unfolding work workOf
     seen-in bits starts row f shown s e room = record {
       later = seen-from;
       most = l .most;
       none = seen-none;
-      bits-are = λ h. f;
+      found-are = λ h. f;
       shown = λ h. ap (λ (n : ℕ). take n row) (work-words v p) ∙ shown;
       walking = λ h. record {
         to = omega arith;

@@ -92,6 +92,6 @@ pub record Visited (v p ends : List ℕ) (from : ℕ) (seen : Seen) (ats docs ro
   pub later : from ≤ seen .doc
   pub most : seen .doc ≤ limit
   pub none : (d : ℕ) → from ≤ d → d < seen .doc → work v p .isTrue d ≡ false
-  pub bits-are : seen .doc < limit → seen .bits ≡ foundBits (found (listsOf v) (seen .doc)) p
+  pub found-are : seen .doc < limit → seen .found ≡ foundBits (found (listsOf v) (seen .doc)) p
   pub shown : seen .doc < limit → take (work v p .width) row ≡ work v p .rowOf (seen .doc)
   pub walking : seen .doc < limit → Walking v p ends ats docs (seen .doc + 1) false (seen .starts)

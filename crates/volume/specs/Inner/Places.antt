@@ -5,7 +5,7 @@ use Prim.Native.Nat.{ℕ, _*_}
 use mathlib.Core.Path.{_≡_}
 use mathlib.Core.List.{List}
 use lib.ListN.{length}
-use Rattle.volume.specs.declared.layout.Span.{Span}
+use Rattle.volume.specs.declared.layout.ListSpan.{ListSpan}
 use Rattle.volume.specs.Layout.{blocks, count, start}
 
 -- v is whole blocks
@@ -13,5 +13,5 @@ abbrev pub Whole : List ℕ → Type 0
 Whole v = length v ≡ 512 * blocks v
 
 -- where list i lies in the stream
-abbrev pub spanOf : List ℕ → ℕ → Span
-spanOf v i = record { start = start v i; count = count v i }
+abbrev pub listSpanOf : List ℕ → ℕ → ListSpan
+listSpanOf v i = record { start = start v i; count = count v i }

@@ -77,10 +77,10 @@ ats-size : (c : tie.After-visit Inv-loop μ-loop) → length (c .visit .last .1 
 ats-size c = c .visit .kept .1 .1 .1 .1 .0 ∙ turn-of c .loop .inv .1 .1 .1 .0
 
 -- the bits of the found patterns are below 256
-bits-small : (c : tie.Else1 Inv-loop μ-loop) → seen-of c .visit .result .bits < 256
+bits-small : (c : tie.Else1 Inv-loop μ-loop) → seen-of c .visit .result .found < 256
 bits-small c =
     let start = start-of (turn-of (seen-of c)) in
-    rw (seen-of c .visit .ensures .bits-are (inside c)) (found-small _ (now (start .args .plan)) (few start .0))
+    rw (seen-of c .visit .ensures .found-are (inside c)) (found-small _ (now (start .args .plan)) (few start .0))
 
 -- whether the document is true
 told : (c : tie.After-answer-of Inv-loop μ-loop) → let seen = seen-of (found-of c) in let start = start-of (turn-of seen) in
@@ -88,7 +88,7 @@ told : (c : tie.After-answer-of Inv-loop μ-loop) → let seen = seen-of (found-
 told c =
     let seen = seen-of (found-of c) in
     let start = start-of (turn-of seen) in
-    seen-true (now (start .args .volume)) (now (start .args .plan)) (seen .visit .result .bits) (seen .visit .result .doc) (c .answer-of .result) (c .answer-of .ensures .0) (seen .visit .ensures .bits-are (inside (found-of c)))
+    seen-true (now (start .args .volume)) (now (start .args .plan)) (seen .visit .result .found) (seen .visit .result .doc) (c .answer-of .result) (c .answer-of .ensures .0) (seen .visit .ensures .found-are (inside (found-of c)))
 
 -- one answer more is known
 known-size : (c : tie.After-answer-of Inv-loop μ-loop) → length (c .answer-of .last .1 .1 .0) ≡ 256
@@ -127,8 +127,12 @@ loop-holds c =
     let f = p .1 .1 .0 in
     let low : start .args .start ≤ 65536 = let l = p .1 .1 .1 .0 in omega arith in
     let m = many start in
-    let n = few start .0 in
-    (visiting-first _ _ _ _ _ _ _ _ low (walking-first _ _ _ _ (p .0) _ (now (start .args .firsts)) _ _ low (omega arith) (p .1 .1 .1 .1 .0) (p .1 .1 .1 .1 .1 .0) (length-take-le (length (now (start .args .table)) / 4) _ (omega arith) ∙ m) _ (c .starts-of .ensures)), (refl, (refl, (refl, (refl, remembers-first (now (start .args .plan)) 256)))))
+    let n = few start .0 in (
+      visiting-first _ _ _ _ _ _ _ _ low
+          (walking-first _ _ _ _ (p .0) _ (now (start .args .firsts)) _ _ low (omega arith) (p .1 .1 .1 .1 .0) (p .1 .1 .1 .1 .1 .0)
+          (length-take-le (length (now (start .args .table)) / 4) _ (omega arith) ∙ m) _ (c .starts-of .ensures)),
+      (refl, (refl, (refl, (refl, remembers-first (now (start .args .plan)) 256)))),
+    )
 
 array-borrow-prefix-docs : tie.Need-array-borrow-prefix-docs Inv-loop μ-loop
 array-borrow-prefix-docs c =

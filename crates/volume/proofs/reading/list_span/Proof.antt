@@ -4,7 +4,7 @@ use Prim.Native.Nat.{ℕ, _+_}
 use mathlib.Core.Path.{ap, ap₂, _∙_}
 use denote.Ref.{now}
 use Rattle.volume.specs.Layout.{lead, start, count}
-use Rattle.volume.specs.declared.layout.Span.{Span}
+use Rattle.volume.specs.declared.layout.ListSpan.{ListSpan}
 use Rattle.volume.proofs.Laws.Check.{Good, good}
 use Rattle.volume.proofs.reading.list_span.Statement.{statement}
 use Rattle.volume.proofs.reading.list_span.Tie as tie
@@ -36,7 +36,7 @@ add-start c = omega arith
 
 returns : tie.Need-returns
 returns c =
-    let span : ℕ → ℕ → Span = λ s n. record { start = s; count = n } in
+    let span : ℕ → ℕ → ListSpan = λ s n. record { start = s; count = n } in
     let front = c .lead .ensures ∙ ap (λ (n : ℕ). lead n) (c .before .before .before .word-at .ensures) in
     ap₂ span (ap₂ (λ (a b : ℕ). a + b) front (c .before .before .count-sum .ensures .0)) (c .before .count-at .ensures)
 

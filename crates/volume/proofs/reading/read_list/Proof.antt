@@ -10,7 +10,7 @@ use Rattle.seq.specs.Numbers.{run}
 use Rattle.seq.specs.Refusals.{answered}
 use Rattle.volume.specs.Answers.{Sizes, saidChecked}
 use Rattle.volume.specs.Layout.{word, listCount, count, start}
-use Rattle.volume.specs.declared.layout.Span.{Span}
+use Rattle.volume.specs.declared.layout.ListSpan.{ListSpan}
 use Rattle.volume.specs.Check.{verdict}
 use Rattle.volume.proofs.Laws.Check.{good, accepted-by, sizes-are}
 use Rattle.volume.proofs.Laws.Read.{read-volume, read-none, read-short, read-answer, read-kept, read-laid}
@@ -32,10 +32,10 @@ listed c = omega arith
 
 -- its count, and where it ends
 count-is : (c : tie.After-list-span) → c .list-span .result .count ≡ count (now (c .before .before .before .before .before .before .before .before .args .volume)) (c .before .before .before .before .before .before .before .before .args .list)
-count-is c = ap (λ (s : Span). s .count) (c .list-span .ensures)
+count-is c = ap (λ (s : ListSpan). s .count) (c .list-span .ensures)
 
 start-is : (c : tie.After-list-span) → c .list-span .result .start ≡ start (now (c .before .before .before .before .before .before .before .before .args .volume)) (c .before .before .before .before .before .before .before .before .args .list)
-start-is c = ap (λ (s : Span). s .start) (c .list-span .ensures)
+start-is c = ap (λ (s : ListSpan). s .start) (c .list-span .ensures)
 
 within : (c : tie.After-list-span) → record {
   inside : c .list-span .result .start + c .list-span .result .count ≤ 126 * (length (now (c .before .before .before .before .before .before .before .before .args .volume)) / 512);

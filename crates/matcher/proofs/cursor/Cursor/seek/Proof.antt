@@ -1,3 +1,4 @@
+use borrow.Author.Needs.{needs}
 use native.Mathlib.Omega.{arith}
 use Prim.Native.Nat.{_*_}
 use denote.Ref.{now}
@@ -5,8 +6,11 @@ use Rattle.matcher.proofs.Laws.Cursors.{sought-is}
 use Rattle.matcher.proofs.cursor.Cursor.seek.Statement.{statement}
 use Rattle.matcher.proofs.cursor.Cursor.seek.Tie as tie
 
-mul-gallop : tie.Need-mul-gallop
-mul-gallop c = omega arith
+cast-bound : tie.Need-cast-bound
+cast-bound c = search needs
+
+mul-bound : tie.Need-mul-bound
+mul-bound c = omega arith
 
 gallop-requires : tie.Need-gallop-requires
 gallop-requires c κs = c .before .pre
@@ -15,4 +19,4 @@ returns : tie.Need-returns
 returns c = let a = c .before .before .args in sought-is (now (a .volume)) (a .doc * 65536) (a .self) (c .gallop .result) (c .gallop .ensures)
 
 pub seek-spec : {M : Type 1} → statement M
-seek-spec = tie.close (tie.spec mul-gallop gallop-requires returns)
+seek-spec = tie.close (tie.spec cast-bound mul-bound gallop-requires returns)
