@@ -10,7 +10,7 @@ use mathlib.Core.List.{List, _++_}
 use mathlib.Core.Option.{none, some}
 use lib.ListN.{length, drop}
 use Rattle.seq.specs.Lists.{total}
-use Rattle.seq.specs.Refusals.{Said, refused, answered, stageIn, FirstRefusal}
+use Rattle.seq.specs.Refusals.{refused, answered, stageIn, FirstRefusal}
 use Rattle.block.specs.Bytes.{IsBytes}
 use Rattle.volume.specs.Layout.{count, listsOf}
 use Rattle.plan.specs.Rows.{rowsOf}
@@ -23,7 +23,7 @@ use Rattle.search.specs.declared.answers.Listed.{Listed}
 use Rattle.search.specs.Answers.{Page, saidListed}
 use Rattle.search.specs.Listing.{pageOf, rowsFrom, listAnswer, listOut}
 use Rattle.search.specs.Refusals.{ListApplies, listStages}
-use Rattle.search.specs.Search.{plain, Call, IsSearch, outcome, Searched}
+use Rattle.search.specs.Search.{Form, plain, Call, IsSearch, outcome, Searched}
 
 -- listing: the first of 1 to 14, 15, 16 that applies, or the page exactly if none applies
 -- a refusal leaves the buffer as it was; an answer leaves the rows at its front and the rest as it was
@@ -41,12 +41,12 @@ pub record ListCall (v p : List ℕ) (start : ℕ) (out : List ℕ) : Type 0 whe
 unfoldable pub ListRefuses : Type 0
 ListRefuses = (v p : List ℕ) (start : ℕ) (out : List ℕ) → ListCall v p start out
 
--- what demand 3 says of an accepted volume and plan
-pub record Holds3 (v p : List ℕ) : Type 0 where
+-- what demand 3 says of an accepted volume and plan, of calls whose answers have a form
+pub record Holds3 {A : Type 0} (form : Form A) (v p : List ℕ) : Type 0 where
   -- every search: rows, tallies, the document reached, each answer, the end
-  pub searched : (calls : List (Call (Said Page)))
-      → IsSearch plain v p 0 calls
-      → Searched plain (work v p) calls (outcome plain v p calls)
+  pub searched : (calls : List (Call A))
+      → IsSearch form v p 0 calls
+      → Searched form (work v p) calls (outcome form v p calls)
   -- a pattern is found exactly if some tuple of positions matches
   pub found-some : (d : ℕ) (f : Pattern) → (found (listsOf v) d f ≡ true) ↔ ((ps : List ℕ) × (matchesAt (listsOf v) d f ps ≡ true))
   -- the positions shown match and are least in all variables together; where none are shown nothing matches
@@ -57,7 +57,7 @@ pub record Holds3 (v p : List ℕ) : Type 0 where
 
 -- Demand 3: over every accepted volume and plan
 unfoldable pub Demand3 : Type 0
-Demand3 = (v p : List ℕ) → Accepted v p → Holds3 v p
+Demand3 = (v p : List ℕ) → Accepted v p → Holds3 plain v p
 
 -- no two answers have document 01's number and values in common
 pub record OneToOne : Type 0 where

@@ -1,7 +1,8 @@
 -- A search: a list of listing calls as they were made, each with the buffer lent, the answer, and the buffer as it returned. An answer
 -- may have any form: `plain` is document 01's number and values, and a crate above may have its own. Assumes nothing.
 --     Form, plain             how an answer is made and what it says
---     Call, IsSearch          calls that are a search
+--     Call, KeptAs, Kept      a call, and what it promises
+--     IsSearch                calls that are a search
 --     Outcome, outcome        what a search comes to
 --     Answers, Searched       what holds of each of its calls, and of a search
 use Prim.Native.Nat.{ℕ, _+_, _*_, _/_, _≤_, _<_, max}
@@ -75,12 +76,8 @@ abbrev pub isAnswered : Said Page → Bool
 isAnswered (refused n q) = false
 isAnswered (answered page) = true
 
--- what `search::list` promises of a call from document `start` on
-abbrev pub Kept : List ℕ → List ℕ → ℕ → Call (Said Page) → Type 0
-Kept v p start c = (c .says ≡ listAnswer v p start (length (c .lent))) × (c .back ≡ listOut v p start (c .lent))
-
 module _ {A : Type 0} (form : Form A) where
-  -- the same of a call whose answer has this form
+  -- what a listing call whose answer has this form promises, from document `start` on
   abbrev pub KeptAs : List ℕ → List ℕ → ℕ → Call A → Type 0
   KeptAs v p start c = (c .says ≡ form .make (listAnswer v p start (length (c .lent)))) × (c .back ≡ listOut v p start (c .lent))
 
@@ -144,3 +141,7 @@ module _ {A : Type 0} (form : Form A) where
         → unrefused calls ≡ front ++ (c ∷ rest)
         → length front + 1 ≡ max 1 (length (docsIn w 0 limit))
         → SaysDone c × (o .reached ≡ limit)
+
+-- what `search::list` promises of a call
+abbrev pub Kept : List ℕ → List ℕ → ℕ → Call (Said Page) → Type 0
+Kept = KeptAs plain

@@ -10,12 +10,11 @@ use mathlib.Core.List.{List}
 use Rattle.seq.specs.Refusals.{refused}
 use Rattle.plan.specs.Check as planCheck
 use Rattle.plan.proofs.Laws.CheckFirst.{check-sound}
-use Rattle.fulltext.proofs.Laws.Counts as counts
 use Rattle.matcher.proofs.Laws.Stages.{plan-number}
-use Rattle.search.proofs.Laws.Search.{searched}
+use Rattle.search.specs.Demands.{Holds3}
+use Rattle.search.proofs.Laws.Whole as whole
 use Rattle.lihambozy.specs.Flat.{flatPlan}
 use Rattle.lihambozy.specs.Search.{structs}
-use Rattle.lihambozy.specs.Demands.{Holds3}
 use Rattle.lihambozy.proofs.Laws.Heard.{heard-flat}
 
 -- refusal 0 is an accepted plan
@@ -25,8 +24,5 @@ accepted v p e = ⊎-elim (λ a. a) (λ (w : (n : ℕ) × (q : ℕ) × (planChec
     let h = plan-number v p (w .0) (w .1) (check-sound v p .first (w .0) (w .1) (w .2) .applies .1) .0 in
     absurd (let y : ⊥ = omega arith in y)) (check-sound v p .total)
 
-pub holds3 : (v p : List ℕ) → flatPlan (planCheck.verdict v p) .refusal ≡ 0 → Holds3 v p
-holds3 v p e = record {
-  searched = searched structs v p (accepted v p e) (heard-flat v p);
-  whole = λ bytes. counts.whole v p bytes (accepted v p e);
-}
+pub holds3 : (v p : List ℕ) → flatPlan (planCheck.verdict v p) .refusal ≡ 0 → Holds3 structs v p
+holds3 v p e = whole.holds3 structs v p (accepted v p e) (heard-flat v p)
