@@ -46,9 +46,6 @@ pub record FirstRefusalOf {A : Type 0} (Applies : ℕ → ℕ → ℕ → Type 0
 abbrev pub Staged : (ℕ → ℕ) → (ℕ → ℕ → Type 0) → ℕ → ℕ → ℕ → Type 0
 Staged stage Applies s n p = (s ≡ stage n) × Applies n p
 
--- the first refusal there, and a call that answers it
-abbrev pub First : (ℕ → ℕ) → (ℕ → ℕ → Type 0) → ℕ → ℕ → Type 0
-First stage Applies n p = FirstOf (Staged stage Applies) n p
-
+-- a call that answers the first refusal there
 abbrev pub FirstRefusal : {A : Type 0} → (ℕ → ℕ) → (ℕ → ℕ → Type 0) → A → Said A → Type 0
 FirstRefusal stage Applies value said = FirstRefusalOf (Staged stage Applies) value said

@@ -9,11 +9,11 @@ use mathlib.Core.Logic.{_⊎_, inl, inr, ⊎-elim}
 use mathlib.Core.List.{List, [], _∷_}
 use lib.ListN.{getD}
 use Rattle.seq.specs.Lists.{elem}
-use Rattle.seq.specs.Refusals.{Said, refused, answered, stageIn, First, FirstRefusal}
+use Rattle.seq.specs.Refusals.{Said, refused, answered, stageIn, FirstRefusal}
 use Rattle.seq.proofs.Laws.Tests.{contrary}
 use Rattle.seq.proofs.Laws.Decides.{Decides}
 use Rattle.seq.proofs.Laws.Numbers.{first-before, search-found, search-clear}
-use Rattle.seq.proofs.Laws.Refusals.{Sound, end, rung, first-refusal}
+use Rattle.seq.proofs.Laws.Refusals.{First, Sound, end, rung, first-refusal}
 use Rattle.seq.proofs.Laws.Ladder.{Clear, clear-next, first-of, single}
 use Rattle.seq.proofs.Laws.Stages.{Over, over-clear, over-refused}
 use Rattle.volume.specs.Layout.{listCount}

@@ -1,8 +1,9 @@
 -- The laws of `specs/Refusals.antt`: a ladder of tests answers the first refusal that applies. No contract cites this file.
 --     SoundOf                        what each rung of a ladder keeps
---     rung-of, end-of                a ladder by its first test and the rest; its end
+--     end-of, told-of, rung-of       a ladder's end; a refusal that is told; a ladder by its first test and the rest
 --     first-refusal-of               a sound ladder answers the first refusal that applies
---     Sound, rung, end, first-refusal     the same where each number has one stage
+--     First, Sound, end, rung, first-refusal     the same where each number has one stage
+--     staged, unstaged               what is sound there is sound of the relation, and back
 --     before-or      of two refusals one comes before the other, or they are one
 --     past           behind a rung that refuses
 --     laid-refused, laid-answered
@@ -15,7 +16,7 @@ use mathlib.Core.Bool.{Bool, true, false, cond}
 use mathlib.Core.Logic.{_⊎_, inl, inr, ⊎-elim}
 use mathlib.Core.List.{List, _++_}
 use lib.ListN.{length, drop}
-use Rattle.seq.specs.Refusals.{Said, refused, answered, laid, Precedes, FirstOf, FirstRefusalOf, Staged, First, FirstRefusal}
+use Rattle.seq.specs.Refusals.{Said, refused, answered, laid, Precedes, FirstOf, FirstRefusalOf, Staged, FirstRefusal}
 use Rattle.seq.proofs.Laws.Tests.{below-or}
 
 pub laid-refused : {A : Type 0} (s : Said A) (n p : ℕ) (xs out : List ℕ) → s ≡ refused n p → laid s xs out ≡ out
@@ -64,8 +65,8 @@ module _ {A : Type 0} (Applies : ℕ → ℕ → ℕ → Type 0) (value : A) whe
   pub end-of : ((s n p : ℕ) → Applies s n p → ⊥) → SoundOf (answered value)
   end-of none = record { first = λ n p e. absurd (not-both (answered value) value n p refl e); clear = λ e. none; total = inl refl }
 
-  told : (n p : ℕ) → FirstOf Applies n p → SoundOf (refused n p)
-  told n p f = record {
+  pub told-of : (n p : ℕ) → FirstOf Applies n p → SoundOf (refused n p)
+  told-of n p f = record {
     first = λ m q e. subst (λ (x : ℕ). FirstOf Applies x q) (same m q e .0) (subst (λ (x : ℕ). FirstOf Applies n x) (same m q e .1) f);
     clear = λ e. absurd (not-both (refused n p) value n p e refl);
     total = inr (n, p, refl);
@@ -75,7 +76,7 @@ module _ {A : Type 0} (Applies : ℕ → ℕ → ℕ → Type 0) (value : A) whe
       same m q e = (cc, cc)
 
   pub rung-of : (t : Bool) (n p : ℕ) (rest : Said A) → (t ≡ true → FirstOf Applies n p) → (t ≡ false → SoundOf rest) → SoundOf (cond t (refused n p) rest)
-  rung-of true n p rest f g = told n p (f refl)
+  rung-of true n p rest f g = told-of n p (f refl)
   rung-of false n p rest f g = g refl
 
   pub first-refusal-of : (said : Said A) → SoundOf said → FirstRefusalOf Applies value said
@@ -97,17 +98,20 @@ module _ {A : Type 0} (Applies : ℕ → ℕ → ℕ → Type 0) (value : A) whe
       none-found none (inl e) = e
       none-found none (inr e) = let g = s .first (e .0) (e .1) (e .2) in absurd (none (g .stage) (e .0) (e .1) (g .applies))
 
--- where each number has one stage
+-- where each number has one stage: the first refusal
+abbrev pub First : (ℕ → ℕ) → (ℕ → ℕ → Type 0) → ℕ → ℕ → Type 0
+First stage Applies n p = FirstOf (Staged stage Applies) n p
+
 module _ {A : Type 0} (stage : ℕ → ℕ) (Applies : ℕ → ℕ → Type 0) (value : A) where
   pub record Sound (said : Said A) : Type 0 where
     pub first : (n p : ℕ) → said ≡ refused n p → First stage Applies n p
     pub clear : said ≡ answered value → (n p : ℕ) → Applies n p → ⊥
     pub total : (said ≡ answered value) ⊎ ((n : ℕ) × (p : ℕ) × (said ≡ refused n p))
 
-  staged : (said : Said A) → Sound said → SoundOf (Staged stage Applies) value said
+  pub staged : (said : Said A) → Sound said → SoundOf (Staged stage Applies) value said
   staged said s = record { first = s .first; clear = λ e t n p a. s .clear e n p (a .1); total = s .total }
 
-  unstaged : (said : Said A) → SoundOf (Staged stage Applies) value said → Sound said
+  pub unstaged : (said : Said A) → SoundOf (Staged stage Applies) value said → Sound said
   unstaged said s = record { first = s .first; clear = λ e n p a. s .clear e (stage n) n p (refl, a); total = s .total }
 
   pub end : ((n p : ℕ) → Applies n p → ⊥) → Sound (answered value)

@@ -11,10 +11,10 @@ use mathlib.Core.Logic.{_⊎_, inl, inr, ⊎-elim, _≢_}
 use mathlib.Core.List.{List, [], _∷_}
 use lib.ListN.{length, getD}
 use Rattle.seq.specs.Lists.{elem, NotRising}
-use Rattle.seq.specs.Refusals.{Said, refused, answered, stageIn, First, FirstRefusal}
+use Rattle.seq.specs.Refusals.{Said, refused, answered, stageIn, FirstRefusal}
 use Rattle.seq.proofs.Laws.Tests.{either, neither, contrary}
 use Rattle.seq.proofs.Laws.Numbers.{first-before}
-use Rattle.seq.proofs.Laws.Refusals.{Sound, end, first-refusal}
+use Rattle.seq.proofs.Laws.Refusals.{First, Sound, end, first-refusal}
 use Rattle.volume.specs.Answers.{Sizes}
 use Rattle.block.specs.Checksum.{checkA, checkB}
 use Rattle.volume.specs.Layout.{blocks, blockNumber, covered, storedA, storedB, word, version, listCount, extent, postingsOf}
