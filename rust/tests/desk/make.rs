@@ -144,13 +144,15 @@ fn a_missing_tool_is_told_before_anything_is_done() {
     }
     let tools = ["rt", "cargo", "cc"];
     let tool = |name: &str| folder.path("bin").join(name);
-    let run_goal = |goal: &str| run(make(&folder.0).arg(goal).env("PATH", folder.path("bin")));
+    let run_with = |words: &[&str]| run(make(&folder.0).args(words).env("PATH", tool("")));
     tools.iter().for_each(|name| write_program(&tool(name), "echo run >ran"));
-    assert_eq!(run_goal("tools").told(), (0, "", ""));
+    for words in [&["tools"][..], &["tools", "CARGO=cargo +stable", "CC=cc -O2"]] {
+        assert_eq!(run_with(words).told(), (0, "", ""), "{words:?}");
+    }
     for missing in tools {
         fs::remove_file(tool(missing)).unwrap();
-        for goal in ["all", "test", "bench", "soak"] {
-            let ended = run_goal(goal);
+        for goal in ["all", "test", "mutants", "bench", "soak"] {
+            let ended = run_with(&[goal]);
             let (status, stdout, stderr) = ended.told();
             let first = stderr.lines().next().unwrap_or_default();
             let told = first.strip_prefix(&format!("make: {missing} is missing: "));
