@@ -98,10 +98,10 @@ clean:
 # What the program is proved over: the C functions of the kit that it calls.
 ASSUMED := libc::close libc::read libc::write os::c::rattle_open_to_read os::c::rattle_set_errno
 
-# Reads crates.txt, then the gate's log, where a crate's verdict and the axioms it counts stand above
-# its line `rt: NAME proved`. Fails unless the log ends as that of a passed gate, every listed crate
-# has its verdict there, no verdict names a foreign function, no crate but a program has an axiom,
-# and the axioms of a program are those assumed.
+# Reads crates.txt, then the gate's log, where a crate's verdict and the axioms it counts stand
+# above its line `rt: NAME proved`. Fails unless the log ends as that of a passed gate, every listed
+# crate has its verdict there, no verdict names a foreign function, no crate but a program has an
+# axiom, and the axioms of a program are those assumed.
 define ASSUME_NOTHING
 BEGIN { split(assumed, words, " "); for (word in words) known[words[word]] }
 FNR == NR { sub(/#.*/, ""); if (sub(/:.*/, "")) { gsub(/[ \t]/, ""); listed[$$0] }; next }
