@@ -1,12 +1,15 @@
-# make          proves every crate, builds the program, the library, the Rust package and the command, and prints the
-#               sample listing
-# make test     the gate (rt ci), then every other test; the last line is the gate's own, if all passed
-# make mutants  tries the edits crates/*/mutants/*.edit, which the gate passes over: the prover must refuse each. CRATES="volume
-#               plan" tries those of some crates alone
-# make bench    times the library beside a yardstick in Rust and beside a copy
-# make soak     random and damaged input beside the naive searcher, for ten minutes or as SECONDS=60 says
-# make install  copies the command, the header and the library to bin/, include/ and lib/ of PREFIX, below DESTDIR if that is
-#               given; make uninstall removes them
+# make          proves every crate, builds the program, the library, the Rust package and the
+#               command, and prints the sample listing
+# make test     the gate (rt ci), then every other test; the last line is the gate's own, if all
+#               passed
+# make mutants  tries the edits crates/*/mutants/*.edit, which the gate passes over: the prover must
+#               refuse each. CRATES="volume plan" tries those of some crates alone
+# make bench    times the library beside a yardstick in Rust and beside a copy; fails where a target
+#               is missed
+# make soak     random and damaged input beside the naive searcher, for ten minutes or as SECONDS=60
+#               says
+# make install  copies the command, the header and the library to bin/, include/ and lib/ of PREFIX,
+#               below DESTDIR if that is given; make uninstall removes them
 # make clean    removes all that these made
 
 SHELL := bash
@@ -41,7 +44,7 @@ tools:
 	@missing=0; \
 	need() { command -v "$$1" >/dev/null || { echo "make: $$1 is missing: $$2" >&2; missing=1; }; }; \
 	need rt 'the Rattle toolchain, which proves and compiles the crates'; \
-	need '$(CARGO)' 'it builds the Rust package and the command, and runs the tests'; \
+	need '$(firstword $(CARGO))' 'it builds the Rust package and the command, and runs the tests'; \
 	for compiler in $(sort cc $(firstword $(CC))); do \
 	    need $$compiler 'the C compiler, for the link of the Rust package and for programs in C'; \
 	done; \
@@ -68,7 +71,7 @@ test: tools
 	$(CARGO) test --release $(PACKAGE) --bench volume --bench search
 	@tail -n 1 $(GATE_LOG)
 
-mutants:
+mutants: tools
 	tools/mutants $(CRATES)
 
 bench: tools $(LIBRARY)
@@ -95,9 +98,10 @@ clean:
 # What the program is proved over: the C functions of the kit that it calls.
 ASSUMED := libc::close libc::read libc::write os::c::rattle_open_to_read os::c::rattle_set_errno
 
-# Reads crates.txt, then the gate's log, where a crate's verdict and the axioms it counts stand above its line `rt: NAME
-# proved`. Fails unless the log ends as that of a passed gate, every listed crate has its verdict there, no verdict names a
-# foreign function, no crate but a program has an axiom, and the axioms of a program are those assumed.
+# Reads crates.txt, then the gate's log, where a crate's verdict and the axioms it counts stand
+# above its line `rt: NAME proved`. Fails unless the log ends as that of a passed gate, every listed
+# crate has its verdict there, no verdict names a foreign function, no crate but a program has an
+# axiom, and the axioms of a program are those assumed.
 define ASSUME_NOTHING
 BEGIN { split(assumed, words, " "); for (word in words) known[words[word]] }
 FNR == NR { sub(/#.*/, ""); if (sub(/:.*/, "")) { gsub(/[ \t]/, ""); listed[$$0] }; next }

@@ -6,9 +6,15 @@
  *
  *    cc prog.c -Iinclude target/staticlib/liblihambozy.a
  *
- * or, after `make install`, anywhere with `cc prog.c -llihambozy`; a C++ program with c++ and the
- * same words. Nothing else has to be linked: the library calls memcpy and memset of the C library,
- * and no other function. examples/c/listing.c is a whole program.
+ * and anywhere with the first of these lines after `make install`, with the second after
+ * `make install PREFIX=DIR`:
+ *
+ *    cc prog.c -llihambozy
+ *    cc prog.c -IDIR/include -LDIR/lib -llihambozy
+ *
+ * A C++ program is built with c++ and the same words. Nothing else has to be linked: the library
+ * calls memcpy and memset of the C library, and no other function. examples/c/listing.c is a whole
+ * program.
  *
  * A volume is an inverted index as one piece of bytes. It holds T posting lists, 1 to 1,024. A
  * posting is a 32-bit number, document * 65,536 + position, both 0 to 65,535, so that its document

@@ -50,7 +50,7 @@ struct Archive {
 fn archives() -> [Archive; 2] {
     [
         Archive {
-            name: "a season, made up by the rule of document 02, N12",
+            name: "a season, each posting 1 to 4,096 behind the one before it",
             lists: season(SEED, 512, 1_000),
             filling: Filling {
                 lists: [17, 100, 201, 302, 403, 444, 480, 511],

@@ -54,8 +54,8 @@ impl Lists {
     }
 }
 
-/// Document 02's made-up season (N12): for each posting the state grows by 2,654,435,769, wrapping,
-/// and the gap to the posting before is 1 + state / 1,048,576.
+/// A made-up season: each posting lies 1 to 4,096 behind the one before it. The state grows by
+/// 2,654,435,769 for each, wrapping, and the gap is 1 + state / 1,048,576.
 pub fn season(seed: u32, list_count: usize, length: usize) -> Lists {
     let mut state = seed;
     let mut list = || {

@@ -5,18 +5,17 @@
 
 use crate::plain::Refused;
 use crate::support::cc::compile;
-use crate::support::files::{assert_printed, listing, plan_bytes, word_bytes, Folder};
+use crate::support::command::notice;
+use crate::support::files::{assert_printed, listing, plan_bytes, repository, word_bytes, Folder};
 use crate::support::plans::*;
 use crate::support::searches::{random_positions, random_room, random_subject};
 use crate::support::*;
 use lihambozy::Refusal;
 use std::collections::BTreeMap;
-use std::fs::File;
-use std::io::Write;
+use std::fs::{self, File};
 use std::path::{Path, PathBuf};
 use std::process::{Command, Output, Stdio};
 use std::sync::{Mutex, OnceLock};
-use std::{fs, io};
 
 /// A way to run a C program. The last two report faults of memory.
 #[derive(Clone, Copy, Debug, PartialEq)]
@@ -90,9 +89,7 @@ impl Way {
                     Valgrind => "valgrind, which is not here",
                 };
                 let why = why.lines().next().unwrap_or_default();
-                // Not by eprintln!, which the harness holds back where a test passes.
-                let notice = format!("memory is not checked by {what}: {why}\n");
-                io::stderr().write_all(notice.as_bytes()).unwrap();
+                notice(&format!("memory is not checked by {what}: {why}"));
                 false
             }
         })
@@ -197,7 +194,7 @@ fn faults_are_reported() {
 /// more than that.
 #[test]
 fn the_sample() {
-    let data = Path::new(env!("CARGO_MANIFEST_DIR")).join("../crates/lister/data");
+    let data = repository("crates/lister/data");
     let printed = "scene 1 1 2 5\nscene 2 1 4 9\ndone 6\n";
     ends(&EVERY, &data, &TITLES, 0, printed, "");
     for words in ["4", "5", "8", "100", "3866624", "0004"] {

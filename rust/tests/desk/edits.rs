@@ -1,15 +1,10 @@
 //! The edits that the prover must refuse, those of the gate (`must-fail/`) and those that it passes
 //! over (`mutants/`): each one can still be made, so that none goes stale unseen.
 
+use crate::support::files::{names, repository, text};
 use std::collections::BTreeMap;
 use std::fs;
 use std::path::{Path, PathBuf};
-
-/// The names of what a folder holds, if there is one.
-fn names(folder: &Path) -> Vec<String> {
-    let Ok(entries) = fs::read_dir(folder) else { return vec![] };
-    entries.map(|entry| entry.unwrap().file_name().into_string().unwrap()).collect()
-}
 
 /// What hinders an edit of the crate in this folder, read as `rt must-fail` reads it: its texts
 /// replace each other one after the other.
@@ -50,16 +45,15 @@ fn hindrance(of: &Path, edit: &str) -> Option<String> {
 
 #[test]
 fn every_edit_can_be_made() {
-    let crates = Path::new(env!("CARGO_MANIFEST_DIR")).join("../crates");
+    let crates = repository("crates");
     let (mut hindered, mut count) = (vec![], 0);
     for of in names(&crates) {
         let folder = crates.join(&of);
         let [gate, beside] = ["must-fail", "mutants"].map(|kind| names(&folder.join(kind)));
         for (kind, edits) in [("must-fail", &gate), ("mutants", &beside)] {
             for name in edits {
-                let text = fs::read_to_string(folder.join(kind).join(name)).unwrap();
                 let why = match name.ends_with(".edit") {
-                    true => hindrance(&folder, &text),
+                    true => hindrance(&folder, &text(folder.join(kind).join(name))),
                     false => Some("it is no edit".into()),
                 };
                 let twice = kind == "mutants" && gate.contains(name);
@@ -75,8 +69,8 @@ fn every_edit_can_be_made() {
 
 #[test]
 fn an_edit_that_cannot_be_made_is_told() {
-    let plan = Path::new(env!("CARGO_MANIFEST_DIR")).join("../crates/plan");
-    let head = fs::read_to_string(plan.join("src/lib.rt")).unwrap();
+    let plan = repository("crates/plan");
+    let head = text(plan.join("src/lib.rt"));
     let first = head.lines().next().expect("a first line");
     let lib = "file: src/lib.rt\n";
     for (edit, is_made) in [

@@ -5,9 +5,8 @@
 //! searcher, and its lists are those of its wording.
 
 use crate::plain::search::Searcher;
+use crate::support::files::{bytes, files, names, repository, text, Folder};
 use std::fs;
-use std::path::{Path, PathBuf};
-use std::process::{Command, Stdio};
 
 /// The commands of `lhz`.
 const COMMANDS: [&str; 7] = ["check", "list", "read", "test", "write", "plan", "show"];
@@ -16,66 +15,23 @@ const NOT_RUN: [&str; 5] = ["make", "export", "cp", "cd", "cc"];
 /// The plans of the archive.
 const PLANS: [&str; 5] = ["1-word", "2-near", "3-order", "4-span", "5-joined"];
 
-/// A path in the repository.
-fn repository(path: &str) -> PathBuf {
-    Path::new(env!("CARGO_MANIFEST_DIR")).join("..").join(path)
-}
-
-#[track_caller]
-fn bytes(path: &Path) -> Vec<u8> {
-    fs::read(path).unwrap_or_else(|error| panic!("{}: {error}", path.display()))
-}
-
-#[track_caller]
-fn text(path: &Path) -> String {
-    String::from_utf8(bytes(path)).unwrap_or_else(|_| panic!("{} is no text", path.display()))
-}
-
-/// The names in a folder, sorted.
-fn names(folder: &Path) -> Vec<String> {
-    let entries = fs::read_dir(folder).unwrap_or_else(|e| panic!("{}: {e}", folder.display()));
-    let mut names: Vec<String> =
-        entries.map(|entry| entry.unwrap().file_name().into_string().unwrap()).collect();
-    names.sort();
-    names
-}
-
-/// A fresh copy of the archive, for one test.
-fn desk(test: &str) -> PathBuf {
-    let (archive, desk) =
-        (repository("examples/evening"), Path::new(env!("CARGO_TARGET_TMPDIR")).join(test));
-    if desk.exists() {
-        fs::remove_dir_all(&desk).unwrap();
-    }
-    for folder in ["", "plans"] {
-        fs::create_dir_all(desk.join(folder)).unwrap();
-        for name in names(&archive.join(folder)) {
-            let from = archive.join(folder).join(&name);
-            if from.is_file() {
-                fs::copy(from, desk.join(folder).join(name)).unwrap();
-            }
-        }
+/// A fresh copy of the archive.
+fn desk() -> Folder {
+    let (archive, desk) = (repository("examples/evening"), Folder::new());
+    fs::create_dir(desk.path("plans")).unwrap();
+    for file in files(&archive) {
+        fs::copy(archive.join(&file), desk.path(&file)).unwrap();
     }
     desk
 }
 
-/// Runs a command in a folder, with the status of the one before it: what it prints, standard error
+/// Runs a command at the desk, with the status of the one before it: what it prints, standard error
 /// too, and its status.
-fn run(desk: &Path, last: i32, command: &str) -> (String, i32) {
-    let mut path = Path::new(env!("CARGO_BIN_EXE_lhz")).parent().unwrap().as_os_str().to_owned();
-    path.push(":");
-    path.push(std::env::var_os("PATH").unwrap_or_default());
-    let ended = Command::new("sh")
-        .arg("-c")
-        .arg(format!("exec 2>&1\n(exit {last})\n{command}\n"))
-        .current_dir(desk)
-        .env("PATH", path)
-        .env("LC_ALL", "C")
-        .stdin(Stdio::null())
-        .output()
-        .expect("the shell starts");
-    let printed = String::from_utf8_lossy(&ended.stdout).into_owned();
-    (printed, ended.status.code().expect("the command ends by itself"))
+fn run(desk: &Folder, last: i32, command: &str) -> (String, i32) {
+    let ended = desk.sh(&format!("export LC_ALL=C\nexec 2>&1\n(exit {last})\n{command}\n"));
+    let (status, printed, _) = ended.told();
+    assert!(status >= 0, "`{command}` is ended by a signal");
+    (printed.to_string(), status)
 }
 
 /// A box of the guide: the line of its first mark, what stands behind that, and what is inside.
@@ -150,8 +106,9 @@ fn typed(console: &Fenced<'_>) -> Vec<Typed> {
     commands
 }
 
-/// Runs the commands of a page in a folder and compares what they print: the commands run.
-fn follow(page: &str, desk: &Path) -> Vec<String> {
+/// Runs the commands of a page at a fresh desk and compares what they print: the commands run.
+fn follow(page: &str) -> Vec<String> {
+    let desk = desk();
     let mut ran: Vec<String> = vec![];
     let (mut last, mut last_line) = (0, 0);
     for fenced in boxes(page) {
@@ -165,7 +122,7 @@ fn follow(page: &str, desk: &Path) -> Vec<String> {
                         last == 0 || command == "echo $?",
                         "line {last_line}: the command ends with {last}, which is not shown"
                     );
-                    let (printed, status) = run(desk, last, &command);
+                    let (printed, status) = run(&desk, last, &command);
                     assert_eq!(printed, shown, "line {line}: {command}");
                     (last, last_line) = (status, line);
                     ran.push(command);
@@ -190,7 +147,7 @@ fn follow(page: &str, desk: &Path) -> Vec<String> {
 
 #[test]
 fn the_guide_shows_what_its_commands_print() {
-    let ran = follow(&text(&repository("docs/GUIDE.md")), &desk("guide"));
+    let ran = follow(&text(repository("docs/GUIDE.md")));
     for name in COMMANDS {
         let start = format!("lhz {name} ");
         assert!(ran.iter().any(|command| command.starts_with(&start)), "{start}is never run");
@@ -200,7 +157,7 @@ fn the_guide_shows_what_its_commands_print() {
 
 #[test]
 fn the_readme_shows_what_its_commands_print() {
-    let ran = follow(&text(&repository("README.md")), &desk("readme"));
+    let ran = follow(&text(repository("README.md")));
     let listed = |command: &String| command.starts_with("lhz list ");
     assert!(ran.iter().any(listed), "nothing is listed: {ran:?}");
 }
@@ -211,14 +168,14 @@ fn the_files_are_what_the_commands_make() {
     assert_eq!(names(&archive), ["evening.vol", "lists.txt", "plans", "wording.md"]);
     let kinds = ["listing", "plan", "txt"];
     let files = PLANS.iter().flat_map(|plan| kinds.map(|kind| format!("{plan}.{kind}")));
-    assert_eq!(names(&archive.join("plans")), files.collect::<Vec<String>>());
+    assert_eq!(names(archive.join("plans")), files.collect::<Vec<String>>());
 
-    let desk = desk("files");
+    let desk = desk();
     let same = |name: &str, command: &str| {
-        fs::remove_file(desk.join(name)).unwrap();
+        fs::remove_file(desk.path(name)).unwrap();
         let (printed, status) = run(&desk, 0, command);
         assert_eq!(status, 0, "{command}: {printed}");
-        assert!(bytes(&desk.join(name)) == bytes(&archive.join(name)), "{command}: {name} differs");
+        assert!(desk.read(name) == bytes(archive.join(name)), "{command}: {name} differs");
     };
     same("evening.vol", "lhz write lists.txt evening.vol");
     for plan in PLANS {
@@ -234,15 +191,15 @@ fn the_files_are_what_the_commands_make() {
 #[test]
 fn the_listings_are_those_of_the_naive_searcher() {
     let archive = repository("examples/evening");
-    let volume = bytes(&archive.join("evening.vol"));
+    let volume = bytes(archive.join("evening.vol"));
     for plan in PLANS {
         let file = |kind: &str| archive.join(format!("plans/{plan}.{kind}"));
-        let words: Vec<u32> = bytes(&file("plan"))
+        let words: Vec<u32> = bytes(file("plan"))
             .chunks(4)
             .map(|word| u32::from_le_bytes(word.try_into().unwrap()))
             .collect();
         let searcher = Searcher::new(&volume, &words).unwrap();
-        assert_eq!(text(&file("listing")), searcher.printed(), "{plan}");
+        assert_eq!(text(file("listing")), searcher.printed(), "{plan}");
     }
 }
 
@@ -297,12 +254,12 @@ fn scenes(wording: &str) -> Vec<Scene> {
 #[test]
 fn the_lists_are_those_of_the_wording() {
     let archive = repository("examples/evening");
-    let scenes = scenes(&text(&archive.join("wording.md")));
+    let scenes = scenes(&text(archive.join("wording.md")));
     assert!(scenes.windows(2).all(|pair| pair[0].number < pair[1].number), "the scenes rise");
     assert!(scenes.len() >= 8, "{} scenes", scenes.len());
 
     // A comment with number and word stands above each list.
-    let lists = text(&archive.join("lists.txt"));
+    let lists = text(archive.join("lists.txt"));
     let lines: Vec<&str> = lists.lines().collect();
     assert!(lines.len().is_multiple_of(2) && lines.len() >= 2 * 12, "{} lines", lines.len());
     for (list, pair) in lines.chunks(2).enumerate() {
@@ -327,15 +284,15 @@ fn the_lists_are_those_of_the_wording() {
 #[test]
 fn the_guide_quotes_what_is_there() {
     let archive = repository("examples/evening");
-    let guide = text(&repository("docs/GUIDE.md"));
-    let wording = text(&archive.join("wording.md"));
+    let guide = text(repository("docs/GUIDE.md"));
+    let wording = text(archive.join("wording.md"));
     let inside = |fenced: &Fenced<'_>| fenced.inside.join("\n") + "\n";
 
     // The boxes: first the end of what `make` prints, then parts of the wording.
     let mut shown = boxes(&guide).into_iter().filter(|fenced| fenced.kind == "text");
     let make = inside(&shown.next().unwrap());
-    let last = make.strip_prefix(&text(&repository("crates/lister/stdout"))).unwrap().trim_end();
-    assert!(text(&repository("Makefile")).contains(&format!("@echo '{last}'")), "`{last}`");
+    let last = make.strip_prefix(&text(repository("crates/lister/stdout"))).unwrap().trim_end();
+    assert!(text(repository("Makefile")).contains(&format!("@echo '{last}'")), "`{last}`");
     let parts: Vec<String> = shown.map(|fenced| inside(&fenced)).collect();
     assert!(!parts.is_empty(), "nothing of the wording is shown");
     for part in parts {
@@ -344,7 +301,7 @@ fn the_guide_quotes_what_is_there() {
 
     // Rows of listings, between single marks.
     let prose = prose(&guide);
-    let listing = |plan: &str| text(&archive.join(format!("plans/{plan}.listing")));
+    let listing = |plan: &str| text(archive.join(format!("plans/{plan}.listing")));
     let listings: String = PLANS.iter().map(|plan| listing(plan)).collect();
     let quoted = prose.split('`').skip(1).step_by(2).map(|quoted| quoted.replace('\n', " "));
     let rows: Vec<String> = quoted.filter(|quoted| quoted.starts_with("scene ")).collect();
@@ -372,7 +329,7 @@ fn the_guide_quotes_what_is_there() {
 
 #[test]
 fn the_links_lead_to_files_and_the_names_to_statements() {
-    let guide = text(&repository("docs/GUIDE.md"));
+    let guide = text(repository("docs/GUIDE.md"));
     let (mut links, mut names) = (0, 0);
     for (end, _) in guide.match_indices("](") {
         let target = guide[end + 2..].split(')').next().unwrap();

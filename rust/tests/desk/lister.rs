@@ -111,7 +111,6 @@ fn the_sample() {
 #[test]
 fn the_table_of_cases() {
     let volume = sample().volume();
-    let two = |predicates: &[Row]| [&[voice(1), voice(2)], predicates, &[END]].concat();
     let first_not_second =
         [two(&[before(0, 1)]), two(&[near(0, 1, 0)]), vec![FIRST_NOT_SECOND]].concat();
     for (rows, output) in [

@@ -1,4 +1,4 @@
-//! What lies on a reader's desk: the guide, the header and the example in C, the program
+//! What lies on a reader's desk: the guide, the trace, the header and the example in C, the program
 //! `lister`, the Makefile, and the edits that must be refused.
 
 #[path = "../plain/mod.rs"]
@@ -12,3 +12,4 @@ mod guide;
 mod header;
 mod lister;
 mod make;
+mod trace;

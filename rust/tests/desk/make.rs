@@ -3,7 +3,7 @@
 //! prover runs: where `rt` is called, it is a stub.
 
 use crate::support::command::{run, Ended, LHZ};
-use crate::support::files::Folder;
+use crate::support::files::{files, names, repository, text, Folder};
 use std::env;
 use std::ffi::{OsStr, OsString};
 use std::fs::{self, Permissions};
@@ -15,15 +15,12 @@ use std::process::Command;
 const LIBRARY: &str = "target/staticlib/liblihambozy.a";
 const HEADER: &str = "include/lihambozy.h";
 
-fn repository() -> PathBuf {
-    Path::new(env!("CARGO_MANIFEST_DIR")).join("..")
-}
-
-/// `make` in a folder. It is not part of a `make` that runs this test.
+/// `make` in a folder. It is not part of a `make` that runs this test, and takes no compiler and no
+/// folder from the environment.
 fn make(folder: &Path) -> Command {
     let mut command = Command::new("make");
     command.arg("--no-print-directory").current_dir(folder);
-    for name in ["MAKEFLAGS", "MAKELEVEL", "MFLAGS", "DESTDIR", "PREFIX"] {
+    for name in ["MAKEFLAGS", "MAKELEVEL", "MFLAGS", "CC", "DESTDIR", "PREFIX"] {
         command.env_remove(name);
     }
     command
@@ -36,29 +33,12 @@ fn set(name: &str, value: impl AsRef<OsStr>) -> OsString {
     word
 }
 
-/// The files below a folder, by their paths from it, in order.
-fn files(folder: &Path) -> Vec<String> {
-    let mut found = Vec::new();
-    let mut folders = vec![folder.to_path_buf()];
-    while let Some(next) = folders.pop() {
-        for entry in fs::read_dir(next).unwrap() {
-            let path = entry.unwrap().path();
-            match path.is_dir() {
-                true => folders.push(path),
-                false => found.push(path.strip_prefix(folder).unwrap().display().to_string()),
-            }
-        }
-    }
-    found.sort();
-    found
-}
-
 /// A folder with the Makefile, `tools`, one crate and the library, made in this order.
 fn small_repository() -> Folder {
     let folder = Folder::new();
-    fs::copy(repository().join("Makefile"), folder.path("Makefile")).unwrap();
+    fs::copy(repository("Makefile"), folder.path("Makefile")).unwrap();
     fs::create_dir(folder.path("tools")).unwrap();
-    fs::copy(repository().join("tools/mutants"), folder.path("tools/mutants")).unwrap();
+    fs::copy(repository("tools/mutants"), folder.path("tools/mutants")).unwrap();
     for name in ["crates/one/src", "crates/one/must-fail", "target/staticlib"] {
         fs::create_dir_all(folder.path(name)).unwrap();
     }
@@ -89,10 +69,11 @@ fn run_written(command: &mut Command) -> Ended {
 
 #[test]
 fn what_is_installed_is_there_and_is_removed() {
-    let installed = [("bin/lhz", LHZ.into()), (HEADER, repository().join(HEADER))];
-    let installed =
-        installed.into_iter().chain([("lib/liblihambozy.a", repository().join(LIBRARY))]);
-    let installed: Vec<(&str, PathBuf)> = installed.collect();
+    let installed: [(&str, PathBuf); 3] = [
+        ("bin/lhz", LHZ.into()),
+        (HEADER, repository(HEADER)),
+        ("lib/liblihambozy.a", repository(LIBRARY)),
+    ];
     for (root, prefix) in [("", "a folder's \"name\" with $$signs"), ("a root", "/usr")] {
         let folder = Folder::new();
         let into = match root {
@@ -104,7 +85,7 @@ fn what_is_installed_is_there_and_is_removed() {
             root => vec![set("DESTDIR", folder.path(root)), set("PREFIX", prefix)],
         };
         let in_make = |goal| {
-            let mut command = make(&repository());
+            let mut command = make(&repository(""));
             let ended = run(command.arg(goal).args(&settings).arg(set("COMMAND", LHZ)));
             assert_eq!((ended.status, &ended.stderr[..]), (0, ""), "{goal}");
         };
@@ -163,13 +144,15 @@ fn a_missing_tool_is_told_before_anything_is_done() {
     }
     let tools = ["rt", "cargo", "cc"];
     let tool = |name: &str| folder.path("bin").join(name);
-    let run_goal = |goal: &str| run(make(&folder.0).arg(goal).env("PATH", folder.path("bin")));
+    let run_with = |words: &[&str]| run(make(&folder.0).args(words).env("PATH", tool("")));
     tools.iter().for_each(|name| write_program(&tool(name), "echo run >ran"));
-    assert_eq!(run_goal("tools").told(), (0, "", ""));
+    for words in [&["tools"][..], &["tools", "CARGO=cargo +stable", "CC=cc -O2"]] {
+        assert_eq!(run_with(words).told(), (0, "", ""), "{words:?}");
+    }
     for missing in tools {
         fs::remove_file(tool(missing)).unwrap();
-        for goal in ["all", "test", "bench", "soak"] {
-            let ended = run_goal(goal);
+        for goal in ["all", "test", "mutants", "bench", "soak"] {
+            let ended = run_with(&[goal]);
             let (status, stdout, stderr) = ended.told();
             let first = stderr.lines().next().unwrap_or_default();
             let told = first.strip_prefix(&format!("make: {missing} is missing: "));
@@ -288,15 +271,19 @@ fn every_mutant_is_refused_or_told() {
 /// A file of tests that its folder's `main.rs` did not name would not be run.
 #[test]
 fn every_file_of_tests_is_run() {
-    let tests = Path::new(env!("CARGO_MANIFEST_DIR")).join("tests");
+    let tests = repository("rust/tests");
     let mut count = 0;
-    for topic in fs::read_dir(tests).unwrap() {
-        let folder = topic.unwrap().path();
-        let Ok(main) = fs::read_to_string(folder.join("main.rs")) else { continue };
+    for topic in names(&tests) {
+        let folder = tests.join(&topic);
+        assert!(folder.is_dir(), "{topic} stands in no folder");
+        if !folder.join("main.rs").is_file() {
+            continue;
+        }
+        let main = text(folder.join("main.rs"));
         for file in files(&folder).iter().filter(|file| *file != "main.rs") {
             let name = file.strip_suffix(".rs").expect("a file of Rust");
             let named = main.lines().any(|line| line == format!("mod {name};"));
-            assert!(named, "{} does not name {name}", folder.join("main.rs").display());
+            assert!(named, "{topic}/main.rs does not name {name}");
             count += 1;
         }
     }

@@ -48,7 +48,6 @@ fn the_sample_plan() {
 /// The plans of the table of cases: F and V, and each pattern's own rows.
 #[test]
 fn the_table_of_cases() {
-    let two = |predicates: &[Row]| [&[voice(1), voice(2)], predicates, &[END]].concat();
     let one = |rows: Vec<Row>| (rows.clone(), vec![rows]);
     let (first, second) = (two(&[before(0, 1)]), two(&[near(0, 1, 0)]));
     let joined = [&first[..], &second[..], &[FIRST_NOT_SECOND]].concat();
@@ -81,13 +80,17 @@ fn the_table_of_cases() {
 #[test]
 fn words_of_a_listing_row() {
     let volume = sample().volume();
-    let second = [voice(1), voice(2), near(0, 1, 0), END, FIRST_NOT_SECOND];
-    let first = [voice(1), voice(2), before(0, 1), END];
-    for (plan, row) in [
-        (SAMPLE.concat(), "1 1 2 5"),
-        ([&first[..], &second[..]].concat().concat(), "2 1 4 9 0 0 0"),
-    ] {
+    let joined = [two(&[before(0, 1)]), two(&[near(0, 1, 0)]), vec![FIRST_NOT_SECOND]].concat();
+    for (rows, row) in [(SAMPLE.to_vec(), &[1, 1, 2, 5][..]), (joined, &[2, 1, 4, 9, 0, 0, 0])] {
+        let plan = rows.concat();
         let checked = lihambozy::calls::check_plan(&volume, &plan).unwrap();
-        assert_eq!(1 + checked.patterns + checked.vars, row.split(' ').count() as u32, "{row}");
+        let width = (1 + checked.patterns + checked.vars) as usize;
+        // There is room for one row and all words but one of a second.
+        let mut out = vec![99; 2 * width - 1];
+        let listing = lihambozy::calls::list(&volume, &plan, 0, &mut out).unwrap();
+        assert_eq!(listing.rows, 1, "{row:?}");
+        assert_eq!((&out[..width], &out[width..]), (row, &vec![99; width - 1][..]), "{row:?}");
+        let short = lihambozy::calls::list(&volume, &plan, 0, &mut out[..width - 1]);
+        assert_eq!(short.map_err(pair), Err((16, 0)), "{row:?}");
     }
 }

@@ -271,22 +271,7 @@ fn lists_of_the_volume() {
 #[test]
 fn volumes_before_plans() {
     let accepted = four_blocks().volume();
-    let damaged = |damage: &dyn Fn(&mut Vec<u8>)| {
-        let mut volume = accepted.clone();
-        damage(&mut volume);
-        volume
-    };
-    let volumes = [
-        (damaged(&|v| v.clear()), (1, 0)),
-        (damaged(&|v| v.truncate(1_000)), (1, 0)),
-        (damaged(&|v| renumber(v, 2, 7)), (2, 2)),
-        (damaged(&|v| v[3 * 512 + 40] ^= 1), (3, 3)),
-        (damaged(&|v| set(v, 0, 2)), (4, 0)),
-        (damaged(&|v| set(v, 1, 0)), (5, 0)),
-        (damaged(&|v| set(v, 2, 500)), (6, 0)),
-        (damaged(&|v| set(v, 20, 0)), (7, 2)),
-        (damaged(&|v| set(v, 400, 5)), (8, 400)),
-    ];
+    let volumes = refused::volumes();
     let plans = [
         ("in order", SAMPLE.concat(), Ok((1, 2))),
         ("9, no words", vec![], Err((9, 0))),

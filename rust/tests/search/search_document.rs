@@ -6,11 +6,6 @@ use crate::support::plans::*;
 use crate::support::searches::*;
 use crate::support::*;
 
-/// The sample's two variables with other predicates.
-fn two(predicates: &[Row]) -> Vec<Row> {
-    [&[voice(1), voice(2)], predicates, &[END]].concat()
-}
-
 /// A plan over the sample volume.
 fn over_sample(rows: &[Row]) -> Subject {
     Subject::new(&sample().volume(), &rows.concat())
@@ -31,8 +26,9 @@ fn the_sample_listing() {
     assert_eq!(printed, "scene 1 1 2 5\nscene 2 1 4 9\ndone 6\n");
 }
 
-/// The plans of the table, each with the words of its rows and its tally, and BOTH and EITHER in the
-/// place of its FIRST NOT SECOND. A buffer of every length gives them, in as many calls as it takes.
+/// The plans of the table, each with the words of its rows and its tally, and BOTH and EITHER in
+/// the place of its FIRST NOT SECOND. A buffer of every length gives them, in as many calls as it
+/// takes.
 #[test]
 fn the_table_of_cases() {
     let before_and_near =

@@ -552,16 +552,8 @@ fn empty_lists() {
 /// The largest plan: 51 variables in 7 patterns and 64 rows, so that a row has 59 words.
 #[test]
 fn the_widest_row() {
-    let sizes = [8, 8, 8, 8, 8, 8, 3];
-    let mut var = 0;
-    let mut rows = Vec::new();
-    for size in sizes {
-        rows.extend((var + 1..=var + size).map(voice));
-        rows.push(END);
-        var += size;
-    }
-    rows.extend([EITHER; 6]);
-    assert_eq!((var, rows.len()), (51, 64));
+    let rows = widest_plan_on(|var| var + 1, EITHER);
+    assert_eq!((rows[56], rows[63], rows.len()), (voice(51), EITHER, 64));
     // Variable i stands at 1,000 + i. Document 9 has all of them, document 10 those of the patterns
     // of even number, document 11 those of the others, document 12 all of each pattern but one.
     let in_doc = |doc: u32, var: u32| match doc {
@@ -579,7 +571,7 @@ fn the_widest_row() {
     let mut expected = Vec::new();
     for doc in 9..12 {
         expected.push(doc);
-        for (pattern, size) in (0..).zip(sizes) {
+        for (pattern, size) in (0..).zip(WIDEST) {
             let vars = 8 * pattern..8 * pattern + size;
             let found = in_doc(doc, 8 * pattern);
             expected.push(u32::from(found));
@@ -780,8 +772,7 @@ fn the_greatest_tally() {
     let list: Vec<u32> = (0..postings).collect();
     let volume = Lists::new(&[&[][..], &list]).volume();
     assert_eq!(volume.len(), 512 * 8_192);
-    let patterns = [8, 8, 8, 8, 8, 8, 3].map(|vars| [vec![voice(1); vars], vec![END]].concat());
-    let plan = [patterns.concat(), vec![BOTH; 6]].concat().concat();
+    let plan = widest_plan_on(|_| 1, BOTH).concat();
     assert_eq!(plan.len(), 256);
     // Documents 0 to 14 have every position, document 15 those up to the last posting.
     let mut out = vec![9; 59 * 16];

@@ -6,30 +6,8 @@ use crate::support::searches::*;
 use crate::support::*;
 use lihambozy::calls::{Listing, Next};
 
-/// Volumes, an accepted one first, each with what it is refused with.
-fn volumes() -> Vec<(Vec<u8>, Option<Refused>)> {
-    let accepted = four_blocks().volume();
-    let damaged = |damage: &dyn Fn(&mut Vec<u8>)| {
-        let mut volume = accepted.clone();
-        damage(&mut volume);
-        volume
-    };
-    vec![
-        (accepted.clone(), None),
-        (damaged(&|v| v.clear()), Some((1, 0))),
-        (damaged(&|v| v.truncate(1_000)), Some((1, 0))),
-        (damaged(&|v| renumber(v, 2, 7)), Some((2, 2))),
-        (damaged(&|v| v[3 * 512 + 40] ^= 1), Some((3, 3))),
-        (damaged(&|v| set(v, 0, 2)), Some((4, 0))),
-        (damaged(&|v| set(v, 1, 0)), Some((5, 0))),
-        (damaged(&|v| set(v, 2, 500)), Some((6, 0))),
-        (damaged(&|v| set(v, 20, 0)), Some((7, 2))),
-        (damaged(&|v| set(v, 400, 5)), Some((8, 400))),
-    ]
-}
-
-/// Plans of two variables over such a volume, an accepted one first, each with what it is refused
-/// with.
+/// Plans of two variables over the volume of four blocks, an accepted one first, each with what it
+/// is refused with.
 fn plans() -> Vec<(Vec<u32>, Option<Refused>)> {
     let v = voice(3);
     vec![
@@ -49,7 +27,8 @@ fn plans() -> Vec<(Vec<u32>, Option<Refused>)> {
 #[test]
 fn refused_in_order() {
     let mut trial = Trial::default();
-    for (volume, of_volume) in volumes() {
+    let damaged = refused::volumes().into_iter().map(|(volume, why)| (volume, Some(why)));
+    for (volume, of_volume) in [(four_blocks().volume(), None)].into_iter().chain(damaged) {
         for (plan, of_plan) in plans() {
             let subject = Subject::new(&volume, &plan);
             trial.case = format!("volume {of_volume:?}, plan {of_plan:?}");

@@ -7,8 +7,7 @@ use crate::support::*;
 
 /// The sample's two variables with other predicates.
 fn over_sample(predicates: &[Row]) -> Subject {
-    let plan = [&[voice(1), voice(2)], predicates, &[END]].concat();
-    Subject::new(&sample().volume(), &plan.concat())
+    Subject::new(&sample().volume(), &two(predicates).concat())
 }
 
 #[test]

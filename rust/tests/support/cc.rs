@@ -1,5 +1,6 @@
 //! C programs, compiled against the header and the library.
 
+use super::files::repository;
 use std::path::{Path, PathBuf};
 use std::process::Command;
 
@@ -10,16 +11,15 @@ const FLAGS: [&str; 7] =
 /// Compiles a C file of the repository and links the library, with the compiler `CC` or else `cc`.
 /// The program, under the name given, or what the compiler says.
 pub fn compile(source: &str, name: &str, flags: &[&str]) -> Result<PathBuf, String> {
-    let repository = Path::new(env!("CARGO_MANIFEST_DIR")).join("..");
     let program = Path::new(env!("CARGO_TARGET_TMPDIR")).join(name);
     let compiler = std::env::var_os("CC").unwrap_or("cc".into());
     let ended = Command::new(compiler)
         .args(FLAGS)
         .args(flags)
         .arg("-I")
-        .arg(repository.join("include"))
-        .arg(repository.join(source))
-        .arg(repository.join("target/staticlib/liblihambozy.a"))
+        .arg(repository("include"))
+        .arg(repository(source))
+        .arg(repository("target/staticlib/liblihambozy.a"))
         .arg("-o")
         .arg(&program)
         .output()

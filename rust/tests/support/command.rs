@@ -6,7 +6,7 @@ use super::plans::SAMPLE;
 use super::sample;
 use std::ffi::OsStr;
 use std::fs::{self, Permissions};
-use std::io::{ErrorKind, Write};
+use std::io::{self, ErrorKind, Write};
 use std::os::unix::fs::{MetadataExt, PermissionsExt};
 use std::os::unix::process::CommandExt;
 use std::path::Path;
@@ -55,7 +55,7 @@ impl Folder {
     }
 
     /// Runs `lhz` as someone who may not do all: as another user where this one is the superuser.
-    /// `None` where that user does not get as far as to start it.
+    /// `None` where that user does not get as far as to start it; standard error says so.
     pub fn lhz_as_other(&self, line: &str) -> Option<Ended> {
         let mut command = self.command(LHZ);
         command.args(line.split(' '));
@@ -64,7 +64,10 @@ impl Folder {
             command.uid(65_534).gid(65_534);
         }
         match command.output() {
-            Err(error) if error.kind() == ErrorKind::PermissionDenied => None,
+            Err(error) if error.kind() == ErrorKind::PermissionDenied => {
+                notice(&format!("not tried: lhz {line}, by user 65534, who cannot start it here"));
+                None
+            }
             output => Some(ended(output.expect("the program starts"))),
         }
     }
@@ -77,6 +80,12 @@ impl Folder {
         let mut command = self.command("sh");
         run(command.args(["-c", line]).env("PATH", path))
     }
+}
+
+/// Tells what is not tried here, on standard error. Not by eprintln!, which the harness holds back
+/// where a test passes.
+pub fn notice(what: &str) {
+    io::stderr().write_all(format!("{what}\n").as_bytes()).unwrap();
 }
 
 /// How a program ended, and what it printed.

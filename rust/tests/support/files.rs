@@ -1,5 +1,5 @@
-//! For the programs that print a listing: folders and plan files for them, and what document 01
-//! says that is printed.
+//! Files: those of the repository, fresh folders, the plan files of the programs that print a
+//! listing, and what document 01 says that is printed.
 
 use super::plans::Row;
 use crate::plain::search::Searcher;
@@ -8,9 +8,53 @@ use std::path::{Path, PathBuf};
 use std::sync::atomic::{AtomicU32, Ordering};
 use std::{fs, process};
 
+/// A path in the repository.
+pub fn repository(path: impl AsRef<Path>) -> PathBuf {
+    Path::new(env!("CARGO_MANIFEST_DIR")).join("..").join(path)
+}
+
+/// The names of what a folder holds, in order; none where there is no folder.
+pub fn names(folder: impl AsRef<Path>) -> Vec<String> {
+    let names = names_of_any_bytes(folder.as_ref()).into_iter();
+    names.map(|name| name.into_string().unwrap()).collect()
+}
+
+fn names_of_any_bytes(folder: &Path) -> Vec<OsString> {
+    let entries = fs::read_dir(folder).into_iter().flatten();
+    let mut names: Vec<OsString> = entries.map(|entry| entry.unwrap().file_name()).collect();
+    names.sort();
+    names
+}
+
+/// The files below a folder, by their paths from it, in order.
+pub fn files(folder: impl AsRef<Path>) -> Vec<String> {
+    let mut found = Vec::new();
+    for name in names(&folder) {
+        let path = folder.as_ref().join(&name);
+        match path.is_dir() {
+            true => found.extend(files(path).iter().map(|below| format!("{name}/{below}"))),
+            false => found.push(name),
+        }
+    }
+    found.sort();
+    found
+}
+
+#[track_caller]
+pub fn bytes(path: impl AsRef<Path>) -> Vec<u8> {
+    let path = path.as_ref();
+    fs::read(path).unwrap_or_else(|error| panic!("{}: {error}", path.display()))
+}
+
+#[track_caller]
+pub fn text(path: impl AsRef<Path>) -> String {
+    let text = String::from_utf8(bytes(&path));
+    text.unwrap_or_else(|_| panic!("{} is no text", path.as_ref().display()))
+}
+
 /// The program `lister`, which `rt check lister` writes to `target/bin` of the repository.
 pub fn lister() -> PathBuf {
-    let path = Path::new(env!("CARGO_MANIFEST_DIR")).join("../target/bin/lister");
+    let path = repository("target/bin/lister");
     assert!(
         path.is_file(),
         "{} is absent: run `rt check lister` in the repository first",
@@ -44,16 +88,12 @@ impl Folder {
 
     #[track_caller]
     pub fn read(&self, name: impl AsRef<Path>) -> Vec<u8> {
-        let path = self.path(name);
-        fs::read(&path).unwrap_or_else(|error| panic!("{}: {error}", path.display()))
+        bytes(self.path(name))
     }
 
     /// The names of all that stands in the folder, in order.
     pub fn names(&self) -> Vec<OsString> {
-        let entries = fs::read_dir(&self.0).unwrap();
-        let mut names: Vec<OsString> = entries.map(|entry| entry.unwrap().file_name()).collect();
-        names.sort();
-        names
+        names_of_any_bytes(&self.0)
     }
 }
 

@@ -1,8 +1,8 @@
 //! What the tests share: a seeded generator, lists and damage made with it, plans (in `plans`), and
 //! the comparison of the library with the plain reader and writer, call by call. `searches` has the
 //! same for listing documents and testing positions, and whole searches. `refused` has volumes and
-//! plans that are refused, `files` what the programs that print a listing are run with; `command`
-//! runs programs, and `cc` compiles those in C.
+//! plans that are refused, `files` those of the repository and fresh folders; `command` runs
+//! programs, and `cc` compiles those in C.
 
 #![allow(dead_code)]
 

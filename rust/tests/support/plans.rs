@@ -6,15 +6,30 @@ pub use lihambozy::row::{PlanRow as Row, *};
 /// The sample plan of document 01.
 pub const SAMPLE: [Row; 5] = [voice(1), voice(2), before(0, 1), same_title(0, 1), END];
 
-/// The plan of 64 rows with the most variables, 51, all of list 1, and with rows of 59 words.
-pub fn widest_plan() -> Vec<Row> {
+/// The sample's two variables with other predicates.
+pub fn two(predicates: &[Row]) -> Vec<Row> {
+    [&[voice(1), voice(2)], predicates, &[END]].concat()
+}
+
+/// The variables of each pattern of the plan of 64 rows with the most of them, 51.
+pub const WIDEST: [u32; 7] = [8, 8, 8, 8, 8, 8, 3];
+
+/// That plan, whose rows have 59 words. Each variable has the list given for its number, and the
+/// patterns are joined by this operator.
+pub fn widest_plan_on(list: impl Fn(u32) -> u32, operator: Row) -> Vec<Row> {
+    let mut vars = 0..;
     let mut rows = vec![];
-    for vars in [8, 8, 8, 8, 8, 8, 3] {
-        rows.extend(vec![voice(1); vars]);
+    for count in WIDEST {
+        rows.extend(vars.by_ref().take(count as usize).map(|var| voice(list(var))));
         rows.push(END);
     }
-    rows.extend([EITHER; 6]);
+    rows.extend([operator; WIDEST.len() - 1]);
     rows
+}
+
+/// The same with all variables on list 1, and EITHER.
+pub fn widest_plan() -> Vec<Row> {
+    widest_plan_on(|_| 1, EITHER)
 }
 
 /// Whether the parts, in order and with operators alone around them, are the whole plan, each of

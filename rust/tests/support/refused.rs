@@ -34,6 +34,7 @@ pub fn volumes() -> Vec<(Vec<u8>, Refused)> {
         (changed(&|volume| set(volume, 1, 1_025)), (5, 0)),
         (changed(&add_block), (6, 0)),
         (changed(&|volume| set(volume, 2, 200)), (6, 0)),
+        (changed(&|volume| set(volume, 20, 0)), (7, 2)),
         (changed(&|volume| set(volume, start + 1, 6_000)), (7, 3)),
         (changed(&|volume| set(volume, 7, 9_003)), (7, 0)),
         (changed(&|volume| set(volume, 503, 1)), (8, 503)),

@@ -2,9 +2,9 @@
 //! it, and its lists of gaps are those of its sentences. docs/DECISIONS.md: the open functions with
 //! a `requires` are those that it lists.
 
+use crate::support::files::{self, repository};
 use std::collections::{BTreeMap, BTreeSet};
 use std::fs;
-use std::path::{Path, PathBuf};
 
 // The page.
 
@@ -96,8 +96,9 @@ fn quoted(text: &str) -> impl Iterator<Item = &str> {
     text.split('`').skip(1).step_by(2)
 }
 
-/// Every name on the page, with the sentence and the line that it stands in. Outside the sentences an
-/// edit or a test is told by that word, and the words that name nothing of the repository are free.
+/// Every name on the page, with the sentence and the line that it stands in. Outside the sentences
+/// an edit or a test is told by that word, and the words that name nothing of the repository are
+/// free.
 fn references() -> Vec<(String, Line, String)> {
     let mut references = Vec::new();
     let Page { sentences, prose } = page();
@@ -128,48 +129,29 @@ fn cited(line: Line) -> BTreeSet<String> {
 
 // The repository.
 
-fn root() -> PathBuf {
-    Path::new(env!("CARGO_MANIFEST_DIR")).join("..")
-}
-
-fn read(path: impl AsRef<Path>) -> String {
-    let path = root().join(path);
-    fs::read_to_string(&path).unwrap_or_else(|error| panic!("{}: {error}", path.display()))
+fn read(path: &str) -> String {
+    files::text(repository(path))
 }
 
 /// The text of a file, or nothing where there is no file.
 fn read_if_there(path: &str) -> String {
-    fs::read_to_string(root().join(path)).unwrap_or_default()
-}
-
-/// The names of what a folder holds, if there is one.
-fn names(folder: &str) -> BTreeSet<String> {
-    let entries = fs::read_dir(root().join(folder)).into_iter().flatten();
-    entries.map(|entry| entry.unwrap().file_name().into_string().unwrap()).collect()
+    fs::read_to_string(repository(path)).unwrap_or_default()
 }
 
 /// The paths of the files of a kind in a folder and the folders in it.
 fn files(folder: &str, kind: &str) -> Vec<String> {
-    let mut found = Vec::new();
-    for name in names(folder) {
-        let path = format!("{folder}/{name}");
-        if root().join(&path).is_dir() {
-            found.extend(files(&path, kind));
-        } else if name.ends_with(kind) {
-            found.push(path);
-        }
-    }
-    found
+    let found = files::files(repository(folder)).into_iter();
+    found.filter(|path| path.ends_with(kind)).map(|path| format!("{folder}/{path}")).collect()
 }
 
-fn crates() -> BTreeSet<String> {
-    names("crates")
+fn crates() -> Vec<String> {
+    files::names(repository("crates"))
 }
 
 /// The crate that a name starts with, and what stands behind it.
 fn of_crate(name: &str) -> Option<(&str, &str)> {
     let end = name.find(['/', ':'])?;
-    crates().contains(&name[..end]).then_some((&name[..end], &name[end..]))
+    crates().iter().any(|of| of == &name[..end]).then_some((&name[..end], &name[end..]))
 }
 
 fn resolves(line: Line, name: &str) -> bool {
@@ -184,11 +166,12 @@ fn resolves(line: Line, name: &str) -> bool {
             (_, Some(name)) => has_promise(of, name) || line == Said && is_declared(of, name),
             _ => false,
         },
-        (_, None) => !name.is_empty() && root().join(name).exists(),
+        (_, None) => !name.is_empty() && repository(name).exists(),
     }
 }
 
-/// The names with the same end that would resolve: of another crate, file of definitions or of tests.
+/// The names with the same end that would resolve: of another crate, file of definitions or of
+/// tests.
 fn alike(line: Line, name: &str) -> Vec<String> {
     let stem = |path: &str| path.rsplit('/').next().unwrap().split('.').next().unwrap().to_string();
     let end = name.find(['/', ':']).unwrap_or(name.len());
@@ -265,8 +248,8 @@ fn theorems(of: &str) -> BTreeSet<String> {
     proved.map(|(_, statement)| statement.to_string()).collect()
 }
 
-/// A function of a crate's code, a method by `Type::name`: its module, its marks, and its head up to
-/// the body.
+/// A function of a crate's code, a method by `Type::name`: its module, its marks, and its head up
+/// to the body.
 struct Function {
     name: String,
     module: String,
@@ -279,7 +262,7 @@ fn functions(of: &str) -> Vec<Function> {
     let folder = format!("crates/{of}/src");
     for file in files(&folder, ".rt") {
         let module = file[folder.len() + 1..].trim_end_matches(".rt").replace('/', "::");
-        let text = read(file);
+        let text = read(&file);
         let lines: Vec<&str> = text.lines().collect();
         let mut methods_of = None;
         for (i, line) in lines.iter().enumerate() {
@@ -311,8 +294,8 @@ fn has_promise(of: &str, name: &str) -> bool {
     matches!(&named[..], [function] if function.head.contains(" ensures "))
 }
 
-/// The functions that a library opens to other crates or to C: those of its modules that its `lib.rt`
-/// hands on, the open methods of the types that it hands on, and those with a C name.
+/// The functions that a library opens to other crates or to C: those of its modules that its
+/// `lib.rt` hands on, the open methods of the types that it hands on, and those with a C name.
 fn open_functions(of: &str) -> Vec<Function> {
     let text = read_if_there(&format!("crates/{of}/src/lib.rt"));
     let handed = text.lines().filter_map(|line| line.strip_prefix("pub use ")?.strip_suffix(';'));
