@@ -7,40 +7,40 @@ use Rattle.plan.specs.Answers as planAnswers
 use Rattle.plan.specs.declared.showing.Span.{Span}
 use Rattle.fulltext.specs.Positions.{limit}
 use Rattle.search.specs.Answers.{Next, done, more, Page}
-use Rattle.lihambozy.specs.declared.VolumeSizes.{VolumeSizes}
-use Rattle.lihambozy.specs.declared.ListLength.{ListLength}
-use Rattle.lihambozy.specs.declared.VolumeLength.{VolumeLength}
-use Rattle.lihambozy.specs.declared.PlanSizes.{PlanSizes}
-use Rattle.lihambozy.specs.declared.PatternSpan.{PatternSpan}
-use Rattle.lihambozy.specs.declared.Passing.{Passing}
-use Rattle.lihambozy.specs.declared.Listing.{Listing}
+use Rattle.lihambozy.specs.declared.CheckVolumeAnswer.{CheckVolumeAnswer}
+use Rattle.lihambozy.specs.declared.ReadListAnswer.{ReadListAnswer}
+use Rattle.lihambozy.specs.declared.WriteVolumeAnswer.{WriteVolumeAnswer}
+use Rattle.lihambozy.specs.declared.CheckPlanAnswer.{CheckPlanAnswer}
+use Rattle.lihambozy.specs.declared.PatternRowsAnswer.{PatternRowsAnswer}
+use Rattle.lihambozy.specs.declared.TestPositionsAnswer.{TestPositionsAnswer}
+use Rattle.lihambozy.specs.declared.ListAnswer.{ListAnswer}
 
 -- the answer of checking a volume
-abbrev pub flatSizes : Said Sizes → VolumeSizes
+abbrev pub flatSizes : Said Sizes → CheckVolumeAnswer
 flatSizes (refused n p) = record { refusal = n; at = p; lists = 0; postings = 0 }
 flatSizes (answered s) = record { refusal = 0; at = 0; lists = s .lists; postings = s .postings }
 
 -- the answer of reading a list
-abbrev pub flatList : Said ℕ → ListLength
+abbrev pub flatList : Said ℕ → ReadListAnswer
 flatList (refused n p) = record { refusal = n; at = p; count = 0 }
 flatList (answered n) = record { refusal = 0; at = 0; count = n }
 
 -- the answer of writing a volume
-abbrev pub flatVolume : Said ℕ → VolumeLength
+abbrev pub flatVolume : Said ℕ → WriteVolumeAnswer
 flatVolume (refused n p) = record { refusal = n; at = p; blocks = 0 }
 flatVolume (answered n) = record { refusal = 0; at = 0; blocks = n }
 
 -- the answer of checking a plan
-abbrev pub flatPlan : Said planAnswers.Sizes → PlanSizes
+abbrev pub flatPlan : Said planAnswers.Sizes → CheckPlanAnswer
 flatPlan (refused n p) = record { refusal = n; at = p; patterns = 0; vars = 0 }
 flatPlan (answered s) = record { refusal = 0; at = 0; patterns = s .patterns; vars = s .vars }
 
 -- where the rows of a pattern lie
-abbrev pub flatSpan : Span → PatternSpan
+abbrev pub flatSpan : Span → PatternRowsAnswer
 flatSpan s = record { start = s .start; len = s .len }
 
 -- the answer of testing positions
-abbrev pub flatTest : Said Bool → Passing
+abbrev pub flatTest : Said Bool → TestPositionsAnswer
 flatTest (refused n p) = record { refusal = n; at = p; passes = 0 }
 flatTest (answered b) = record { refusal = 0; at = 0; passes = cond b 1 0 }
 
@@ -50,6 +50,6 @@ flatNext done = limit
 flatNext (more s) = s
 
 -- the answer of listing
-abbrev pub flatListing : Said Page → Listing
+abbrev pub flatListing : Said Page → ListAnswer
 flatListing (refused n p) = record { refusal = n; at = p; rows = 0; tally = 0; next = 0 }
 flatListing (answered page) = record { refusal = 0; at = 0; rows = page .rows; tally = page .tally; next = flatNext (page .next) }

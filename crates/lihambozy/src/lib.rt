@@ -24,7 +24,7 @@ use volume::Written;
 
 // What `lhz_check_volume` answers: the number of lists and of postings.
 #[repr(C)]
-pub struct VolumeSizes {
+pub struct CheckVolumeAnswer {
     pub refusal: u32,
     pub at: u32,
     pub lists: u32,
@@ -33,7 +33,7 @@ pub struct VolumeSizes {
 
 // What `lhz_read_list` answers: the number of postings at the front of the buffer.
 #[repr(C)]
-pub struct ListLength {
+pub struct ReadListAnswer {
     pub refusal: u32,
     pub at: u32,
     pub count: u32,
@@ -41,7 +41,7 @@ pub struct ListLength {
 
 // What `lhz_write_volume` answers: the number of blocks at the front of the output.
 #[repr(C)]
-pub struct VolumeLength {
+pub struct WriteVolumeAnswer {
     pub refusal: u32,
     pub at: u32,
     pub blocks: u32,
@@ -50,7 +50,7 @@ pub struct VolumeLength {
 // What `lhz_check_plan` answers: the number of patterns (01: figures) and of their variables
 // (01: voices).
 #[repr(C)]
-pub struct PlanSizes {
+pub struct CheckPlanAnswer {
     pub refusal: u32,
     pub at: u32,
     pub patterns: u32,
@@ -60,14 +60,14 @@ pub struct PlanSizes {
 // What `lhz_pattern_rows` answers: where the rows of a pattern lie, in words of the plan; 0 and 0 on
 // a refusal.
 #[repr(C)]
-pub struct PatternSpan {
+pub struct PatternRowsAnswer {
     pub start: u32,
     pub len: u32,
 }
 
 // What `lhz_test_positions` answers: 1 where the positions match (01: pass), and 0 where they do not.
 #[repr(C)]
-pub struct Passing {
+pub struct TestPositionsAnswer {
     pub refusal: u32,
     pub at: u32,
     pub passes: u32,
@@ -76,7 +76,7 @@ pub struct Passing {
 // What `lhz_list` answers: the number of rows at the front of the buffer, the tally, and the document
 // to go on from (01: MORE); 65,536 where none is left (01: DONE).
 #[repr(C)]
-pub struct Listing {
+pub struct ListAnswer {
     pub refusal: u32,
     pub at: u32,
     pub rows: u32,
@@ -96,12 +96,12 @@ fn flag_of(yes: bool) -> u32
 
 // Checks a volume.
 #[no_mangle]
-pub extern "C" fn lhz_check_volume(volume: &[u8]) -> VolumeSizes
+pub extern "C" fn lhz_check_volume(volume: &[u8]) -> CheckVolumeAnswer
     ensures { λ r. ⌜ r ≡ flatSizes (verdict (now (volume .entry))) ⌝ }
 {
     let checked = volume::check(volume);
     match checked {
-        Checked::Accepted(lists, postings) => VolumeSizes {
+        Checked::Accepted(lists, postings) => CheckVolumeAnswer {
             refusal: 0,
             at: 0,
             lists,
@@ -109,7 +109,7 @@ pub extern "C" fn lhz_check_volume(volume: &[u8]) -> VolumeSizes
         },
         Checked::Refused(why) => {
             let code = volume::code_of(why);
-            VolumeSizes {
+            CheckVolumeAnswer {
                 refusal: code.number,
                 at: code.at,
                 lists: 0,
@@ -121,31 +121,31 @@ pub extern "C" fn lhz_check_volume(volume: &[u8]) -> VolumeSizes
 
 // Copies a list of a volume to the front of out.
 #[no_mangle]
-pub extern "C" fn lhz_read_list(volume: &[u8], list: u32, out: &mut [u32]) -> ListLength
+pub extern "C" fn lhz_read_list(volume: &[u8], list: u32, out: &mut [u32]) -> ReadListAnswer
     ensures { λ r. ⌜ r ≡ flatList (readAnswer (now (volume .entry)) list (length (now (out .entry)))) ⌝ }
     ensures { λ _. ⌜ now (out .exit) ≡ readOut (now (volume .entry)) list (now (out .entry)) ⌝ }
 {
     let read = volume::read_list(volume, list, out);
     match read {
-        ListRead::Read(count) => ListLength {
+        ListRead::Read(count) => ReadListAnswer {
             refusal: 0,
             at: 0,
             count,
         },
         ListRead::Refused(why) => {
             let code = volume::code_of(why);
-            ListLength {
+            ReadListAnswer {
                 refusal: code.number,
                 at: code.at,
                 count: 0,
             }
         }
-        ListRead::NoList => ListLength {
+        ListRead::NoList => ReadListAnswer {
             refusal: 17,
             at: 0,
             count: 0,
         },
-        ListRead::Short => ListLength {
+        ListRead::Short => ReadListAnswer {
             refusal: 16,
             at: 0,
             count: 0,
@@ -155,38 +155,38 @@ pub extern "C" fn lhz_read_list(volume: &[u8], list: u32, out: &mut [u32]) -> Li
 
 // Writes the volume of counts and postings to the front of out.
 #[no_mangle]
-pub extern "C" fn lhz_write_volume(counts: &[u32], postings: &[u32], out: &mut [u8]) -> VolumeLength
+pub extern "C" fn lhz_write_volume(counts: &[u32], postings: &[u32], out: &mut [u8]) -> WriteVolumeAnswer
     ensures { λ r. ⌜ r ≡ flatVolume (writeAnswer (now (counts .entry)) (now (postings .entry)) (length (now (out .entry)))) ⌝ }
     ensures { λ _. ⌜ now (out .exit) ≡ writeOut (now (counts .entry)) (now (postings .entry)) (now (out .entry)) ⌝ }
 {
     let written = volume::write(counts, postings, out);
     match written {
-        Written::Blocks(blocks) => VolumeLength {
+        Written::Blocks(blocks) => WriteVolumeAnswer {
             refusal: 0,
             at: 0,
             blocks,
         },
-        Written::ListCount => VolumeLength {
+        Written::ListCount => WriteVolumeAnswer {
             refusal: 5,
             at: 0,
             blocks: 0,
         },
-        Written::CountSum => VolumeLength {
+        Written::CountSum => WriteVolumeAnswer {
             refusal: 18,
             at: 0,
             blocks: 0,
         },
-        Written::Order(list) => VolumeLength {
+        Written::Order(list) => WriteVolumeAnswer {
             refusal: 7,
             at: list,
             blocks: 0,
         },
-        Written::TooLarge => VolumeLength {
+        Written::TooLarge => WriteVolumeAnswer {
             refusal: 19,
             at: 0,
             blocks: 0,
         },
-        Written::Short => VolumeLength {
+        Written::Short => WriteVolumeAnswer {
             refusal: 20,
             at: 0,
             blocks: 0,
@@ -196,12 +196,12 @@ pub extern "C" fn lhz_write_volume(counts: &[u32], postings: &[u32], out: &mut [
 
 // Checks a plan over a volume.
 #[no_mangle]
-pub extern "C" fn lhz_check_plan(volume: &[u8], plan: &[u32]) -> PlanSizes
+pub extern "C" fn lhz_check_plan(volume: &[u8], plan: &[u32]) -> CheckPlanAnswer
     ensures { λ r. ⌜ r ≡ flatPlan (planCheck.verdict (now (volume .entry)) (now (plan .entry))) ⌝ }
 {
     let checked = plan::check(volume, plan);
     match checked {
-        PlanChecked::Accepted(patterns, vars) => PlanSizes {
+        PlanChecked::Accepted(patterns, vars) => CheckPlanAnswer {
             refusal: 0,
             at: 0,
             patterns,
@@ -209,7 +209,7 @@ pub extern "C" fn lhz_check_plan(volume: &[u8], plan: &[u32]) -> PlanSizes
         },
         PlanChecked::Refused(why) => {
             let code = plan::code_of(why);
-            PlanSizes {
+            CheckPlanAnswer {
                 refusal: code.number,
                 at: code.at,
                 patterns: 0,
@@ -221,13 +221,13 @@ pub extern "C" fn lhz_check_plan(volume: &[u8], plan: &[u32]) -> PlanSizes
 
 // Where the rows of a pattern of a plan over a volume lie.
 #[no_mangle]
-pub extern "C" fn lhz_pattern_rows(volume: &[u8], plan: &[u32], pattern: u32) -> PatternSpan
+pub extern "C" fn lhz_pattern_rows(volume: &[u8], plan: &[u32], pattern: u32) -> PatternRowsAnswer
     ensures { λ r. ⌜ r ≡ flatSpan (spanOf (now (volume .entry)) (now (plan .entry)) pattern) ⌝ }
 {
     let span = plan::pattern_span(volume, plan, pattern);
     let start = span.start as u32;
     let len = span.len as u32;
-    PatternSpan { start, len }
+    PatternRowsAnswer { start, len }
 }
 
 // Whether positions match a pattern of a plan in a document.
@@ -238,25 +238,25 @@ pub extern "C" fn lhz_test_positions(
     pattern: u32,
     doc: u32,
     positions: &[u32],
-) -> Passing
+) -> TestPositionsAnswer
     ensures { λ r. ⌜ r ≡ flatTest (testAnswer (now (volume .entry)) (now (plan .entry)) pattern doc (now (positions .entry))) ⌝ }
 {
     let tested = search::test(volume, plan, pattern, doc, positions);
     match tested {
-        Tested::Answer(yes) => Passing {
+        Tested::Answer(yes) => TestPositionsAnswer {
             refusal: 0,
             at: 0,
             passes: flag_of(yes),
         },
         Tested::Refused(why) => {
             let code = plan::code_of(why);
-            Passing {
+            TestPositionsAnswer {
                 refusal: code.number,
                 at: code.at,
                 passes: 0,
             }
         }
-        Tested::OutOfRange => Passing {
+        Tested::OutOfRange => TestPositionsAnswer {
             refusal: 17,
             at: 0,
             passes: 0,
@@ -266,19 +266,19 @@ pub extern "C" fn lhz_test_positions(
 
 // Writes the rows of the true documents from document `start` on to the front of out, as many as fit.
 #[no_mangle]
-pub extern "C" fn lhz_list(volume: &[u8], plan: &[u32], start: u32, out: &mut [u32]) -> Listing
+pub extern "C" fn lhz_list(volume: &[u8], plan: &[u32], start: u32, out: &mut [u32]) -> ListAnswer
     ensures { λ r. ⌜ Kept (now (volume .entry)) (now (plan .entry)) start (now (out .entry)) r (now (out .exit)) ⌝ }
 {
     let listed = search::list(volume, plan, start, out);
     match listed {
-        Listed::Done(rows, tally) => Listing {
+        Listed::Done(rows, tally) => ListAnswer {
             refusal: 0,
             at: 0,
             rows,
             tally,
             next: Posting::DOCS,
         },
-        Listed::More(next, rows, tally) => Listing {
+        Listed::More(next, rows, tally) => ListAnswer {
             refusal: 0,
             at: 0,
             rows,
@@ -287,7 +287,7 @@ pub extern "C" fn lhz_list(volume: &[u8], plan: &[u32], start: u32, out: &mut [u
         },
         Listed::Refused(why) => {
             let code = plan::code_of(why);
-            Listing {
+            ListAnswer {
                 refusal: code.number,
                 at: code.at,
                 rows: 0,
@@ -295,14 +295,14 @@ pub extern "C" fn lhz_list(volume: &[u8], plan: &[u32], start: u32, out: &mut [u
                 next: 0,
             }
         }
-        Listed::Start => Listing {
+        Listed::Start => ListAnswer {
             refusal: 15,
             at: 0,
             rows: 0,
             tally: 0,
             next: 0,
         },
-        Listed::Short => Listing {
+        Listed::Short => ListAnswer {
             refusal: 16,
             at: 0,
             rows: 0,

@@ -18,11 +18,11 @@ use Rattle.search.specs.Listing.{listAnswer}
 use Rattle.search.proofs.Laws.Stages.{list-number}
 use Rattle.search.proofs.Laws.ListFirst.{list-sound}
 use Rattle.search.proofs.Laws.Calls.{more-later}
-use Rattle.lihambozy.specs.declared.Listing.{Listing}
+use Rattle.lihambozy.specs.declared.ListAnswer.{ListAnswer}
 use Rattle.lihambozy.specs.Flat.{flatListing}
 use Rattle.lihambozy.specs.Search.{heard}
 
-module _ (a : Listing) where
+module _ (a : ListAnswer) where
   pub heard-refused : a .refusal ≢ 0 → heard a ≡ refused (a .refusal) (a .at)
   heard-refused h = rw (ne-eqb (a .refusal) 0 h)
 

@@ -4,7 +4,7 @@ use Prim.Native.Nat.{ℕ}
 use mathlib.Core.Path.{sym, ap, ap₂, _∙_}
 use Rattle.plan.specs.Answers.{saidChecked}
 use Rattle.lihambozy.specs.Flat.{flatPlan}
-use Rattle.lihambozy.specs.declared.PlanSizes.{PlanSizes}
+use Rattle.lihambozy.specs.declared.CheckPlanAnswer.{CheckPlanAnswer}
 use Rattle.lihambozy.proofs.lhz_check_plan.Statement.{statement}
 use Rattle.lihambozy.proofs.lhz_check_plan.Tie as tie
 
@@ -25,7 +25,7 @@ returns c = ap flatPlan (sym (ap saidChecked (c .before .checked .given .1)) ∙
 
 returns-2 : tie.Need-returns-2
 returns-2 c =
-    let refused-as : ℕ → ℕ → PlanSizes = λ n p. record { refusal = n; at = p; patterns = 0; vars = 0 } in
+    let refused-as : ℕ → ℕ → CheckPlanAnswer = λ n p. record { refusal = n; at = p; patterns = 0; vars = 0 } in
     ap₂ refused-as (c .code-of .ensures .0) (c .code-of .ensures .1)
     ∙ ap flatPlan (sym (ap saidChecked (c .before .before .checked2 .given .1)) ∙ c .before .before .before .before .check .ensures)
 

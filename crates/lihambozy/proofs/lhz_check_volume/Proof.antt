@@ -4,7 +4,7 @@ use Prim.Native.Nat.{ℕ}
 use mathlib.Core.Path.{sym, ap, ap₂, _∙_}
 use Rattle.volume.specs.Answers.{saidChecked}
 use Rattle.lihambozy.specs.Flat.{flatSizes}
-use Rattle.lihambozy.specs.declared.VolumeSizes.{VolumeSizes}
+use Rattle.lihambozy.specs.declared.CheckVolumeAnswer.{CheckVolumeAnswer}
 use Rattle.lihambozy.proofs.lhz_check_volume.Statement.{statement}
 use Rattle.lihambozy.proofs.lhz_check_volume.Tie as tie
 
@@ -25,7 +25,7 @@ returns c = ap flatSizes (sym (ap saidChecked (c .before .checked .given .1)) �
 
 returns-2 : tie.Need-returns-2
 returns-2 c =
-    let refused-as : ℕ → ℕ → VolumeSizes = λ n p. record { refusal = n; at = p; lists = 0; postings = 0 } in
+    let refused-as : ℕ → ℕ → CheckVolumeAnswer = λ n p. record { refusal = n; at = p; lists = 0; postings = 0 } in
     ap₂ refused-as (c .code-of .ensures .0) (c .code-of .ensures .1)
     ∙ ap flatSizes (sym (ap saidChecked (c .before .before .checked2 .given .1)) ∙ c .before .before .before .before .check .ensures)
 

@@ -6,7 +6,7 @@ use Prim.Native.Nat.{ℕ}
 use mathlib.Core.Path.{sym, ap, ap₂, _∙_}
 use Rattle.search.specs.Answers.{saidListed}
 use Rattle.lihambozy.specs.Flat.{flatListing}
-use Rattle.lihambozy.specs.declared.Listing.{Listing}
+use Rattle.lihambozy.specs.declared.ListAnswer.{ListAnswer}
 
 list-requires : tie.Need-list-requires
 list-requires c κs = search needs
@@ -46,7 +46,7 @@ same-length-3 c = search needs
 
 returns-3 : tie.Need-returns-3
 returns-3 c = let e = c .before .before .before .before .before .before .list .ensures in
-    let refused-as : ℕ → ℕ → Listing = λ n p. record { refusal = n; at = p; rows = 0; tally = 0; next = 0 } in
+    let refused-as : ℕ → ℕ → ListAnswer = λ n p. record { refusal = n; at = p; rows = 0; tally = 0; next = 0 } in
     (ap₂ refused-as (c .code-of .ensures .0) (c .code-of .ensures .1) ∙ ap flatListing (sym (ap saidListed (c .before .before .listed3 .given .1)) ∙ e .0), e .1)
 
 same-length-4 : tie.Need-same-length-4

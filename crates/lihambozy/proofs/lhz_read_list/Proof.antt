@@ -4,7 +4,7 @@ use Prim.Native.Nat.{ℕ}
 use mathlib.Core.Path.{sym, ap, ap₂, _∙_}
 use Rattle.volume.specs.Answers.{saidRead}
 use Rattle.lihambozy.specs.Flat.{flatList}
-use Rattle.lihambozy.specs.declared.ListLength.{ListLength}
+use Rattle.lihambozy.specs.declared.ReadListAnswer.{ReadListAnswer}
 use Rattle.lihambozy.proofs.lhz_read_list.Statement.{statement}
 use Rattle.lihambozy.proofs.lhz_read_list.Tie as tie
 
@@ -40,7 +40,7 @@ same-length-2 c = search needs
 returns-2 : tie.Need-returns-2
 returns-2 c =
     let e = c .before .before .before .before .before .before .read-list .ensures in
-    let refused-as : ℕ → ℕ → ListLength = λ n p. record { refusal = n; at = p; count = 0 } in
+    let refused-as : ℕ → ℕ → ReadListAnswer = λ n p. record { refusal = n; at = p; count = 0 } in
     (ap₂ refused-as (c .code-of .ensures .0) (c .code-of .ensures .1) ∙ ap flatList (sym (ap saidRead (c .before .before .read2 .given .1)) ∙ e .0), e .1)
 
 same-length-3 : tie.Need-same-length-3

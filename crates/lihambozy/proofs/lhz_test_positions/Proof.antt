@@ -6,7 +6,7 @@ use Prim.Native.Nat.{ℕ}
 use mathlib.Core.Path.{sym, ap, ap₂, _∙_}
 use Rattle.matcher.specs.Answers.{saidTested}
 use Rattle.lihambozy.specs.Flat.{flatTest}
-use Rattle.lihambozy.specs.declared.Passing.{Passing}
+use Rattle.lihambozy.specs.declared.TestPositionsAnswer.{TestPositionsAnswer}
 
 test-requires : tie.Need-test-requires
 test-requires c κs = search needs
@@ -27,11 +27,11 @@ enum-told : tie.Need-enum-told
 enum-told c = search needs
 
 returns : tie.Need-returns
-returns c = let yes-as : ℕ → Passing = λ n. record { refusal = 0; at = 0; passes = n } in
+returns c = let yes-as : ℕ → TestPositionsAnswer = λ n. record { refusal = 0; at = 0; passes = n } in
     ap yes-as (c .flag-of .ensures) ∙ ap flatTest (sym (ap saidTested (c .before .before .tested .given .1)) ∙ c .before .before .before .before .test .ensures)
 
 returns-2 : tie.Need-returns-2
-returns-2 c = let refused-as : ℕ → ℕ → Passing = λ n p. record { refusal = n; at = p; passes = 0 } in
+returns-2 c = let refused-as : ℕ → ℕ → TestPositionsAnswer = λ n p. record { refusal = n; at = p; passes = 0 } in
     ap₂ refused-as (c .code-of .ensures .0) (c .code-of .ensures .1) ∙ ap flatTest (sym (ap saidTested (c .before .before .tested2 .given .1)) ∙ c .before .before .before .before .test .ensures)
 
 returns-3 : tie.Need-returns-3
