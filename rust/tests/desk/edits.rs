@@ -49,7 +49,7 @@ fn every_edit_can_be_made() {
     let (mut hindered, mut count) = (vec![], 0);
     for of in names(&crates) {
         let folder = crates.join(&of);
-        let [gate, beside] = ["must-fail", "mutants"].map(|kind| names(&folder.join(kind)));
+        let [gate, beside] = ["must-fail", "mutants"].map(|kind| names(folder.join(kind)));
         for (kind, edits) in [("must-fail", &gate), ("mutants", &beside)] {
             for name in edits {
                 let why = match name.ends_with(".edit") {

@@ -92,7 +92,7 @@ fn is_id(word: &str) -> bool {
 
 /// What stands between backquotes.
 fn quoted(text: &str) -> impl Iterator<Item = &str> {
-    assert!(text.matches('`').count() % 2 == 0, "a backquote is left open: {text}");
+    assert!(text.matches('`').count().is_multiple_of(2), "a backquote is left open: {text}");
     text.split('`').skip(1).step_by(2)
 }
 

@@ -4,9 +4,10 @@
 use super::plans::Row;
 use crate::plain::search::Searcher;
 use std::ffi::OsString;
+use std::fs::{self, DirEntry};
 use std::path::{Path, PathBuf};
 use std::sync::atomic::{AtomicU32, Ordering};
-use std::{fs, process};
+use std::{io, process};
 
 /// A path in the repository.
 pub fn repository(path: impl AsRef<Path>) -> PathBuf {
@@ -15,12 +16,11 @@ pub fn repository(path: impl AsRef<Path>) -> PathBuf {
 
 /// The names of what a folder holds, in order; none where there is no folder.
 pub fn names(folder: impl AsRef<Path>) -> Vec<String> {
-    let names = names_of_any_bytes(folder.as_ref()).into_iter();
-    names.map(|name| name.into_string().unwrap()).collect()
+    let names = in_order(fs::read_dir(folder).into_iter().flatten());
+    names.into_iter().map(|name| name.into_string().unwrap()).collect()
 }
 
-fn names_of_any_bytes(folder: &Path) -> Vec<OsString> {
-    let entries = fs::read_dir(folder).into_iter().flatten();
+fn in_order(entries: impl Iterator<Item = io::Result<DirEntry>>) -> Vec<OsString> {
     let mut names: Vec<OsString> = entries.map(|entry| entry.unwrap().file_name()).collect();
     names.sort();
     names
@@ -93,7 +93,7 @@ impl Folder {
 
     /// The names of all that stands in the folder, in order.
     pub fn names(&self) -> Vec<OsString> {
-        names_of_any_bytes(&self.0)
+        in_order(fs::read_dir(&self.0).unwrap())
     }
 }
 
