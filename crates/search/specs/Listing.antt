@@ -3,7 +3,7 @@ use Prim.Native.Nat.{ℕ, _/_}
 use mathlib.Core.Bool.{cond}
 use mathlib.Core.List.{List}
 use mathlib.Core.Option.{Option, none, some}
-use lib.ListN.{length, take}
+use lib.ListN.{length}
 use lib.Dec.{ltb}
 use Rattle.seq.specs.Refusals.{Said, refused, answered, laid}
 use Rattle.plan.specs.Answers.{Sizes}
@@ -23,17 +23,21 @@ tallyBy w start none = w .postings start limit
 tallyBy w start (some s) = w .postings start s
 
 abbrev pub pageBy : Work → ℕ → Portion ℕ → Page
-pageBy w start p = record { rows = p .written; tally = tallyBy w start (p .left); next = nextBy (p .left) }
+pageBy w start p = record { rows = length (p .written); tally = tallyBy w start (p .left); next = nextBy (p .left) }
 
--- what is answered from document `start` on where m rows fit: of the true documents that remain, those that fit are written
+-- from document `start` on where m rows fit: of the true documents that remain, those that fit are written
+abbrev pub portionFrom : Work → ℕ → ℕ → Portion ℕ
+portionFrom w start m = portion m (docsIn w start limit)
+
+-- what is answered
 unfoldable pub pageOf : Work → ℕ → ℕ → Page
 unfolding docsIn
-pageOf w start m = pageBy w start (portion m (docsIn w start limit))
+pageOf w start m = pageBy w start (portionFrom w start m)
 
 -- the words that are written
 unfoldable pub rowsFrom : Work → ℕ → ℕ → List ℕ
 unfolding docsIn rowsOfDocs
-rowsFrom w start m = rowsOfDocs w (take m (docsIn w start limit))
+rowsFrom w start m = rowsOfDocs w (portionFrom w start m .written)
 
 -- 1 to 14 of the volume and the plan; 15: the start is over 65,535; 16: the buffer is shorter than a row; or the page
 abbrev pub listBy : Said Sizes → Work → ℕ → ℕ → Said Page

@@ -12,6 +12,7 @@
 --     Refusals   a ladder of tests answers the first refusal that applies
 --     Ladder     the rungs of such a ladder, stage by stage
 --     Stages     a call over another: its refusals come behind
+--     Pages      what is written of a list
 pub mod Tests
 pub mod Decides
 pub mod Lists
@@ -25,3 +26,4 @@ pub mod Stores
 pub mod Refusals
 pub mod Ladder
 pub mod Stages
+pub mod Pages

@@ -2,14 +2,14 @@
 use Prim.Native.Nat.{ℕ}
 use mathlib.Core.List.{List}
 use mathlib.Core.Option.{Option}
-use lib.ListN.{length, take, drop}
+use lib.ListN.{take, drop}
 use Rattle.seq.specs.Lists.{first}
 
--- how many are written, and the first one left
+-- those that are written, and the first one left
 pub record Portion (A : Type 0) : Type 0 where
-  pub written : ℕ
+  pub written : List A
   pub left : Option A
 
 -- of a list of which m fit
 abbrev pub portion : {A : Type 0} → ℕ → List A → Portion A
-portion m xs = record { written = length (take m xs); left = first (drop m xs) }
+portion m xs = record { written = take m xs; left = first (drop m xs) }

@@ -12,7 +12,7 @@ use mathlib.Core.Bool.{true}
 use mathlib.Core.Logic.{⊎-elim}
 use mathlib.Core.List.{List, _++_}
 use lib.ListN.{length, getD, take, drop}
-use lib.Seq.{take-at, length-take-le}
+use lib.Seq.{take-at}
 use Rattle.seq.specs.Refusals.{Said, refused, answered}
 use Rattle.seq.proofs.Laws.Tests.{below-or}
 use Rattle.seq.proofs.Laws.Refusals.{not-both}
@@ -67,9 +67,11 @@ went v p ok s c h k =
         let a = accepted-answer v p s (c .lent) (plan.sizes p) ok (omega arith) l in
         ⊎-elim
         (λ (x : m < length (docsIn w s limit)).
+        let t = getD (docsIn w s limit) m 0 in
         let i = docs-at w s limit m (omega arith) x in
-        part (getD (docsIn w s limit) m 0) l x refl i (k .0 ∙ a .0 ∙ ap answered (page-more w s m x (getD (docsIn w s limit) m 0) refl))
-        (front (docsIn w s (getD (docsIn w s limit) m 0)) m (rows-more w s m x (getD (docsIn w s limit) m 0) refl i) (ap length (i .front) ∙ length-take-le m (docsIn w s limit) (omega arith)) (a .1)))
+        let f = at-front w s limit m t x i in
+        part t l x refl i (k .0 ∙ a .0 ∙ ap answered (page-more w s m t (i .from) (i .below) (i .is-true) f))
+        (front (docsIn w s t) m (rows-more w s m t (i .from) (i .below) (i .is-true) f) f (a .1)))
         (λ (x : length (docsIn w s limit) ≤ m).
         whole l x (k .0 ∙ a .0 ∙ ap answered (page-done w s m x)) (front (docsIn w s limit) (length (docsIn w s limit)) (rows-done w s m x) refl (a .1)))
         (below-or m (length (docsIn w s limit)))
@@ -177,7 +179,7 @@ module _ (v p : List ℕ) (start : ℕ) (out : List ℕ) (n tally : ℕ) where
             full = n-is;
             rows = n-is ∙ sym front;
             postings = ap (λ (a : Page). a .tally) same;
-            laid = laid-by (more t) e (docsIn (work v p) start u) (rows-more (work v p) start (length out / work v p .width) x u q i) (n-is ∙ sym front);
+            laid = laid-by (more t) e (docsIn (work v p) start u) (rows-more (work v p) start (length out / work v p .width) u (i .from) (i .below) (i .is-true) front) (n-is ∙ sym front);
           } in
           subst (λ (k : ℕ). Later (work v p) start out (listOut v p start out) n tally k) (sym (same-more t u (ap (λ (a : Page). a .next) same))) here
 

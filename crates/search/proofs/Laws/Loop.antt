@@ -13,17 +13,14 @@ use native.Mathlib.Omega.{arith}
 use mathlib.Core.Path.{_≡_, sym, ap, ap₂, _∙_}
 use mathlib.Core.Bool.{true, false}
 use mathlib.Core.List.{List, [], _∷_, _++_, append-nil}
-use mathlib.Core.Option.{some}
 use lib.ListN.{length, take, drop, length-append, length-drop}
-use lib.Seq.{take-at, drop-at}
-use Rattle.seq.specs.Lists.{first}
 use Rattle.seq.proofs.Laws.Stores.{put-over}
 use Rattle.fulltext.specs.Positions.{limit}
 use Rattle.fulltext.specs.Documents.{Work, docsIn, rowsOfDocs}
 use Rattle.search.specs.Answers.{done, more}
 use Rattle.search.specs.Listing.{pageOf, rowsFrom}
-use Rattle.search.proofs.Laws.Pages.{page-by, rows-written, page-done, rows-done}
-use Rattle.fulltext.proofs.Laws.Docs.{docs-parts, docs-none, docs-here, docs-empty, docs-end, rows-none, rows-one, rows-append, length-rows}
+use Rattle.search.proofs.Laws.Pages.{page-done, rows-done, page-more, rows-more}
+use Rattle.fulltext.proofs.Laws.Docs.{docs-parts, docs-none, docs-empty, docs-end, rows-none, rows-one, rows-append, length-rows}
 
 -- the documents from `start` up to d are listed: n rows stand at the front of the buffer, and behind them the words that were lent
 pub record Progress (w : Work) (start : ℕ) (out₀ : List ℕ) (d n : ℕ) (out : List ℕ) : Type 0 where
@@ -102,18 +99,9 @@ module _ (w : Work) (even : (d : ℕ) → length (w .rowOf d) ≡ w .width) {sta
   pub stops : d < limit → w .isTrue d ≡ true → n ≡ length out₀ / w .width
       → (pageOf w start (length out₀ / w .width) ≡ record { rows = n; tally = w .postings start d; next = more d })
       × (out ≡ rowsFrom w start (length out₀ / w .width) ++ drop (length (rowsFrom w start (length out₀ / w .width))) out₀)
-  stops l e r = rw (← r) (page, laid-from n written)
-    where
-      all-docs : docsIn w start limit ≡ docsIn w start d ++ (d ∷ docsIn w (d + 1) limit)
-      all-docs = docs-parts w start d limit (h .from) (h .to) ∙ ap (λ (ds : List ℕ). docsIn w start d ++ ds) (docs-here w d limit l e)
-
-      page : pageOf w start n ≡ record { rows = n; tally = w .postings start d; next = more d }
-      page = page-by w start n n (some d)
-          (ap length (ap (take n) all-docs ∙ take-at (docsIn w start d) (d ∷ docsIn w (d + 1) limit) n (sym (h .rows))) ∙ sym (h .rows))
-          (ap (λ (ds : List ℕ). first (drop n ds)) all-docs ∙ ap first (drop-at (docsIn w start d) (d ∷ docsIn w (d + 1) limit) n (sym (h .rows))))
-
-      written : rowsFrom w start n ≡ rowsOfDocs w (docsIn w start d)
-      written = rows-written w start n (docsIn w start d) (ap (take n) all-docs ∙ take-at (docsIn w start d) (d ∷ docsIn w (d + 1) limit) n (sym (h .rows)))
+  stops l e r =
+      let front = sym (h .rows) in
+      rw (← r) (page-more w start n d (h .from) l e front, laid-from n (rows-more w start n d (h .from) l e front))
 
 -- DONE: every document is reached
 pub ends : (w : Work) → ((d : ℕ) → length (w .rowOf d) ≡ w .width) → 1 ≤ w .width → {start : ℕ} {out₀ : List ℕ} {n : ℕ} {out : List ℕ} → Progress w start out₀ limit n out

@@ -1,43 +1,51 @@
 -- What a page says and which rows it has, by the number of rows that fit. No contract cites this file.
---     page-by, rows-written       by the number of those that fit and the first behind them; by those that fit
---     page-done, rows-done        no more true documents remain than fit
---     page-more, rows-more        more remain
+--     page-by, rows-by          by the portion of the true documents that fits
+--     page-done, rows-done      no more true documents remain than fit
+--     page-more, rows-more      more remain
 -- Assumes nothing.
-use Prim.Native.Nat.{ℕ, _<_, _≤_}
+use Prim.Native.Nat.{ℕ, _+_, _<_, _≤_}
 use native.Mathlib.Omega.{arith}
-use mathlib.Core.Path.{_≡_, sym, ap, ap₂, _∙_}
-use mathlib.Core.List.{List}
-use mathlib.Core.Option.{Option, none, some}
-use lib.ListN.{length, getD, take, drop, drop-of-length-le}
-use lib.Seq.{take-all, length-take-le, drop-cons}
-use Rattle.seq.specs.Lists.{first}
+use mathlib.Core.Path.{_≡_, ap, _∙_}
+use mathlib.Core.Bool.{true}
+use mathlib.Core.List.{List, _++_}
+use mathlib.Core.Option.{none, some}
+use lib.ListN.{length}
+use Rattle.seq.specs.Pages.{Portion, portion}
+use Rattle.seq.proofs.Laws.Pages.{portion-all, portion-part}
 use Rattle.fulltext.specs.Positions.{limit}
 use Rattle.fulltext.specs.Documents.{Work, docsIn, rowsOfDocs}
 use Rattle.search.specs.Answers.{done, more}
-use Rattle.search.specs.Listing.{pageBy, pageOf, rowsFrom}
-use Rattle.fulltext.proofs.Laws.Docs.{IsAt}
+use Rattle.search.specs.Listing.{pageBy, portionFrom, pageOf, rowsFrom}
+use Rattle.fulltext.proofs.Laws.Docs.{docs-parts, docs-here}
 
 module _ (w : Work) (start m : ℕ) where
-  pub page-by : (n : ℕ) (next : Option ℕ) → length (take m (docsIn w start limit)) ≡ n → first (drop m (docsIn w start limit)) ≡ next → pageOf w start m ≡ pageBy w start (record { written = n; left = next })
+  page-by : (p : Portion ℕ) → portionFrom w start m ≡ p → pageOf w start m ≡ pageBy w start p
   unfolding pageOf
-  page-by n next e f = ap₂ (λ (k : ℕ) (o : Option ℕ). pageBy w start (record { written = k; left = o })) e f
+  page-by p e = ap (pageBy w start) e
 
-  pub rows-written : (ds : List ℕ) → take m (docsIn w start limit) ≡ ds → rowsFrom w start m ≡ rowsOfDocs w ds
+  rows-by : (p : Portion ℕ) → portionFrom w start m ≡ p → rowsFrom w start m ≡ rowsOfDocs w (p .written)
   unfolding rowsFrom
-  rows-written ds e = ap (rowsOfDocs w) e
+  rows-by p e = ap (λ (q : Portion ℕ). rowsOfDocs w (q .written)) e
 
   -- no more true documents remain than fit
   module _ (h : length (docsIn w start limit) ≤ m) where
     pub page-done : pageOf w start m ≡ record { rows = length (docsIn w start limit); tally = w .postings start limit; next = done }
-    page-done = page-by (length (docsIn w start limit)) none (ap length (take-all m (docsIn w start limit) h)) (ap first (drop-of-length-le (docsIn w start limit) h))
+    page-done = page-by (record { written = docsIn w start limit; left = none }) (portion-all m (docsIn w start limit) h)
 
     pub rows-done : rowsFrom w start m ≡ rowsOfDocs w (docsIn w start limit)
-    rows-done = rows-written (docsIn w start limit) (take-all m (docsIn w start limit) h)
+    rows-done = rows-by (record { written = docsIn w start limit; left = none }) (portion-all m (docsIn w start limit) h)
 
   -- document t is the first behind those that fit
-  module _ (h : m < length (docsIn w start limit)) (t : ℕ) (e : getD (docsIn w start limit) m 0 ≡ t) where
-    pub page-more : pageOf w start m ≡ record { rows = m; tally = w .postings start t; next = more t }
-    page-more = page-by m (some t) (length-take-le m (docsIn w start limit) (let l = h in omega arith)) (ap first (drop-cons (docsIn w start limit) m 0 h) ∙ ap some e)
+  module _ (t : ℕ) (from : start ≤ t) (below : t < limit) (is-true : w .isTrue t ≡ true) (front : length (docsIn w start t) ≡ m) where
+    part : portionFrom w start m ≡ record { written = docsIn w start t; left = some t }
+    part =
+        ap (portion m) (docs-parts w start t limit from (omega arith) ∙ ap (λ (ds : List ℕ). docsIn w start t ++ ds) (docs-here w t limit below is-true))
+        ∙ portion-part m (docsIn w start t) (docsIn w (t + 1) limit) t front
 
-    pub rows-more : IsAt w start limit m t → rowsFrom w start m ≡ rowsOfDocs w (docsIn w start t)
-    rows-more i = rows-written (docsIn w start t) (sym (i .front))
+    pub page-more : pageOf w start m ≡ record { rows = m; tally = w .postings start t; next = more t }
+    page-more =
+        page-by (record { written = docsIn w start t; left = some t }) part
+        ∙ ap (λ (n : ℕ). record { rows = n; tally = w .postings start t; next = more t }) front
+
+    pub rows-more : rowsFrom w start m ≡ rowsOfDocs w (docsIn w start t)
+    rows-more = rows-by (record { written = docsIn w start t; left = some t }) part
