@@ -25,16 +25,17 @@ unfoldable pub TestRefuses : Type 0
 TestRefuses = (v p : List ℕ) (k d : ℕ) (ps : List ℕ)
     → FirstRefusal (stageIn testStages) (TestApplies v p k d ps) (matchesAt (listsOf v) d (patternAt p k) ps) (testAnswer v p k d ps)
 
--- Demand 2, testing: over an accepted volume and plan, for a pattern that is there and a document, the call says yes exactly if there is
--- a position for each variable and the pattern's formula is true of them
+-- pattern k is true of positions in document d: the pattern and the document are there, each variable has a position, and the pattern's
+-- formula is true of them
+pub record IsTrue (v p : List ℕ) (k d : ℕ) (ps : List ℕ) : Type 0 where
+  pub pattern : k < sizes p .patterns
+  pub document : d < limit
+  pub number : length ps ≡ length (patternAt p k .vars)
+  pub formula : True (listsOf v) d (openFormula (patternAt p k)) ps
+
+-- Demand 2, testing: over an accepted volume and plan, the call says yes exactly if the pattern is true of the positions
 unfoldable pub Demand2 : Type 0
-Demand2 = (v p : List ℕ)
-    → Accepted v p
-    → (k d : ℕ) (ps : List ℕ)
-    → k < sizes p .patterns
-    → d < limit
-    → (testAnswer v p k d ps ≡ answered true)
-    ↔ ((length ps ≡ length (patternAt p k .vars)) × True (listsOf v) d (openFormula (patternAt p k)) ps)
+Demand2 = (v p : List ℕ) → Accepted v p → (k d : ℕ) (ps : List ℕ) → (testAnswer v p k d ps ≡ answered true) ↔ IsTrue v p k d ps
 
 -- no two answers have document 01's number and values in common
 unfoldable pub OneToOne : Type 0

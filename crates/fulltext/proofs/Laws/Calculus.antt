@@ -30,7 +30,7 @@ use Rattle.plan.specs.declared.row.Kind.{Kind}
 use Rattle.plan.specs.declared.row.Kind.the-variants as kind
 use Rattle.plan.specs.declared.row.Row.{Row}
 use Rattle.plan.specs.Rows.{rowsOf}
-use Rattle.plan.specs.Patterns.{Pattern, noRow, openAfter, closed, patternsFrom, two, operate, answersAfter, answersFrom}
+use Rattle.plan.specs.Patterns.{Pattern, noRow, openAfter, closed, patternsFrom, patternsOf, two, operate, answersAfter, answersFrom}
 use Rattle.plan.specs.Check as plan
 use Rattle.plan.specs.Accepted.{patternAt}
 use Rattle.plan.proofs.Laws.Accepted.{given}
@@ -201,13 +201,17 @@ module _ (lists : List (List ℕ)) (d : ℕ) where
 pub agrees : (v p : List ℕ) → plan.Accepted v p → Agrees v p
 unfolding plan.sizes
 agrees v p ok = record {
-  tuples = λ k d ps h. tuple-iff (listsOf v) d (patternAt p k) (some k h) ps;
+  tuples = λ k d ps. tuple-iff (listsOf v) d (patternAt p k) (some k) ps;
   patterns = pattern;
-  documents = λ d. let w = plan-decides (listsOf v) d (rowsOf p) (λ k h. iff-decides (pattern k d h)) (given v p ok .one-answer (found (listsOf v) d)) in (w .yes, decides.holds w);
+  documents = λ d. let w = plan-decides (listsOf v) d (rowsOf p) (λ k h. iff-decides (pattern k d)) (given v p ok .one-answer (found (listsOf v) d)) in (w .yes, decides.holds w);
 }
   where
-    some : (k : ℕ) → k < plan.sizes p .patterns → Each (λ l. 1 ≤ l) 0 (patternAt p k .vars)
-    some k h i l = given v p ok .well-made k h .lists i l .0
+    -- a pattern that is not there has no variables
+    some : (k : ℕ) → Each (λ l. 1 ≤ l) 0 (patternAt p k .vars)
+    some k i l =
+        ⊎-elim (λ h. given v p ok .well-made k h .lists i l .0)
+        (λ h. let z : i < 0 = rw (List·getD-eq-default (patternsOf (rowsOf p)) noRow h) at l in absurd (omega arith))
+        (below-or k (plan.sizes p .patterns))
 
-    pattern : (k d : ℕ) → k < plan.sizes p .patterns → (found (listsOf v) d (patternAt p k) ≡ true) ↔ True (listsOf v) d (patternFormula (patternAt p k)) []
-    pattern k d h = pattern-iff (listsOf v) d (lists-rise v (given v p ok .volume-accepted)) (patternAt p k) (some k h)
+    pattern : (k d : ℕ) → (found (listsOf v) d (patternAt p k) ≡ true) ↔ True (listsOf v) d (patternFormula (patternAt p k)) []
+    pattern k d = pattern-iff (listsOf v) d (lists-rise v (given v p ok .volume-accepted)) (patternAt p k) (some k)
