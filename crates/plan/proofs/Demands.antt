@@ -1,11 +1,10 @@
 -- Each statement of `specs/Demands.antt`, proved. Assumes nothing.
-use Rattle.plan.specs.Demands.{CheckRefuses, PartRefuses, ReadsRows, Gives, Parts, OneToOne, Sample}
+use Rattle.plan.specs.Demands.{CheckRefuses, PartRefuses, ReadsRows, Gives, Parts, OneToOne}
 use Rattle.plan.proofs.Laws.CheckFirst.{check-first}
 use Rattle.plan.proofs.Laws.ShownFirst as shown
 use Rattle.plan.proofs.Laws.Rows.{reads-row}
 use Rattle.plan.proofs.Laws.Accepted.{given}
 use Rattle.plan.proofs.Laws.Answers as answers
-use Rattle.plan.proofs.Laws.Sample as computed
 
 pub check-refuses : CheckRefuses
 unfolding CheckRefuses
@@ -29,6 +28,3 @@ parts = shown.parted
 
 pub one-to-one : OneToOne
 one-to-one = answers.one-to-one
-
-pub sample : Sample
-sample = computed.sample

@@ -14,7 +14,7 @@
 --     Accepted             what acceptance gives
 --     Outline              the rows and the variables of each pattern
 --     Stack                the answers as bits, row by row
---     Answers, Sample      an answer is known from its number and values; document 01's sample plan
+--     Answers              an answer is known from its number and values
 pub mod Kinds
 pub mod Rows
 pub mod State
@@ -34,4 +34,3 @@ pub mod Accepted
 pub mod Outline
 pub mod Stack
 pub mod Answers
-pub mod Sample

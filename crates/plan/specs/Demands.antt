@@ -4,7 +4,6 @@
 --     Gives                         what acceptance gives
 --     Parts                         the rows of a pattern are those it was read from; with the operators between them they are the plan
 --     OneToOne                      no two answers are told alike
---     Sample                        document 01's sample plan
 use Prim.Native.Nat.{ℕ, _<_, _≤_}
 use mathlib.Core.Path.{_≡_}
 use mathlib.Core.Bool.{true, false}
@@ -12,15 +11,11 @@ use mathlib.Core.Logic.{_↔_}
 use mathlib.Core.List.{List, [], _∷_, _++_}
 use Rattle.seq.specs.Lists.{all, joined}
 use Rattle.seq.specs.Numbers.{run}
-use Rattle.seq.specs.Refusals.{answered, stageIn, FirstRefusal}
-use Rattle.volume.specs.Write.{volumeOf}
-use Rattle.volume.specs.Demands.{sampleLists}
+use Rattle.seq.specs.Refusals.{stageIn, FirstRefusal}
 use Rattle.plan.specs.declared.answers.Refusal.{Refusal}
 use Rattle.plan.specs.declared.answers.Checked.{Checked}
-use Rattle.plan.specs.declared.row.Predicate.the-variants.{Ordered, Samepara}
 use Rattle.plan.specs.declared.row.Row.{Row}
 use Rattle.plan.specs.Rows.{rowOf, rowsOf, formWrong, wordsOf, planOf, InRange, isOperator}
-use Rattle.plan.specs.Patterns.{Pattern, patternsOf}
 use Rattle.plan.specs.Answers.{Sizes, saidRefusal, saidChecked}
 use Rattle.plan.specs.Check.{sizes, verdict, Accepted}
 use Rattle.plan.specs.Parts.{partOf, gap, patternRows}
@@ -60,18 +55,3 @@ Parts = (v p : List ℕ) → Accepted v p → Parted v p
 pub record OneToOne : Type 0 where
   pub refusal : (a b : Refusal) → saidRefusal {A = Sizes} a ≡ saidRefusal b → a ≡ b
   pub checked : (a b : Checked) → saidChecked a ≡ saidChecked b → a ≡ b
-
--- document 01's sample plan: VOICE 1, VOICE 2, BEFORE 0 1, SAME TITLE 0 1, END
-abbrev pub samplePattern : Pattern
-samplePattern = record { vars = 1 ∷ 2 ∷ []; predicates = Ordered 0 1 ∷ Samepara 0 1 ∷ [] }
-
-abbrev pub samplePlan : List ℕ
-samplePlan = planOf (patternRows samplePattern)
-
--- over the sample volume it is accepted with one pattern and two variables, means that pattern, and its part is the whole plan
-pub record Sample : Type 0 where
-  pub words : samplePlan ≡ 1 ∷ 1 ∷ 0 ∷ 0 ∷ 1 ∷ 2 ∷ 0 ∷ 0 ∷ 3 ∷ 0 ∷ 1 ∷ 0 ∷ 4 ∷ 0 ∷ 1 ∷ 0 ∷ 6 ∷ 0 ∷ 0 ∷ 0 ∷ []
-  pub checks : verdict (volumeOf sampleLists) samplePlan ≡ answered (record { patterns = 1; vars = 2 })
-  pub means : patternsOf (rowsOf samplePlan) ≡ samplePattern ∷ []
-  pub part : partOf (volumeOf sampleLists) samplePlan 0 ≡ samplePlan
-  pub no-part : partOf (volumeOf sampleLists) samplePlan 1 ≡ []
