@@ -1,6 +1,7 @@
 -- The laws of `specs/Inner/Tables.antt` on cursors: the list of each variable of an accepted plan, and a cursor for each. No contract cites this file.
 --     varAt-is                                 the variables of a plan are those of its patterns in order
 --     Voiced, voiced, voiced-list              what the VOICE row of a variable gives
+--     var-is, var-few                          the variable of a row, among those of the plan
 --     Placing, placing-first, placing-as, placing-next, placing-done     cursors that are set one by one
 -- Assumes nothing.
 use Prim.Native.Nat.{ℕ, zero, suc, _+_, _-_, _*_, _<_, _≤_}
@@ -24,7 +25,7 @@ use Rattle.plan.specs.Check.{Accepted, sizes}
 use Rattle.plan.specs.Accepted.{patternAt}
 use Rattle.plan.proofs.Laws.Accepted.{given}
 use Rattle.matcher.specs.declared.cursor.Cursor.{Cursor}
-use Rattle.plan.specs.Inner.Outline.{varsBefore, Entry}
+use Rattle.plan.specs.Inner.Outline.{varsBefore, Outlines, Entry}
 use Rattle.matcher.specs.Inner.Tables.{varAt, cursorOn, Placed, Cursors}
 use Rattle.plan.proofs.Laws.Outline.{varsBefore-first, varsBefore-end, vars-within}
 
@@ -44,31 +45,40 @@ pub varAt-is : (p : List ℕ) (k i : ℕ) → k < sizes p .patterns → i < leng
 unfolding varsOf varsBefore sizes
 varAt-is p k i h l = joined-at (patternsOf (rowsOf p)) k i h l
 
--- what row `row` gives, the VOICE over `list` of variable x among those of the plan
-pub record Voiced (v p : List ℕ) (row x list : ℕ) : Type 0 where
+-- what row `row` gives, the VOICE over `list` of a variable
+pub record Voiced (v p : List ℕ) (row list : ℕ) : Type 0 where
   pub inside : row < rowCount p
   pub formed : formWrongAt p row ≡ false
   pub kind-is : rowAt p row .kind ≡ kind.Voice list
-  pub var-is : list ≡ varAt p x
   pub there : list < listCount v
-  pub few : x < 51
 
-pub voiced :
-    (v p : List ℕ) → Accepted v p → (o : Outline) → o .pattern < sizes p .patterns → Entry p o
-    → (i : ℕ) → i < o .vars → Voiced v p (o .condition - o .vars + i) (o .first + i) (getD (patternAt p (o .pattern) .vars) i 0)
-voiced v p accepted o h e i l =
-    let g = given v p accepted in
-    let n = e .vars-are in
-    let m : i < length (patternAt p (o .pattern) .vars) = omega arith in
-    let inside : o .condition - o .vars + i < rowCount p = let a = e .room in let b = e .last-is in let c = e .inside in omega arith in
-    record {
-      inside = inside;
-      formed = g .formed (o .condition - o .vars + i) inside;
-      kind-is = e .voices i l;
-      var-is = sym (ap (λ (x : ℕ). varAt p (x + i)) (e .first-is) ∙ varAt-is p (o .pattern) i h m);
-      there = g .well-made (o .pattern) h .lists i m .1;
-      few = let w = vars-within p (o .pattern) h in let f = e .first-is in let b = g .most-vars in omega arith;
-    }
+module _ (v p : List ℕ) (accepted : Accepted v p) (o : Outline) (h : o .pattern < sizes p .patterns) where
+  pub voiced : Outlines p o → (i : ℕ) → i < o .vars → Voiced v p (o .condition - o .vars + i) (getD (patternAt p (o .pattern) .vars) i 0)
+  voiced e i l =
+      let g = given v p accepted in
+      let n = e .vars-are in
+      let inside : o .condition - o .vars + i < rowCount p = let a = e .room in let b = e .last-is in let c = e .inside in omega arith in
+      record {
+        inside = inside;
+        formed = g .formed (o .condition - o .vars + i) inside;
+        kind-is = e .voices i l;
+        there = g .well-made (o .pattern) h .lists i (omega arith) .1;
+      }
+
+  -- its list is that of variable first + i of the plan, one of at most 51
+  module _ (e : Entry p o) (i : ℕ) (l : i < o .vars) where
+    pub var-is : getD (patternAt p (o .pattern) .vars) i 0 ≡ varAt p (o .first + i)
+    var-is =
+        let n = e .outlines .vars-are in
+        sym (ap (λ (x : ℕ). varAt p (x + i)) (e .first-is) ∙ varAt-is p (o .pattern) i h (omega arith))
+
+    pub var-few : o .first + i < 51
+    var-few =
+        let w = vars-within p (o .pattern) h in
+        let f = e .first-is in
+        let n = e .outlines .vars-are in
+        let b = given v p accepted .most-vars in
+        omega arith
 
 -- the list that a row is read to name is that list
 named : Kind → ℕ
@@ -77,7 +87,7 @@ named (kind.Condition c) = 0
 named kind.End = 0
 named (kind.Operator o) = 0
 
-pub voiced-list : {v p : List ℕ} {row x list : ℕ} → Voiced v p row x list → (r : ℕ) → rowAt p row .kind ≡ kind.Voice r → r ≡ list
+pub voiced-list : {v p : List ℕ} {row list : ℕ} → Voiced v p row list → (r : ℕ) → rowAt p row .kind ≡ kind.Voice r → r ≡ list
 unfolding named
 voiced-list w r e = ap named (sym e ∙ w .kind-is)
 

@@ -49,10 +49,10 @@ module _ (v p : List ℕ) (o : Outline) (doc : Document) (ats ends : List ℕ) (
   made = g .well-made k (r .pattern)
 
   pub ready-vars : o .vars ≤ 8
-  ready-vars = let e = r .entry .vars-are in let m = made .most-vars in omega arith
+  ready-vars = let e = r .entry .outlines .vars-are in let m = made .most-vars in omega arith
 
   pub ready-within : o .first + o .vars ≤ sizes p .vars
-  ready-within = let e = r .entry in let a = e .first-is in let b = e .vars-are in let w = vars-within p k (r .pattern) in omega arith
+  ready-within = let e = r .entry in let a = e .first-is in let b = e .outlines .vars-are in let w = vars-within p k (r .pattern) in omega arith
 
   -- variable x of the pattern is variable first + x of the plan
   among : (x : ℕ) → x < length (patternAt p k .vars) → Among (varsBefore p k) (length (patternAt p k .vars)) (o .first + x)
@@ -74,7 +74,7 @@ module _ (v p : List ℕ) (o : Outline) (doc : Document) (ats ends : List ℕ) (
 
   pub ready-stream : (x : ℕ) → x < o .vars → getD ats (o .first + x) 0 < streamLength v
   ready-stream x h =
-      let e = r .entry .vars-are in
+      let e = r .entry .outlines .vars-are in
       let s = ready-stands x (omega arith) .1 .0 in
       let w = list-stretch v (g .volume-accepted) (getD (patternAt p k .vars) x 0) (made .lists x (omega arith) .1) .within in
       omega arith
@@ -84,13 +84,13 @@ module _ (v p : List ℕ) (o : Outline) (doc : Document) (ats ends : List ℕ) (
   ready-posed = record {
     accepted = r .accepted;
     pattern = r .pattern;
-    entry = r .entry;
+    outlines = r .entry .outlines;
     document = r .document;
     room = let w = ready-within in let b = r .ends-room in simp (length-take, length-drop) (omega arith);
     ends-are = λ x h.
         let w = ready-within in
         let b = r .ends-room in
-        getD-slice ends (o .first) (length ends - o .first) x 0 (omega arith) ∙ ready-ends x (let e = r .entry .vars-are in omega arith);
+        getD-slice ends (o .first) (length ends - o .first) x 0 (omega arith) ∙ ready-ends x (let e = r .entry .outlines .vars-are in omega arith);
   }
 
   module _ (here ps : List ℕ) (copied : (x : ℕ) → x < o .vars → (getD here x 0 ≡ getD ats (o .first + x) 0) × (getD ps x 0 ≡ posOf (word v (getD ats (o .first + x) 0)))) where
@@ -98,7 +98,7 @@ module _ (v p : List ℕ) (o : Outline) (doc : Document) (ats ends : List ℕ) (
     pub ready-standing : Standing v d (patternAt p k) here ps
     ready-standing = record {
       each = λ x h.
-          let c = copied x (let e = r .entry .vars-are in omega arith) in
+          let c = copied x (let e = r .entry .outlines .vars-are in omega arith) in
           let s = ready-stands x h in
           let w = s .1 .1 in
           let q = c .1 in
@@ -108,10 +108,10 @@ module _ (v p : List ℕ) (o : Outline) (doc : Document) (ats ends : List ℕ) (
     -- the least match from there on is the least of all
     pub ready-least : o .vars ≤ length ps → leastFrom (listsOf v) d (patternAt p k) (take (o .vars) ps) ≡ leastIn (listsOf v) d (patternAt p k)
     ready-least room =
-        rw (r .entry .vars-are)
+        rw (r .entry .outlines .vars-are)
         (leastFrom-all (listsOf v) (lists-rise v (g .volume-accepted)) d (patternAt p k) (take (length (patternAt p k .vars)) ps)
-        (λ qs m. first-low v (g .volume-accepted) d (patternAt p k) (λ x h. made .lists x h .1) [] here ps (let e = r .entry .vars-are in omega arith) ready-standing
-        (λ x h j a b. let l = ready-stands x h .0 .behind j a (let e = copied x (let e = r .entry .vars-are in omega arith) .0 in omega arith) in omega arith)
+        (λ qs m. first-low v (g .volume-accepted) d (patternAt p k) (λ x h. made .lists x h .1) [] here ps (let e = r .entry .outlines .vars-are in omega arith) ready-standing
+        (λ x h j a b. let l = ready-stands x h .0 .behind j a (let e = copied x (let e = r .entry .outlines .vars-are in omega arith) .0 in omega arith) in omega arith)
         qs (m, λ x. omega arith)))
 
 -- zeros, as many as are taken
@@ -153,7 +153,7 @@ module _ (v p : List ℕ) (o : Outline) (doc : Document) (ats ends : List ℕ) (
   d′ = doc .doc
 
   pub away-few : o .vars ≤ 8
-  away-few = let e = w .entry .vars-are in let m = given v p (w .accepted) .well-made k′ (w .pattern) .most-vars in omega arith
+  away-few = let e = w .entry .outlines .vars-are in let m = given v p (w .accepted) .well-made k′ (w .pattern) .most-vars in omega arith
 
   pub away-pattern : k′ < 8
   away-pattern = let a = w .pattern in let b = given v p (w .accepted) .most-patterns in omega arith
@@ -162,4 +162,4 @@ module _ (v p : List ℕ) (o : Outline) (doc : Document) (ats ends : List ℕ) (
   away-found n = w .candidate .absent d′ (omega arith) (let f = w .candidate .from in omega arith)
 
   pub away-shown : r ≢ d′ → 0 ∷ take (o .vars) (replicate 8 0) ≡ shownIn (listsOf v) d′ (patternAt p k′)
-  away-shown n = settled-no v p k′ d′ (o .vars) [] false (unfound-none v p k′ d′ (away-found n)) refl (w .entry .vars-are) away-few
+  away-shown n = settled-no v p k′ d′ (o .vars) [] false (unfound-none v p k′ d′ (away-found n)) refl (w .entry .outlines .vars-are) away-few

@@ -40,7 +40,7 @@ use Rattle.plan.specs.Answers.{Sizes}
 use Rattle.plan.specs.Check.{verdict, sizes, Accepted}
 use Rattle.plan.specs.Accepted.{patternAt, Given}
 use Rattle.plan.specs.declared.outline.Outline.{Outline}
-use Rattle.plan.specs.Inner.Outline.{Entry, outlineAt, Tabled}
+use Rattle.plan.specs.Inner.Outline.{Outlines, outlineAt, Tabled}
 use Rattle.plan.proofs.Laws.Accepted.{given}
 use Rattle.matcher.specs.declared.cursor.Cursor.{Cursor}
 use Rattle.matcher.specs.declared.cursor.Document.{Document}
@@ -172,12 +172,12 @@ starts-stand v d = record { from = omega arith; to = omega arith; behind = λ j 
 
 -- the outline of pattern k, from a table
 pub record LaidOut (p : List ℕ) (k : ℕ) (o : Outline) : Type 0 where
-  pub entry : Entry p o
+  pub outlines : Outlines p o
   pub pattern-is : o .pattern ≡ k
   pub vars-are : o .vars ≡ length (patternAt p k .vars)
 
 pub laid : {p : List ℕ} (table : List ℕ) → Tabled p table → (k : ℕ) → k < sizes p .patterns → {o : Outline} → o ≡ outlineAt table k → LaidOut p k o
-laid table t k h e = record { entry = rw e (t k h); pattern-is = ap (λ (o : Outline). o .pattern) e; vars-are = ap (λ (o : Outline). o .vars) e ∙ t k h .vars-are }
+laid table t k h e = record { outlines = rw e (t k h .outlines); pattern-is = ap (λ (o : Outline). o .pattern) e; vars-are = ap (λ (o : Outline). o .vars) e ∙ t k h .outlines .vars-are }
 
 -- the row of predicate c, for n variables
 pub record Stated (p : List ℕ) (row n : ℕ) (c : Predicate) : Type 0 where
@@ -221,11 +221,11 @@ module _ {v p : List ℕ} {o : Outline} {d : ℕ} {ps : List ℕ} (posed : Asked
   last = o .last
 
   pub vars-order : o .vars ≤ condition
-  vars-order = posed .entry .room
+  vars-order = posed .outlines .room
 
-  pub voice-of : (x : ℕ) → x < length ps → Voiced v p (firstVar + x) (o .first + x) (getD vars x 0)
+  pub voice-of : (x : ℕ) → x < length ps → Voiced v p (firstVar + x) (getD vars x 0)
   voice-of x h =
-      let e = posed .entry in
+      let e = posed .outlines in
       let n = posed .number in
       let m = e .vars-are in
       voiced v p (posed .accepted) o (posed .pattern) e x (omega arith)
@@ -258,12 +258,12 @@ module _ {v p : List ℕ} {o : Outline} {d : ℕ} {ps : List ℕ} (posed : Asked
   listed-all x h l = let n = posed .number in sym (fits-iff (listsOf v) d vars ps .1 (n, λ y m. l y (omega arith)))
 
   pub condition-order : condition ≤ last
-  condition-order = let e = posed .entry .last-is in omega arith
+  condition-order = let e = posed .outlines .last-is in omega arith
 
   module _ (row : ℕ) (from : condition ≤ row) (to : row < last) where
     pub stated : Stated p row (length ps) (getD predicates (row - condition) (Window 1))
     stated =
-        let e = posed .entry in
+        let e = posed .outlines in
         let l = e .last-is in
         let i = e .inside in
         let j : row - condition < length predicates = omega arith in
@@ -312,14 +312,14 @@ module _ {v p : List ℕ} {o : Outline} {d : ℕ} {ps : List ℕ} (posed : Asked
 
     pub kept-not : t ≡ false → false ≡ allHold (startsIn (listsOf v) d) predicates ps
     kept-not q =
-        let l = posed .entry .last-is in
+        let l = posed .outlines .last-is in
         ⊎-elim
         (λ (g : allHold (startsIn (listsOf v) d) predicates ps ≡ true). absurd (contrary (allHold-iff (startsIn (listsOf v) d) predicates ps .0 g (row - condition) (omega arith)) (sym predicate ∙ q)))
         (λ (g : allHold (startsIn (listsOf v) d) predicates ps ≡ false). sym g)
         (true-or (allHold (startsIn (listsOf v) d) predicates ps))
 
   pub kept-all : (row : ℕ) → last ≤ row → Kept v p k d ps (row - condition) → true ≡ allHold (startsIn (listsOf v) d) predicates ps
-  kept-all row h l = let e = posed .entry .last-is in sym (allHold-iff (startsIn (listsOf v) d) predicates ps .1 (λ j m. l j (omega arith)))
+  kept-all row h l = let e = posed .outlines .last-is in sym (allHold-iff (startsIn (listsOf v) d) predicates ps .1 (λ j m. l j (omega arith)))
 
 -- a match, by its two parts
 module _ (lists : List (List ℕ)) (d : ℕ) (f : Pattern) (ps : List ℕ) where

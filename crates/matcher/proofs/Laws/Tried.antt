@@ -92,12 +92,12 @@ module _ (v p : List ℕ) (o : Outline) (doc : Document) (ends : List ℕ) (q : 
   there x h = made .lists x h .1
 
   many : n ≡ length (patternAt p k .vars)
-  many = q .entry .vars-are
+  many = q .outlines .vars-are
 
   pub tried-first : (here₀ ps₀ : List ℕ) → n ≤ length ps₀ → Standing v d (patternAt p k) here₀ ps₀ → Tried v p o (doc .doc) here₀ ps₀ here₀ ps₀ condition
   tried-first here₀ ps₀ room l = record {
     from = omega arith;
-    to = let e = q .entry .last-is in omega arith;
+    to = let e = q .outlines .last-is in omega arith;
     here-length = refl;
     ps-length = refl;
     low = rw many (low-first v ok d (patternAt p k) there here₀ ps₀ (let e = many in omega arith) l);
@@ -106,23 +106,23 @@ module _ (v p : List ℕ) (o : Outline) (doc : Document) (ends : List ℕ) (q : 
 
   -- the rows of the predicates
   pub tried-last : last ≤ 64
-  tried-last = let a = q .entry .inside in let b = g .most-rows in omega arith
+  tried-last = let a = q .outlines .inside in let b = g .most-rows in omega arith
 
   some-vars : 1 ≤ n
   some-vars = let a = made .some-vars in let e = many in omega arith
 
   module _ (row : ℕ) (h : condition ≤ row) (l : row < last) where
     inside : row - condition < length (patternAt p k .predicates)
-    inside = let e = q .entry .last-is in omega arith
+    inside = let e = q .outlines .last-is in omega arith
 
     back : condition + (row - condition) ≡ row
     back = omega arith
 
     row-is : rowAt p row .kind ≡ kind.Condition (getD (patternAt p k .predicates) (row - condition) (Window 1))
-    row-is = subst (λ (i : ℕ). rowAt p i .kind ≡ kind.Condition (getD (patternAt p k .predicates) (row - condition) (Window 1))) back (q .entry .conditions (row - condition) inside)
+    row-is = subst (λ (i : ℕ). rowAt p i .kind ≡ kind.Condition (getD (patternAt p k .predicates) (row - condition) (Window 1))) back (q .outlines .conditions (row - condition) inside)
 
     pub tried-asks : (row < rowCount p) × ((formWrongAt p row ≡ false) × ((c : Predicate) × (rowAt p row .kind ≡ kind.Condition c)))
-    tried-asks = let a = q .entry .inside in (omega arith, (g .formed row (omega arith), (getD (patternAt p k .predicates) (row - condition) (Window 1), row-is)))
+    tried-asks = let a = q .outlines .inside in (omega arith, (g .formed row (omega arith), (getD (patternAt p k .predicates) (row - condition) (Window 1), row-is)))
 
     module _ (c : Predicate) (e : rowAt p row .kind ≡ kind.Condition c) where
       predicate-is : c ≡ getD (patternAt p k .predicates) (row - condition) (Window 1)
@@ -188,7 +188,7 @@ module _ (v p : List ℕ) (o : Outline) (doc : Document) (ends : List ℕ) (q : 
           jumped here′ ps′ j = (
             record {
               from = omega arith;
-              to = let e = q .entry .last-is in omega arith;
+              to = let e = q .outlines .last-is in omega arith;
               here-length = ap length (j .1 .1 .0) ∙ length-set here x _ ∙ m .here-length;
               ps-length = ap length (j .1 .1 .1) ∙ length-set ps x _ ∙ m .ps-length;
               low = rw (j .1 .1 .0, j .1 .1 .1) (low-jump v ok d (patternAt p k) there (take n ps₀) here ps ps-room here-room (m .low) (row - condition) inside x b left (seekFrom v (d * 65536 + b) (getD here x 0) (getD ends x 0)) (rw the-end refl) (rw (← the-end) (j .0)) (j .1 .0));
@@ -209,5 +209,5 @@ module _ (v p : List ℕ) (o : Outline) (doc : Document) (ends : List ℕ) (q : 
   pub tried-done : (here₀ ps₀ here ps : List ℕ) (row : ℕ) → n ≤ length ps₀ → Tried v p o (doc .doc) here₀ ps₀ here ps row → last ≤ row → leastFrom (listsOf v) d (patternAt p k) (take n ps₀) ≡ some (take n ps)
   tried-done here₀ ps₀ here ps row room m h =
       low-done v ok d (patternAt p k) there (take n ps₀) here ps (length-take-le n ps₀ room ∙ many) (let e = many in let w = m .ps-length in omega arith) (m .low)
-      (λ j s. subst (λ (i : ℕ). holds (startsIn (listsOf v) d) (getD (patternAt p k .predicates) j (Window 1)) (take i ps) ≡ true) many (m .holding j (let e = q .entry .last-is in omega arith)))
+      (λ j s. subst (λ (i : ℕ). holds (startsIn (listsOf v) d) (getD (patternAt p k .predicates) j (Window 1)) (take i ps) ≡ true) many (m .holding j (let e = q .outlines .last-is in omega arith)))
       ∙ ap (λ (i : ℕ). some (take i ps)) (sym many)

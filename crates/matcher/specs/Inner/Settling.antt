@@ -17,7 +17,7 @@ use Rattle.matcher.specs.declared.cursor.Document.{Document}
 use Rattle.matcher.specs.Inner.Cursors.{seekFrom, listEnd, Stands, AtDocument}
 use Rattle.matcher.specs.Inner.Shortfall.{InDocument}
 use Rattle.plan.specs.declared.outline.Outline.{Outline}
-use Rattle.plan.specs.Inner.Outline.{varsBefore, Entry}
+use Rattle.plan.specs.Inner.Outline.{varsBefore, Outlines, Entry}
 use Rattle.matcher.specs.Inner.Tables.{varAt}
 use Rattle.fulltext.specs.Positions.{limit}
 use Rattle.fulltext.specs.Documents.{found}
@@ -72,11 +72,12 @@ abbrev pub givenIf : Bool → List ℕ → Option (List ℕ)
 givenIf true ps = some ps
 givenIf false ps = none
 
--- what a pattern, given by its outline, asks in a document: the ends of its variables' lists
+-- what a pattern, given by its outline, asks in a document: the ends of its variables' lists. Where they lie among those of the plan is not
+-- asked
 pub record Posed (v p : List ℕ) (o : Outline) (doc : Document) (ends : List ℕ) : Type 0 where
   pub accepted : Accepted v p
   pub pattern : o .pattern < sizes p .patterns
-  pub entry : Entry p o
+  pub outlines : Outlines p o
   pub document : AtDocument v doc
   pub room : o .vars ≤ length ends
   pub ends-are : (x : ℕ) → x < o .vars → getD ends x 0 ≡ listEnd v (getD (patternAt p (o .pattern) .vars) x 0)
@@ -95,7 +96,7 @@ pub record Ready (v p : List ℕ) (o : Outline) (doc : Document) (ats ends : Lis
 pub record Asked (v p : List ℕ) (o : Outline) (d : ℕ) (ps : List ℕ) : Type 0 where
   pub accepted : Accepted v p
   pub pattern : o .pattern < sizes p .patterns
-  pub entry : Entry p o
+  pub outlines : Outlines p o
   pub number : length ps ≡ length (patternAt p (o .pattern) .vars)
   pub doc-small : d ≤ 65535
   pub small : InDocument ps

@@ -200,12 +200,14 @@ module _ (v p : List ℕ) (accepted : Accepted v p) (k : ℕ) (h : k < sizes p .
       let s = span-order in
       record {
         first-is = a;
-        vars-are = b;
-        room = omega arith;
-        last-is = omega arith;
-        inside = omega arith;
-        voices = λ i l. let q : firstRow p k + i ≡ (behind - vars) + i = omega arith in rw q at (voice-row i (omega arith));
-        conditions = λ j l. let q : firstRow p k + (varCount (patternAt p k) + j) ≡ behind + j = omega arith in rw q at (condition-row j l);
+        outlines = record {
+          vars-are = b;
+          room = omega arith;
+          last-is = omega arith;
+          inside = omega arith;
+          voices = λ i l. let q : firstRow p k + i ≡ (behind - vars) + i = omega arith in rw q at (voice-row i (omega arith));
+          conditions = λ j l. let q : firstRow p k + (varCount (patternAt p k) + j) ≡ behind + j = omega arith in rw q at (condition-row j l);
+        };
       }
 
 -- the span of pattern k in rows, and the row behind its variables

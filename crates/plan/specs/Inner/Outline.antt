@@ -23,9 +23,8 @@ unfoldable pub varsBefore : List ℕ → ℕ → ℕ
 unfolding total
 varsBefore p k = total (λ (f : Pattern). length (f .vars)) (take k (patternsOf (rowsOf p)))
 
--- an outline is that of its pattern
-pub record Entry (p : List ℕ) (o : Outline) : Type 0 where
-  pub first-is : o .first ≡ varsBefore p (o .pattern)
+-- an outline is that of its pattern: the number of its variables, and its rows
+pub record Outlines (p : List ℕ) (o : Outline) : Type 0 where
   pub vars-are : o .vars ≡ length (patternAt p (o .pattern) .vars)
   pub room : o .vars ≤ o .condition
   pub last-is : o .last ≡ o .condition + length (patternAt p (o .pattern) .predicates)
@@ -36,6 +35,11 @@ pub record Entry (p : List ℕ) (o : Outline) : Type 0 where
   pub conditions :
       (j : ℕ) → j < length (patternAt p (o .pattern) .predicates)
       → rowAt p (o .condition + j) .kind ≡ kind.Condition (getD (patternAt p (o .pattern) .predicates) j (Window 1))
+
+-- it says too where the pattern's variables lie among those of the plan
+pub record Entry (p : List ℕ) (o : Outline) : Type 0 where
+  pub outlines : Outlines p o
+  pub first-is : o .first ≡ varsBefore p (o .pattern)
 
 -- outline k of a table of four numbers for each pattern
 abbrev pub outlineAt : List ℕ → ℕ → Outline

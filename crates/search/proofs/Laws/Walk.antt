@@ -80,17 +80,17 @@ module _ (v p table ends : List ℕ) (w : Walks v p table ends) where
     walk-entry = w .tabled k inside
 
     pub walk-within : getD table (4 * k) 0 + getD table (4 * k + 1) 0 ≤ sizes p .vars
-    walk-within = let a = walk-entry .first-is in let b = walk-entry .vars-are in let l = vars-within p k inside in omega arith
+    walk-within = let a = walk-entry .first-is in let b = walk-entry .outlines .vars-are in let l = vars-within p k inside in omega arith
 
     pub walk-few : (1 ≤ getD table (4 * k + 1) 0) × (getD table (4 * k + 1) 0 ≤ 8)
-    walk-few = let b = walk-entry .vars-are in let l = made .some-vars in let m = made .most-vars in (omega arith, omega arith)
+    walk-few = let b = walk-entry .outlines .vars-are in let l = made .some-vars in let m = made .most-vars in (omega arith, omega arith)
 
     -- a variable of the pattern, by its number among those of the plan
     among : (x : ℕ) → Among (getD table (4 * k) 0) (getD table (4 * k + 1) 0) x → Among (varsBefore p k) (length (patternAt p k .vars)) x
-    among x a = let e = walk-entry .first-is in let b = walk-entry .vars-are in (omega arith, omega arith)
+    among x a = let e = walk-entry .first-is in let b = walk-entry .outlines .vars-are in (omega arith, omega arith)
 
     among-back : (x : ℕ) → Among (varsBefore p k) (length (patternAt p k .vars)) x → Among (getD table (4 * k) 0) (getD table (4 * k + 1) 0) x
-    among-back x a = let e = walk-entry .first-is in let b = walk-entry .vars-are in (omega arith, omega arith)
+    among-back x a = let e = walk-entry .first-is in let b = walk-entry .outlines .vars-are in (omega arith, omega arith)
 
     list-of : (x : ℕ) → Among (varsBefore p k) (length (patternAt p k .vars)) x → varAt p x ≡ getD (patternAt p k .vars) (x - varsBefore p k) 0
     list-of x a = let e : varsBefore p k + (x - varsBefore p k) ≡ x = omega arith in subst (λ (y : ℕ). varAt p y ≡ getD (patternAt p k .vars) (x - varsBefore p k) 0) e (varAt-is p k (x - varsBefore p k) inside (omega arith))

@@ -124,7 +124,7 @@ returns-2 c =
       c .before .before .show2 .ensures
           ∙ ap (λ (xs : List ℕ). xs ++ drop (1 + a .outline .vars) (now (a .row)))
           (settled-no (now (a .volume)) (now (a .plan)) (a .outline .pattern) (a .document .doc) (a .outline .vars) ps r (least-of matched) (c .before .before .before .before .before .if1 .left)
-          (start .pre .0 .entry .vars-are) (ready-vars _ _ _ _ _ _ (start .pre .0))),
+          (start .pre .0 .entry .outlines .vars-are) (ready-vars _ _ _ _ _ _ (start .pre .0))),
     )
 
 pub settle-spec : {M : Type 1} → statement M

@@ -70,12 +70,12 @@ is-match-requires : tie.Need-is-match-requires
 is-match-requires c κs =
     let o = outline (c .before .before .before .before) in
     let s = start-of (c .before .before .before .before) in
-    let v = o .entry .vars-are in
+    let v = o .outlines .vars-are in
     let k = o .pattern-is in
     record {
       accepted = s .pre .0;
       pattern = omega arith;
-      entry = o .entry;
+      outlines = o .outlines;
       number = omega arith;
       doc-small = omega arith;
       small = small-decides (now (s .args .positions)) .yes (sym (c .before .in-document .ensures) ∙ not-false _ (c .if3 .left));

@@ -13,7 +13,7 @@ use Rattle.plan.specs.Inner.Outline.{varsBefore, outlineAt, Entry, Tabled}
 use Rattle.plan.proofs.Laws.Accepted.{given}
 use Rattle.plan.proofs.Laws.Outline.{varsBefore-next}
 use Rattle.matcher.specs.Inner.Tables.{cursorOn}
-use Rattle.matcher.proofs.Laws.Placed.{Voiced, voiced, voiced-list, Placing, placing-first, placing-as, placing-next, placing-done}
+use Rattle.matcher.proofs.Laws.Placed.{Voiced, voiced, voiced-list, var-is, var-few, Placing, placing-first, placing-as, placing-next, placing-done}
 use Rattle.search.proofs.setup.set_cursors.Statement.{statement}
 use Rattle.search.proofs.setup.set_cursors.Tie as tie
 
@@ -38,7 +38,7 @@ record Outlined (p : List ℕ) (k : ℕ) (o : Outline) : Type 0 where
   vars-are : o .vars ≡ length (patternAt p k .vars)
 
 outlined : (p table : List ℕ) → Tabled p table → (k : ℕ) → k < sizes p .patterns → (o : Outline) → o ≡ outlineAt table k → Outlined p k o
-outlined p table t k h o e = rw e (record { entry = t k h; there = h; room = t k h .room; first-is = t k h .first-is; vars-are = t k h .vars-are })
+outlined p table t k h o e = rw e (record { entry = t k h; there = h; room = t k h .outlines .room; first-is = t k h .first-is; vars-are = t k h .outlines .vars-are })
 
 outline : (c : tie.After-struct-known Inv-loop2 μ-loop2 Inv-loop μ-loop) → Outlined (now (c .before .before .before .before .before .before .before .before .before .args .plan)) (c .before .before .before .loop .k) (c .before .outline-at .result)
 outline c =
@@ -50,12 +50,11 @@ turn :
     (c : tie.In-loop2 Inv-loop2 μ-loop2 Inv-loop μ-loop)
     → Voiced (now (c .before .before .before .before .before .before .before .before .before .before .before .args .volume)) (now (c .before .before .before .before .before .before .before .before .before .before .before .args .plan))
     (c .before .before .before .outline-at .result .condition - c .before .before .before .outline-at .result .vars + c .before .loop2 .i)
-    (c .before .before .before .outline-at .result .first + c .before .loop2 .i)
     (getD (patternAt (now (c .before .before .before .before .before .before .before .before .before .before .before .args .plan)) (c .before .before .before .outline-at .result .pattern) .vars) (c .before .loop2 .i) 0)
 turn c =
     let s = c .before .before .before .before .before .before .before .before .before .before .before in
     let o = outline (c .before .before) in
-    voiced (now (s .args .volume)) (now (s .args .plan)) (s .pre .0) (c .before .before .before .outline-at .result) (o .there) (o .entry) (c .before .loop2 .i) (omega arith)
+    voiced (now (s .args .volume)) (now (s .args .plan)) (s .pre .0) (c .before .before .before .outline-at .result) (o .there) (o .entry .outlines) (c .before .loop2 .i) (omega arith)
 
 loop-holds : tie.Need-loop-holds Inv-loop2 μ-loop2 Inv-loop μ-loop
 loop-holds c =
@@ -97,7 +96,10 @@ cursor-on-requires c κs =
 
 -- each variable has its place in the two buffers
 room : (c : tie.After-cursor-on Inv-loop2 μ-loop2 Inv-loop μ-loop) → c .before .before .before .before .before .outline-at .result .first + c .before .before .before .loop2 .i < 51
-room c = turn (c .before .before) .few
+room c =
+    let s = c .before .before .before .before .before .before .before .before .before .before .before .before .before in
+    let o = outline (c .before .before .before .before) in
+    var-few (now (s .args .volume)) (now (s .args .plan)) (s .pre .0) (c .before .before .before .before .before .outline-at .result) (o .there) (o .entry) (c .before .before .before .loop2 .i) (omega arith)
 
 add-ats : tie.Need-add-ats Inv-loop2 μ-loop2 Inv-loop μ-loop
 add-ats c = let t = room c in omega arith
@@ -127,15 +129,17 @@ loop2-again : tie.Need-loop2-again Inv-loop2 μ-loop2 Inv-loop μ-loop
 loop2-again c =
     let l = c .before .before .before .loop2 in
     let outer = c .before .before .before .before .before .before .before .loop in
-    let a = c .before .before .before .before .before .before .before .before .before .before .before .before .before .args in
+    let s = c .before .before .before .before .before .before .before .before .before .before .before .before .before in
+    let a = s .args in
     let v = now (a .volume) in
     let t = turn (c .before .before) in
+    let o = outline (c .before .before .before .before) in
     let few = room c in
-    let rooms = c .before .before .before .before .before .before .before .before .before .before .before .before .before .pre .1 .1 .1 .1 .1 in
+    let rooms = s .pre .1 .1 .1 .1 .1 in
     let ats-same = outer .inv .1 .same-ats in
     let ends-same = outer .inv .1 .same-ends in
     let x = c .before .before .before .before .before .outline-at .result .first + l .i in
-    let list = voiced-list t (c .before .list-at .result) (c .before .list-at .ensures) ∙ t .var-is in
+    let list = voiced-list t (c .before .list-at .result) (c .before .list-at .ensures) ∙ var-is v (now (a .plan)) (s .pre .0) (c .before .before .before .before .before .outline-at .result) (o .there) (o .entry) (l .i) (omega arith) in
     let e : x + 1 ≡ c .before .before .before .before .before .outline-at .result .first + (l .i + 1) = omega arith in
     let next = placing-next v (now (a .plan)) (a .start) (length (outer .ats)) (length (outer .ends)) (l .ats) (l .ends) x (l .inv .1) in
     (omega arith, rw e at (next (omega (arith, few, rooms .0, ats-same)) (omega (arith, few, rooms .1, ends-same)) (c .cursor-on .result) (c .cursor-on .ensures ∙ ap (λ (list : ℕ). cursorOn v list (a .start)) list)))

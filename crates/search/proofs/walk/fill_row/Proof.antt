@@ -65,7 +65,7 @@ small c =
 -- the variables of its outline
 vars : (c : tie.After-outline-at Inv-loop μ-loop) → let turn = c .before in
     c .outline-at .result .vars ≡ length (patternAt (now (start-of (turn .before) .args .plan)) (turn .before .loop .k) .vars)
-vars c = ap (λ (o : Outline). o .vars) (c .outline-at .ensures) ∙ ready (c .before) .entry .vars-are
+vars c = ap (λ (o : Outline). o .vars) (c .outline-at .ensures) ∙ ready (c .before) .entry .outlines .vars-are
 
 -- whether it is found, and what is shown of it in the part of the row that is lent
 found-is : (c : tie.After-show-pattern Inv-loop μ-loop) → {t : Bool} → c .show-pattern .result ≡ t → let turn = laid-of c .before in let a = start-of (turn .before) .args in
