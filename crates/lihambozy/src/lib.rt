@@ -9,7 +9,7 @@ ghost use lib.ListN.{length};
 ghost use Rattle.volume.specs.Check.{verdict};
 ghost use Rattle.volume.specs.Read.{readAnswer, readOut};
 ghost use Rattle.volume.specs.Write.{writeAnswer, writeOut};
-ghost use Rattle.plan.specs.Check as planCheck;
+ghost use Rattle.plan.specs.Check as plans;
 ghost use Rattle.plan.specs.Parts.{spanOf};
 ghost use Rattle.matcher.specs.Testing.{testAnswer};
 ghost use Rattle.lihambozy.specs.Flat.{flatSizes, flatList, flatVolume, flatPlan, flatSpan, flatTest};
@@ -197,7 +197,7 @@ pub extern "C" fn lhz_write_volume(counts: &[u32], postings: &[u32], out: &mut [
 // Checks a plan over a volume.
 #[no_mangle]
 pub extern "C" fn lhz_check_plan(volume: &[u8], plan: &[u32]) -> CheckPlanAnswer
-    ensures { λ r. ⌜ r ≡ flatPlan (planCheck.verdict (now (volume .entry)) (now (plan .entry))) ⌝ }
+    ensures { λ r. ⌜ r ≡ flatPlan (plans.verdict (now (volume .entry)) (now (plan .entry))) ⌝ }
 {
     let checked = plan::check(volume, plan);
     match checked {

@@ -116,7 +116,7 @@ case asked wanted = record { asked = asked; wanted = wanted }
 
 unfoldable pub table : List Case
 table =
-    -- * The listing above.
+    -- * The listing above, and the call behind it.
     case (print samplePlan) (text sampleText)
     ∷ case (list samplePlan 0 12) (listed (accepted 1 2) (page 2 6 done) (1 ∷ 1 ∷ 2 ∷ 5 ∷ 2 ∷ 1 ∷ 4 ∷ 9 ∷ untouched 4))
     -- * NEAR 0 1, c = 0: only scene 1, places 8 7.

@@ -1,7 +1,7 @@
 -- Document 01's number and values for each answer of the crate's calls. Assumes nothing.
 use Prim.Native.Nat.{ℕ}
 use Rattle.seq.specs.Refusals.{Said, refused, answered}
-use Rattle.volume.specs.Answers as volume
+use Rattle.volume.specs.Answers as volumeAnswers
 use Rattle.plan.specs.declared.answers.Fault.{Fault}
 use Rattle.plan.specs.declared.answers.Fault.the-variants as fault
 use Rattle.plan.specs.declared.answers.Refusal.{Refusal}
@@ -18,14 +18,14 @@ faultCode fault.Order = 13
 
 -- the number of a refusal of a volume and a plan
 abbrev pub codeOf : Refusal → ℕ
-codeOf (Volume why) = volume.codeOf why
+codeOf (Volume why) = volumeAnswers.codeOf why
 codeOf Length = 9
 codeOf (Row fault row) = faultCode fault
 codeOf Unfinished = 14
 
 -- the place (01: place of a refusal) that it names, or 0
 abbrev pub atOf : Refusal → ℕ
-atOf (Volume why) = volume.atOf why
+atOf (Volume why) = volumeAnswers.atOf why
 atOf Length = 0
 atOf (Row fault row) = row
 atOf Unfinished = 0

@@ -8,7 +8,7 @@ use lib.Dec.{ltb, eqb}
 use Rattle.seq.specs.Lists.{total}
 use Rattle.seq.specs.Numbers.{firstFrom}
 use Rattle.seq.specs.Refusals.{Said, refused, answered}
-use Rattle.volume.specs.Answers as volumes
+use Rattle.volume.specs.Answers as volumeAnswers
 use Rattle.volume.specs.Check as volume
 use Rattle.plan.specs.declared.state.Step.{Step}
 use Rattle.plan.specs.declared.state.Step.the-variants.{Stands, Faulty}
@@ -64,7 +64,7 @@ unfoldable pub planVerdict : ℕ → List ℕ → Said Sizes
 planVerdict t p = cond (lengthWrong p) (refused 9 0) (rowsVerdict t p)
 
 -- 1 to 8 of the volume, or the verdict on the plan
-abbrev pub verdictBy : Said volumes.Sizes → List ℕ → Said Sizes
+abbrev pub verdictBy : Said volumeAnswers.Sizes → List ℕ → Said Sizes
 verdictBy (refused n q) p = refused n q
 verdictBy (answered s) p = planVerdict (s .lists) p
 

@@ -2,7 +2,7 @@
 use borrow.Author.Needs.{needs}
 use mathlib.Core.Path.{sym, ap, _∙_}
 use denote.Ref.{now}
-use Rattle.volume.specs.Answers as volume
+use Rattle.volume.specs.Answers as volumeAnswers
 use Rattle.plan.specs.Check.{verdictBy, verdict}
 use Rattle.plan.proofs.checking.check.Statement.{statement}
 use Rattle.plan.proofs.checking.check.Tie as tie
@@ -23,13 +23,13 @@ returns : tie.Need-returns
 unfolding verdict
 returns c =
     let a = c .before .before .before .before .before .before .args in
-    ap (λ s. verdictBy s (now (a .plan))) (sym (ap volume.saidChecked (c .before .checked .given .1)) ∙ c .before .before .before .check .ensures)
+    ap (λ s. verdictBy s (now (a .plan))) (sym (ap volumeAnswers.saidChecked (c .before .checked .given .1)) ∙ c .before .before .before .check .ensures)
 
 returns-2 : tie.Need-returns-2
 unfolding verdict
 returns-2 c =
     let a = c .before .before .before .before .before .before .before .args in
-    c .check-plan .ensures ∙ ap (λ s. verdictBy s (now (a .plan))) (sym (ap volume.saidChecked (c .before .before .checked2 .given .1)) ∙ c .before .before .before .before .check .ensures)
+    c .check-plan .ensures ∙ ap (λ s. verdictBy s (now (a .plan))) (sym (ap volumeAnswers.saidChecked (c .before .before .checked2 .given .1)) ∙ c .before .before .before .before .check .ensures)
 
 pub check-spec : {M : Type 1} → statement M
 check-spec =
