@@ -1,7 +1,7 @@
 -- The words of a row, and the postings of a stretch of documents. No contract cites this file.
 --     length-least            the least match has a position for each variable
 --     even                    a row has as many words as the work's width
---     count-none, count-add, count-run, count-all     a list's postings in a stretch of none, in two stretches, in all documents
+--     count-add, count-run    a list's postings in two stretches, in all documents
 --     postings-none, postings-add          the same of all variables' lists
 --     work-even, work-wide, work-add, work-none     the same of a plan over a volume
 --     whole                   all postings of a plan's variables
@@ -128,22 +128,12 @@ count-add a b c l h k =
     ∙ total-ext (λ p. ones a b p + ones b c p) (ones a c) l (λ p. within-add a b c (docOf p) h k)
     ∙ sym (count-ones a c l)
 
-pub count-none : (a : ℕ) (l : List ℕ) → countIn a a l ≡ 0
-count-none a l = let e = count-add a a a l (omega arith) (omega arith) in omega arith
-
 -- a list whose postings are words
 pub count-run : (f : ℕ → ℕ) (k m : ℕ) → ((j : ℕ) → f j < 4294967296) → countIn 0 limit (run f k m) ≡ m
 unfolding countIn
 count-run f k m small =
     ap length (keep-run-all (λ p. within 0 limit (docOf p)) f k m (λ j h l. let s = small j in in-within 0 limit (docOf (f j)) (omega arith) (omega arith)))
     ∙ length-run f k m
-
-pub count-all : (l : List ℕ) → ((i : ℕ) → i < length l → getD l i 0 < 4294967296) → countIn 0 limit l ≡ length l
-unfolding countIn
-count-all l small =
-    ap (λ (xs : List ℕ). countIn 0 limit xs) (sym (run-getD 0 l))
-    ∙ ap length (keep-run-all (λ p. within 0 limit (docOf p)) (λ i. getD l i 0) 0 (length l) (λ j h k. let s = small j (omega arith) in in-within 0 limit (docOf (getD l j 0)) (omega arith) (omega arith)))
-    ∙ length-run (λ i. getD l i 0) 0 (length l)
 
 module _ (lists : List (List ℕ)) (rows : List Row) where
   pub postings-add : (a b c : ℕ) → a ≤ b → b ≤ c → postingsIn lists rows a b + postingsIn lists rows b c ≡ postingsIn lists rows a c

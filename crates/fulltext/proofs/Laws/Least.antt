@@ -12,7 +12,6 @@
 --     reaches-decides              a test of `⊑`
 --     leastFrom-iff, unfoundFrom-iff        the least match that stands at bounds or behind, and whether there is one
 --     leastFrom-all                where every match stands there, it is the least of all
---     leastFrom-same               bounds that every match from others on is at or behind serve as well as those
 -- The proof of `best` is an induction on the variables. The first tuple that passes has the least first position x that any has. The meet of it
 -- and another one that passes has x in front too, so what stands behind x in the first tuple is at most what stands there in the meet.
 -- Assumes nothing.
@@ -390,14 +389,3 @@ module _ (lists : List (List ℕ)) (up : (l : ℕ) → rises (listOf lists l) �
         go : (o : Option (List ℕ)) → leastFrom lists d f bs ≡ o → leastFrom lists d f bs ≡ leastIn lists d f
         go none e = e ∙ sym (unfound-iff .1 (λ qs m. unfoundFrom-iff .0 e qs (m, low qs m)))
         go (some ps) e = let w = leastFrom-iff ps .0 e in e ∙ sym (least-iff ps .1 (record { matching = w .0 .0; least = λ qs m. w .1 qs (m, low qs m) }))
-
-  -- bounds that every match from bs on is at or behind serve as well as bs
-  pub leastFrom-same : (bs cs : List ℕ) → bs ⊑ cs → ((qs : List ℕ) → MatchFrom lists d f bs qs → cs ⊑ qs) → leastFrom lists d f bs ≡ leastFrom lists d f cs
-  leastFrom-same bs cs le low = go (leastFrom lists d f bs) refl
-    where
-      back : (qs : List ℕ) → MatchFrom lists d f cs qs → MatchFrom lists d f bs qs
-      back qs m = (m .0, λ x. let a = le x in let b = m .1 x in omega arith)
-
-      go : (o : Option (List ℕ)) → leastFrom lists d f bs ≡ o → leastFrom lists d f bs ≡ leastFrom lists d f cs
-      go none e = e ∙ sym (unfoundFrom-iff cs .1 (λ qs m. unfoundFrom-iff bs .0 e qs (back qs m)))
-      go (some ps) e = let w = leastFrom-iff bs ps .0 e in e ∙ sym (leastFrom-iff cs ps .1 ((w .0 .0, low ps (w .0)), λ qs m. w .1 qs (back qs m)))

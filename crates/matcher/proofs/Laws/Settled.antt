@@ -155,9 +155,6 @@ module _ (v p : List ℕ) (o : Outline) (doc : Document) (ats ends : List ℕ) (
   pub away-few : o .vars ≤ 8
   away-few = let e = w .entry .vars-are in let m = given v p (w .accepted) .well-made k′ (w .pattern) .most-vars in omega arith
 
-  pub away-pattern : k′ < 8
-  away-pattern = let a = w .pattern in let b = given v p (w .accepted) .most-patterns in omega arith
-
   pub away-found : r ≢ d′ → found (listsOf v) d′ (patternAt p k′) ≡ false
   away-found n = w .candidate .absent d′ (omega arith) (let f = w .candidate .from in omega arith)
 

@@ -35,9 +35,6 @@ module _ (v p : List ℕ) (ok : Accepted v p) (k d : ℕ) (ps : List ℕ) (h : k
   abbrev IsTrue : Type 0
   IsTrue = (length ps ≡ length (patternAt p k .vars)) × True (listsOf v) d (openFormula (patternAt p k)) ps
 
-  match : Bool
-  match = matchesAt (listsOf v) d (patternAt p k) ps
-
   -- positions that match stand in lists, so they are at most 65,535
   in-range : matchesAt (listsOf v) d (patternAt p k) ps ≡ true → (i : ℕ) → i < length ps → getD ps i 0 < limit
   in-range m i q =
