@@ -24,7 +24,6 @@ use Rattle.seq.proofs.Laws.Lists.{length-joined}
 use Rattle.seq.proofs.Laws.Totals.{total-add, total-ones, total-joined, total-map, total-same, total-ext}
 use Rattle.seq.proofs.Laws.Keep.{keep-append, keep-run-none, keep-run-all, length-keep, all-append, all-map, all-keep, all-first}
 use Rattle.seq.proofs.Laws.Numbers.{first-le, first-ge, first-at, first-before, length-run}
-use Rattle.seq.proofs.Laws.Runs.{run-getD}
 use Rattle.seq.proofs.Laws.Slices.{run-parts}
 use Rattle.block.specs.Bytes.{IsBytes}
 use Rattle.volume.specs.Layout.{offset, word, listCount, count, start, listsOf}

@@ -13,9 +13,9 @@ use mathlib.Core.Path.{_≡_, refl, sym, ap, ap₂, _∙_, fun-ext}
 use mathlib.Core.Bool.{false, cond}
 use mathlib.Core.Logic.{⊎-elim}
 use mathlib.Core.List.{List, [], _∷_, _++_, map, append-nil}
-use lib.ListN.{length, take, drop}
+use lib.ListN.{length, take}
 use lib.Dec.{ltb}
-use Rattle.seq.specs.Lists.{keep, all, total, joined, first}
+use Rattle.seq.specs.Lists.{keep, all, total, joined}
 use Rattle.seq.specs.Numbers.{firstFrom, run}
 use Rattle.seq.specs.Refusals.{Said, refused, answered, laid}
 use Rattle.seq.proofs.Laws.Tests.{below-or}

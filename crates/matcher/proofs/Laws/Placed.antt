@@ -3,7 +3,7 @@
 --     Voiced, voiced, voiced-list              what the VOICE row of a variable gives
 --     Placing, placing-first, placing-as, placing-next, placing-done     cursors that are set one by one
 -- Assumes nothing.
-use Prim.Native.Nat.{ℕ, zero, suc, _+_, _-_, _*_, _<_, _≤_}
+use Prim.Native.Nat.{ℕ, zero, suc, _+_, _-_, _<_, _≤_}
 use native.Mathlib.Nat.{zero-add, add-assoc}
 use native.Mathlib.Omega.{arith}
 use mathlib.Core.Path.{_≡_, refl, sym, ap, _∙_}

@@ -10,7 +10,6 @@ use Rattle.seq.specs.Lists.{elem}
 use Rattle.seq.specs.Refusals.{stageIn}
 use Rattle.volume.specs.Refusals.{VolumeApplies}
 use Rattle.volume.specs.Refusals as volume
-use Rattle.matcher.specs.Refusals as search
 use Rattle.plan.specs.Refusals.{PlanApplies, ofVolume, wrongLength, wrongForm, wrongList, ninth, wrongOrder, unfinished, planStages}
 
 volume-number : (v : List ℕ) (n q : ℕ) → VolumeApplies v n q → (1 ≤ n) × (n ≤ 8)

@@ -3,7 +3,7 @@
 --     from-search  it holds of all
 --     searched     what holds of every search over an accepted volume and plan, in every form of answer that tells what listing answers
 -- Assumes nothing.
-use Prim.Native.Nat.{ℕ, suc, _+_, _*_, _<_, _≤_, max}
+use Prim.Native.Nat.{ℕ, _+_, _*_, _<_, _≤_, max}
 use native.Mathlib.Nat.{le-div-iff-mul-le, one-mul, add-zero}
 use native.Mathlib.Omega.{arith}
 use mathlib.Core.Path.{_≡_, refl, sym, ap, ap₂, _∙_, subst}

@@ -6,7 +6,6 @@ use native.Mathlib.Omega.{arith}
 use mathlib.Core.Path.{sym, ap, _∙_}
 use denote.Ref.{now}
 use Rattle.plan.specs.Answers.{Sizes, saidChecked}
-use Rattle.plan.specs.Check.{verdict, sizes}
 use Rattle.plan.proofs.Laws.Check.{verdict-sizes}
 use Rattle.search.proofs.Laws.Listing.{refused-kept, start-kept, short-kept}
 use Rattle.search.proofs.Laws.Seen.{work-words}
