@@ -1,7 +1,6 @@
 -- The refusals of a volume and a plan, by their numbers. No contract cites this file.
 --     plan-number     they are 1 to 14
 --     plan-stage      they have the first ten stages
---     list-number     those of listing are 1 to 16
 -- Assumes nothing.
 use Prim.Native.Nat.{ℕ, _≤_}
 use native.Mathlib.Omega.{arith}

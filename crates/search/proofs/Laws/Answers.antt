@@ -1,7 +1,7 @@
 -- The laws of `specs/Answers.antt`: an answer is known from its number and values. No contract cites this file.
---     heardListed, heardTested       the answer with a number and values
---     heard-listed, heard-tested     what is heard is what was said
---     one-to-one                     no two answers are said alike
+--     heardListed      the answer with a number and values
+--     heard-listed     what is heard is what was said
+--     one-to-one       no two answers are said alike
 -- Assumes nothing.
 use Prim.Native.Nat.{ℕ}
 use mathlib.Core.Path.{_≡_, refl}

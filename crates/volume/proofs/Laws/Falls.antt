@@ -1,4 +1,4 @@
--- The laws of `specs/Falls.antt`: what has no falls rises. No contract cites this file.
+-- The laws of `specs/Inner/Falls.antt`: what has no falls rises. No contract cites this file.
 --     rise-run                                   a run without falls rises
 --     falls-again, falls-done                    a run rises exactly if no fall is counted in it
 --     fall-in-block, fall-last, falls-more       the falls of the stream, one by one
