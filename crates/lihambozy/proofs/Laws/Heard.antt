@@ -21,10 +21,10 @@ use Rattle.lihambozy.specs.Flat.{flatListing}
 use Rattle.lihambozy.specs.Search.{heard}
 
 module _ (a : Listing) where
-  pub heard-refused : a .refusal ≢ 0 → heard a ≡ refused (a .refusal) (a .at)
+  heard-refused : a .refusal ≢ 0 → heard a ≡ refused (a .refusal) (a .at)
   heard-refused h = rw (ne-eqb (a .refusal) 0 h)
 
-  pub heard-more : (t : ℕ) → a .refusal ≡ 0 → a .next ≡ t → t < limit → heard a ≡ answered (record { rows = a .rows; tally = a .tally; next = more t })
+  heard-more : (t : ℕ) → a .refusal ≡ 0 → a .next ≡ t → t < limit → heard a ≡ answered (record { rows = a .rows; tally = a .tally; next = more t })
   heard-more t h e l = rw (eq-eqb (a .refusal) 0 h, ne-eqb (a .next) limit (λ q. let z : ⊥ = omega arith in z)) (ap (λ (n : ℕ). answered (record { rows = a .rows; tally = a .tally; next = more n })) e)
 
 -- what is heard is what listing answers

@@ -127,7 +127,7 @@ module _ (v : List ℕ) (ok : Accepted v) (d : ℕ) (f : Pattern) (there : (x : 
     pub low-var : x < length (f .vars)
     low-var = let s = short .there in let e = size in omega arith
 
-    pub low-before : getD ps x 0 < b
+    low-before : getD ps x 0 < b
     low-before = let e = getD-take (length (f .vars)) ps x 0 low-var in let s = short .before in omega arith
 
     -- each match has variable x at b or behind
