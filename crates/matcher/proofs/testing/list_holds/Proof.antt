@@ -9,43 +9,58 @@ use Rattle.matcher.proofs.Laws.Testing.{span-stretch, span-small, list-
 use Rattle.matcher.proofs.testing.list_holds.Statement.{statement}
 use Rattle.matcher.proofs.testing.list_holds.Tie as tie
 
+-- the places that the answers speak of, each from the one behind it
+abbrev start-of : tie.After-list-span → tie.Start
+start-of c = c .before .before
+
+abbrev spanned-of : tie.After-advance-past → tie.After-list-span
+spanned-of c = c .before .before
+
 list-span-requires : tie.Need-list-span-requires
 list-span-requires c κs = (c .before .pre .0, c .before .pre .1 .0)
 
 add-end : tie.Need-add-end
 add-end c =
-    let a = c .before .before .before .args in
-    let p = c .before .before .before .pre in
+    let start = start-of (c .before) in
+    let a = start .args in
+    let p = start .pre in
     let s = c .before .list-span in
     let m = span-small (now (a .volume)) (p .0) (a .list) (p .1 .0) (s .result) (s .ensures) in
     omega arith
 
 advance-past-requires : tie.Need-advance-past-requires
 advance-past-requires c κs =
-    let a = c .before .before .before .args in
-    let p = c .before .before .before .pre in
+    let start = start-of (c .before) in
+    let a = start .args in
+    let p = start .pre in
     let s = c .before .list-span in
     span-stretch (now (a .volume)) (p .0) (a .list) (p .1 .0) (s .result) (s .ensures)
 
 returns : tie.Need-returns
 returns c =
-    let a = c .before .before .before .before .before .before .args in
-    let p = c .before .before .before .before .before .before .pre in
-    let s = c .before .before .before .before .list-span in
+    let spanned = spanned-of (c .before .before) in
+    let start = start-of spanned in
+    let a = start .args in
+    let p = start .pre in
+    let s = spanned .list-span in
     list-without (now (a .volume)) (p .0) (a .list) (p .1 .0) (s .result) (s .ensures) (a .doc) (a .pos) _ (p .1 .1 .1) (c .before .before .advance-past .ensures .0) (c .if1 .taken)
 
 sub-posting-at : tie.Need-sub-posting-at
 sub-posting-at c =
-    let a = c .before .before .before .before .before .before .args in
-    let p = c .before .before .before .before .before .before .pre in
-    let s = c .before .before .before .before .list-span in
+    let spanned = spanned-of (c .before .before) in
+    let start = start-of spanned in
+    let a = start .args in
+    let p = start .pre in
+    let s = spanned .list-span in
     list-passed (now (a .volume)) (p .0) (a .list) (p .1 .0) (s .result) (s .ensures) (a .doc) (a .pos) _ (p .1 .1 .1) (c .before .before .advance-past .ensures .0) (c .if1 .left) .0
 
 posting-at-requires : tie.Need-posting-at-requires
 posting-at-requires c κs =
-    let a = c .before .before .before .before .before .before .args in
-    let p = c .before .before .before .before .before .before .pre in
-    let s = c .before .before .before .before .list-span in
+    let spanned = spanned-of (c .before .before) in
+    let start = start-of spanned in
+    let a = start .args in
+    let p = start .pre in
+    let s = spanned .list-span in
     list-passed (now (a .volume)) (p .0) (a .list) (p .1 .0) (s .result) (s .ensures) (a .doc) (a .pos) _ (p .1 .1 .1) (c .before .before .advance-past .ensures .0) (c .if1 .left) .1
 
 cast-new : tie.Need-cast-new
@@ -60,10 +75,11 @@ new-requires c κs = search needs
 returns-2 : tie.Need-returns-2
 returns-2 c =
     let moved = c .before .before .before .before .before .before in
-    let start = moved .before .before .before .before in
+    let spanned = spanned-of moved in
+    let start = start-of spanned in
     let a = start .args in
     let p = start .pre in
-    let s = moved .before .before .list-span in
+    let s = spanned .list-span in
     let l = c .before .before .before .posting-at in
     ap (eqb (l .result .bits)) (ap (λ (r : Posting). r .bits) (c .before .before .new .ensures))
     ∙ list-with (now (a .volume)) (p .0) (a .list) (p .1 .0) (s .result) (s .ensures) (a .doc) (a .pos) _ (p .1 .1 .1) (moved .advance-past .ensures .0)
