@@ -1,3 +1,3 @@
 -- `Demands` proves the statements of `specs/Demands.antt`; `Laws` has the laws of `specs/`.
-pub mod Demands
+mod Demands
 pub mod Laws

@@ -1,3 +1,3 @@
 -- `Demands` proves the statement of `specs/Demands.antt`; `Laws` has the laws of `specs/`.
-pub mod Demands
-pub mod Laws
+mod Demands
+mod Laws

@@ -5,7 +5,7 @@
 --     Calls          one call of a search: the ways in which it may go
 --     Search, Whole  every search; demand 3 from its parts
 --     Answers        an answer is known from its number and values
---     Stages         the refusals of a volume and a plan, by their numbers
+--     Stages         the refusals of listing, by their numbers
 --     ListFirst      listing answers the first refusal that applies
 --     Align          how the cursors of a pattern leap to one document
 --     Walk           how each pattern is brought to the next document in which it can be found

@@ -1,12 +1,9 @@
 -- Document 01's number and values for each answer of the crate's calls. Assumes nothing.
 use Prim.Native.Nat.{ℕ}
-use mathlib.Core.Bool.{Bool}
 use Rattle.seq.specs.Refusals.{Said, refused, answered}
 use Rattle.plan.specs.Answers.{saidRefusal}
 use Rattle.search.specs.declared.answers.Listed.{Listed}
 use Rattle.search.specs.declared.answers.Listed.the-variants as listed
-use Rattle.matcher.specs.declared.answers.Tested.{Tested}
-use Rattle.matcher.specs.declared.answers.Tested.the-variants as tested
 
 -- DONE, or MORE and a document
 pub data Next : Type 0 where

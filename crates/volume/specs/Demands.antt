@@ -6,7 +6,7 @@
 --     Damage                                     one changed byte is found, in its block
 --     OneToOne                                   no two answers are told alike
 --     Sample                                     document 01's sample volume
-use Prim.Native.Nat.{ℕ, _+_, _*_, _/_, _<_, _≤_}
+use Prim.Native.Nat.{ℕ, _*_, _/_, _<_, _≤_}
 use mathlib.Core.Path.{_≡_}
 use mathlib.Core.Logic.{_⊎_, _≢_, _↔_}
 use mathlib.Core.List.{List, [], _∷_, _++_, map}

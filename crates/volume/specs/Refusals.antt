@@ -1,6 +1,6 @@
 -- Document 01's refusals as relations, one line for each number: refusal n applies at place p. The order in which a call tells
 -- them is the order of its stages, in a stage by place, at a place by number. Assumes nothing.
-use Prim.Native.Nat.{ℕ, _+_, _*_, _%_, _<_, _≤_}
+use Prim.Native.Nat.{ℕ, _*_, _%_, _<_, _≤_}
 use mathlib.Core.Path.{_≡_}
 use mathlib.Core.Logic.{_⊎_, _≢_}
 use mathlib.Core.List.{List, [], _∷_, _++_}

@@ -21,10 +21,10 @@ digit3 x = sym (div-div-eq-div-mul x 256 256)
 digit4 : (x : ℕ) → x / 16777216 ≡ x / 256 / 256 / 256
 digit4 x = sym (ap (λ (y : ℕ). y / 256) (div-div-eq-div-mul x 256 256) ∙ div-div-eq-div-mul x 65536 256)
 
-pub joined16 : (x : ℕ) → x < 65536 → x % 256 + 256 * (x / 256 % 256) ≡ x
+joined16 : (x : ℕ) → x < 65536 → x % 256 + 256 * (x / 256 % 256) ≡ x
 joined16 x h = omega arith
 
-pub joined32 : (x : ℕ) → x < 4294967296 → x % 256 + 256 * (x / 256 % 256) + 65536 * (x / 65536 % 256) + 16777216 * (x / 16777216 % 256) ≡ x
+joined32 : (x : ℕ) → x < 4294967296 → x % 256 + 256 * (x / 256 % 256) + 65536 * (x / 65536 % 256) + 16777216 * (x / 16777216 % 256) ≡ x
 joined32 x h = rw (digit3 x, digit4 x) (go (x / 256) refl (x / 256 / 256) refl (x / 256 / 256 / 256) refl)
   where
     go : (y : ℕ) → x / 256 ≡ y → (z : ℕ) → y / 256 ≡ z → (w : ℕ) → z / 256 ≡ w → x % 256 + 256 * (y % 256) + 65536 * (z % 256) + 16777216 * (w % 256) ≡ x
@@ -42,12 +42,12 @@ low a m h = omega arith
 high : (a m : ℕ) → a < 256 → (a + 256 * m) / 256 ≡ m
 high a m h = omega arith
 
-pub split16 : (a b : ℕ) → a < 256 → b < 256 → bytes16 (a + 256 * b) ≡ a ∷ b ∷ []
+split16 : (a b : ℕ) → a < 256 → b < 256 → bytes16 (a + 256 * b) ≡ a ∷ b ∷ []
 split16 a b ha hb =
     let e : (a + 256 * b) / 256 % 256 ≡ b = rw (high a b ha) (omega arith) in
     rw (low a b ha, e)
 
-pub split32 : (a b c d : ℕ) → a < 256 → b < 256 → c < 256 → d < 256 → bytes32 (a + 256 * b + 65536 * c + 16777216 * d) ≡ a ∷ b ∷ c ∷ d ∷ []
+split32 : (a b c d : ℕ) → a < 256 → b < 256 → c < 256 → d < 256 → bytes32 (a + 256 * b + 65536 * c + 16777216 * d) ≡ a ∷ b ∷ c ∷ d ∷ []
 split32 a b c d ha hb hc hd =
     let e : a + 256 * b + 65536 * c + 16777216 * d ≡ a + 256 * (b + 256 * (c + 256 * d)) = omega arith in
     rw e (go (a + 256 * (b + 256 * (c + 256 * d))) refl)
@@ -64,10 +64,10 @@ split32 a b c d ha hb hc hd =
         rw (e0, e1, e2, e3)
 
 -- an element behind o, by the rest from o
-pub at-drop : (v zs : List ℕ) (o j : ℕ) → drop o v ≡ zs → getD v (o + j) 0 ≡ getD zs j 0
+at-drop : (v zs : List ℕ) (o j : ℕ) → drop o v ≡ zs → getD v (o + j) 0 ≡ getD zs j 0
 at-drop v zs o j e = sym (getD-drop o v j 0) ∙ ap (λ (l : List ℕ). getD l j 0) e
 
-pub at-here : (v zs : List ℕ) (o : ℕ) → drop o v ≡ zs → getD v o 0 ≡ getD zs 0 0
+at-here : (v zs : List ℕ) (o : ℕ) → drop o v ≡ zs → getD v o 0 ≡ getD zs 0 0
 at-here v zs o e = rw add-zero at (at-drop v zs o 0 e)
 
 -- a number stored at o is read there
@@ -79,7 +79,7 @@ le32-at v ys o x h e =
     rw (at-here v (bytes32 x ++ ys) o e, at-drop v (bytes32 x ++ ys) o 1 e, at-drop v (bytes32 x ++ ys) o 2 e, at-drop v (bytes32 x ++ ys) o 3 e) (joined32 x h)
 
 -- the rest from o, by its first elements
-pub drop-two : (v : List ℕ) (o : ℕ) → o + 2 ≤ length v → drop o v ≡ getD v o 0 ∷ getD v (o + 1) 0 ∷ drop (o + 2) v
+drop-two : (v : List ℕ) (o : ℕ) → o + 2 ≤ length v → drop o v ≡ getD v o 0 ∷ getD v (o + 1) 0 ∷ drop (o + 2) v
 drop-two v o h =
     rw (add-one o, add-two o)
     (drop-cons v o 0 (omega arith) ∙ ap (λ (l : List ℕ). getD v o 0 ∷ l) (drop-cons v (suc o) 0 (omega arith)))

@@ -13,12 +13,12 @@ use Rattle.block.specs.Checksum.{sumA, sumB, checkA, checkB}
 use Rattle.seq.specs.Lists.{total}
 use Rattle.block.specs.Inner.Sums.{tot, weigh}
 
-pub sumA-late : (a : ℕ) (xs : List ℕ) → sumA (a % 65535) xs ≡ (a + tot xs) % 65535
+sumA-late : (a : ℕ) (xs : List ℕ) → sumA (a % 65535) xs ≡ (a + tot xs) % 65535
 unfolding sumA total
 sumA-late a [] = rw (add-zero a)
 sumA-late a (x ∷ xs) = rw (mod-add-mod a 65535 x, sumA-late (a + x) xs, add-assoc a x (tot xs))
 
-pub sumB-late : (a b : ℕ) (xs : List ℕ) → sumB (a % 65535) (b % 65535) xs ≡ (b + a * length xs + weigh xs) % 65535
+sumB-late : (a b : ℕ) (xs : List ℕ) → sumB (a % 65535) (b % 65535) xs ≡ (b + a * length xs + weigh xs) % 65535
 unfolding sumB weigh
 sumB-late a b [] = ap (λ (n : ℕ). n % 65535) (omega arith)
 sumB-late a b (x ∷ xs) =

@@ -1,4 +1,4 @@
--- The laws of `specs/Sums.antt`. No contract cites this file.
+-- The laws of `specs/Inner/Sums.antt`. No contract cites this file.
 --     columns-plus, slope-plus, atMost-plus, atMost-up, room-of     two rows added: their sums, bounds and room
 --     tot-row, weigh-row                                            eight bytes of a list, as a row, in front of the rest
 --     rows-first, rows-again                                        `Rows` with no row, and with one more

@@ -1,7 +1,7 @@
 -- The words of a row, and the postings of a stretch of documents. No contract cites this file.
 --     length-least            the least match has a position for each variable
 --     even                    a row has as many words as the work's width
---     count-none, count-add, count-run, count-all     a list's postings in a stretch of none, in two stretches, in all documents
+--     count-add, count-run    a list's postings in two stretches, in all documents
 --     postings-none, postings-add          the same of all variables' lists
 --     work-even, work-wide, work-add, work-none     the same of a plan over a volume
 --     whole                   all postings of a plan's variables
@@ -24,7 +24,6 @@ use Rattle.seq.proofs.Laws.Lists.{length-joined}
 use Rattle.seq.proofs.Laws.Totals.{total-add, total-ones, total-joined, total-map, total-same, total-ext}
 use Rattle.seq.proofs.Laws.Keep.{keep-append, keep-run-none, keep-run-all, length-keep, all-append, all-map, all-keep, all-first}
 use Rattle.seq.proofs.Laws.Numbers.{first-le, first-ge, first-at, first-before, length-run}
-use Rattle.seq.proofs.Laws.Runs.{run-getD}
 use Rattle.seq.proofs.Laws.Slices.{run-parts}
 use Rattle.block.specs.Bytes.{IsBytes}
 use Rattle.volume.specs.Layout.{offset, word, listCount, count, start, listsOf}
@@ -62,7 +61,7 @@ length-tuples [] = refl
 length-tuples (l ∷ vs) = each-longer (length vs) l (tuples vs) (length-tuples vs)
 
 -- a pattern's least match has a position for each variable
-pub length-least : (lists : List (List ℕ)) (d : ℕ) (f : Pattern) (ps : List ℕ) → leastIn lists d f ≡ some ps → length ps ≡ length (f .vars)
+length-least : (lists : List (List ℕ)) (d : ℕ) (f : Pattern) (ps : List ℕ) → leastIn lists d f ≡ some ps → length ps ≡ length (f .vars)
 unfolding leastIn matches
 length-least lists d f ps e =
     let vs = varsIn lists d (f .vars) in
@@ -79,7 +78,7 @@ length-shown lists d f = go (leastIn lists d f) refl
     go (some ps) e = let l = length-least lists d f ps e in omega arith
 
 -- every row has the work's width
-pub even : (lists : List (List ℕ)) (rows : List Row) (d : ℕ) → length (workOf lists rows .rowOf d) ≡ workOf lists rows .width
+even : (lists : List (List ℕ)) (rows : List Row) (d : ℕ) → length (workOf lists rows .rowOf d) ≡ workOf lists rows .width
 unfolding workOf rowIn
 even lists rows d =
     let fs = patternsOf rows in
@@ -121,38 +120,28 @@ within-add a b c d h l =
     (below-or d b))
     (below-or d a)
 
-pub count-add : (a b c : ℕ) (l : List ℕ) → a ≤ b → b ≤ c → countIn a b l + countIn b c l ≡ countIn a c l
+count-add : (a b c : ℕ) (l : List ℕ) → a ≤ b → b ≤ c → countIn a b l + countIn b c l ≡ countIn a c l
 count-add a b c l h k =
     ap₂ (λ (x y : ℕ). x + y) (count-ones a b l) (count-ones b c l)
     ∙ total-add (ones a b) (ones b c) l
     ∙ total-ext (λ p. ones a b p + ones b c p) (ones a c) l (λ p. within-add a b c (docOf p) h k)
     ∙ sym (count-ones a c l)
 
-pub count-none : (a : ℕ) (l : List ℕ) → countIn a a l ≡ 0
-count-none a l = let e = count-add a a a l (omega arith) (omega arith) in omega arith
-
 -- a list whose postings are words
-pub count-run : (f : ℕ → ℕ) (k m : ℕ) → ((j : ℕ) → f j < 4294967296) → countIn 0 limit (run f k m) ≡ m
+count-run : (f : ℕ → ℕ) (k m : ℕ) → ((j : ℕ) → f j < 4294967296) → countIn 0 limit (run f k m) ≡ m
 unfolding countIn
 count-run f k m small =
     ap length (keep-run-all (λ p. within 0 limit (docOf p)) f k m (λ j h l. let s = small j in in-within 0 limit (docOf (f j)) (omega arith) (omega arith)))
     ∙ length-run f k m
 
-pub count-all : (l : List ℕ) → ((i : ℕ) → i < length l → getD l i 0 < 4294967296) → countIn 0 limit l ≡ length l
-unfolding countIn
-count-all l small =
-    ap (λ (xs : List ℕ). countIn 0 limit xs) (sym (run-getD 0 l))
-    ∙ ap length (keep-run-all (λ p. within 0 limit (docOf p)) (λ i. getD l i 0) 0 (length l) (λ j h k. let s = small j (omega arith) in in-within 0 limit (docOf (getD l j 0)) (omega arith) (omega arith)))
-    ∙ length-run (λ i. getD l i 0) 0 (length l)
-
 module _ (lists : List (List ℕ)) (rows : List Row) where
-  pub postings-add : (a b c : ℕ) → a ≤ b → b ≤ c → postingsIn lists rows a b + postingsIn lists rows b c ≡ postingsIn lists rows a c
+  postings-add : (a b c : ℕ) → a ≤ b → b ≤ c → postingsIn lists rows a b + postingsIn lists rows b c ≡ postingsIn lists rows a c
   unfolding postingsIn
   postings-add a b c h k =
       total-add (λ l. countIn a b (listOf lists l)) (λ l. countIn b c (listOf lists l)) (varsOf rows)
       ∙ total-ext (λ l. countIn a b (listOf lists l) + countIn b c (listOf lists l)) (λ l. countIn a c (listOf lists l)) (varsOf rows) (λ l. count-add a b c (listOf lists l) h k)
 
-  pub postings-none : (a : ℕ) → postingsIn lists rows a a ≡ 0
+  postings-none : (a : ℕ) → postingsIn lists rows a a ≡ 0
   postings-none a = let e = postings-add a a a (omega arith) (omega arith) in omega arith
 
 -- a plan over a volume
@@ -196,26 +185,26 @@ abbrev pub indexOf : (ℕ → ℕ) → ℕ → ℕ → ℕ → ℕ
 indexOf w s e d = firstFrom (λ i. leb (d * 65536) (w i)) s (e - s)
 
 module _ (w : ℕ → ℕ) (s e : ℕ) (h : s ≤ e) (up : (j k : ℕ) → s ≤ j → j < k → k < e → w j < w k) where
-  pub index-ge : (d : ℕ) → s ≤ indexOf w s e d
+  index-ge : (d : ℕ) → s ≤ indexOf w s e d
   index-ge d = first-ge (λ i. leb (d * 65536) (w i)) s (e - s)
 
-  pub index-le : (d : ℕ) → indexOf w s e d ≤ e
+  index-le : (d : ℕ) → indexOf w s e d ≤ e
   index-le d = let a = first-le (λ i. leb (d * 65536) (w i)) s (e - s) in omega arith
 
   -- postings before the index are of documents below d, those from it on are not
-  pub before-index : (d j : ℕ) → s ≤ j → j < indexOf w s e d → w j < d * 65536
+  before-index : (d j : ℕ) → s ≤ j → j < indexOf w s e d → w j < d * 65536
   before-index d j a b = leb-false (d * 65536) (w j) (first-before (λ i. leb (d * 65536) (w i)) s (e - s) j a b)
 
   at-index : (d : ℕ) → indexOf w s e d < e → d * 65536 ≤ w (indexOf w s e d)
   at-index d a = leb-true (d * 65536) (w (indexOf w s e d)) (first-at (λ i. leb (d * 65536) (w i)) s (e - s) (omega arith))
 
-  pub from-index : (d j : ℕ) → indexOf w s e d ≤ j → j < e → d * 65536 ≤ w j
+  from-index : (d j : ℕ) → indexOf w s e d ≤ j → j < e → d * 65536 ≤ w j
   from-index d j a b =
       ⊎-elim (λ (x : indexOf w s e d < j). let c = at-index d (omega arith) in let l = up (indexOf w s e d) j (index-ge d) x b in omega arith)
       (λ (x : j ≤ indexOf w s e d). let q : indexOf w s e d ≡ j = omega arith in rw q at (at-index d (omega arith)))
       (below-or (indexOf w s e d) j)
 
-  pub index-mono : (a b : ℕ) → a ≤ b → indexOf w s e a ≤ indexOf w s e b
+  index-mono : (a b : ℕ) → a ≤ b → indexOf w s e a ≤ indexOf w s e b
   index-mono a b l =
       ⊎-elim (λ (x : indexOf w s e b < indexOf w s e a).
       let y = index-le a in

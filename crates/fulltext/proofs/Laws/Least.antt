@@ -12,7 +12,6 @@
 --     reaches-decides              a test of `⊑`
 --     leastFrom-iff, unfoundFrom-iff        the least match that stands at bounds or behind, and whether there is one
 --     leastFrom-all                where every match stands there, it is the least of all
---     leastFrom-same               bounds that every match from others on is at or behind serve as well as those
 -- The proof of `best` is an induction on the variables. The first tuple that passes has the least first position x that any has. The meet of it
 -- and another one that passes has x in front too, so what stands behind x in the first tuple is at most what stands there in the meet.
 -- Assumes nothing.
@@ -20,7 +19,7 @@ use Prim.Native.Nat.{ℕ, zero, suc, min, _<_, _≤_}
 use native.Mathlib.Omega.{arith}
 use mathlib.Core.Path.{_≡_, refl, sym, ap, _∙_, subst}
 use mathlib.Core.Bool.{Bool, true, false, _&&_, true≢false}
-use mathlib.Core.Logic.{_⊎_, ⊎-elim, _↔_}
+use mathlib.Core.Logic.{⊎-elim, _↔_}
 use mathlib.Core.List.{List, [], _∷_, _++_, map}
 use mathlib.Core.Option.{Option, none, some}
 use lib.ListN.{length, getD}
@@ -53,7 +52,7 @@ fits-length [] (p ∷ ps) e = absurd (true≢false (sym e))
 fits-length (l ∷ vs) [] e = absurd (true≢false (sym e))
 fits-length (l ∷ vs) (p ∷ ps) e = ap suc (fits-length vs ps (both (elem p l) (fits vs ps) e .1))
 
-pub match-length : (ss : List ℕ) (vs : List (List ℕ)) (cs : List Predicate) (ps : List ℕ) → isMatch ss vs cs ps ≡ true → length ps ≡ length vs
+match-length : (ss : List ℕ) (vs : List (List ℕ)) (cs : List Predicate) (ps : List ℕ) → isMatch ss vs cs ps ≡ true → length ps ≡ length vs
 match-length ss vs cs ps e = fits-length vs ps (both (fits vs ps) (allHold ss cs ps) e .0)
 
 -- the lesser of two elements is an element
@@ -208,15 +207,15 @@ module _ (ss : List ℕ) (vs : List (List ℕ)) (cs : List Predicate) (up : Rise
   unfolding matches
   best-match o e = subst (Best (allHold ss cs) vs) e (best (allHold ss cs) (allHold-meet ss cs) vs up)
 
-  pub least-is : (ps : List ℕ) → first (matches ss vs cs) ≡ some ps → (isMatch ss vs cs ps ≡ true) × ((qs : List ℕ) → isMatch ss vs cs qs ≡ true → ps ⊑ qs)
+  least-is : (ps : List ℕ) → first (matches ss vs cs) ≡ some ps → (isMatch ss vs cs ps ≡ true) × ((qs : List ℕ) → isMatch ss vs cs qs ≡ true → ps ⊑ qs)
   least-is ps e =
       let b = best-match (some ps) e in
       (both-true (fits vs ps) (allHold ss cs ps) (b .0 .0) (b .0 .1), λ qs m. let w = both (fits vs qs) (allHold ss cs qs) m in b .1 qs (w .0) (w .1))
 
-  pub none-is : first (matches ss vs cs) ≡ none → (ps : List ℕ) → isMatch ss vs cs ps ≡ true → ⊥
+  none-is : first (matches ss vs cs) ≡ none → (ps : List ℕ) → isMatch ss vs cs ps ≡ true → ⊥
   none-is e ps m = let w = both (fits vs ps) (allHold ss cs ps) m in best-match none e ps (w .0) (w .1)
 
-  pub least-unique : (ps : List ℕ) → isMatch ss vs cs ps ≡ true → ((qs : List ℕ) → isMatch ss vs cs qs ≡ true → ps ⊑ qs) → first (matches ss vs cs) ≡ some ps
+  least-unique : (ps : List ℕ) → isMatch ss vs cs ps ≡ true → ((qs : List ℕ) → isMatch ss vs cs qs ≡ true → ps ⊑ qs) → first (matches ss vs cs) ≡ some ps
   least-unique ps m le = go (first (matches ss vs cs)) refl
     where
       go : (o : Option (List ℕ)) → first (matches ss vs cs) ≡ o → first (matches ss vs cs) ≡ some ps
@@ -226,7 +225,7 @@ module _ (ss : List ℕ) (vs : List (List ℕ)) (cs : List Predicate) (up : Rise
           let n : length qs ≡ length ps = match-length ss vs cs qs (w .0) ∙ sym (match-length ss vs cs ps m) in
           e ∙ ap some (ext-getD 0 qs ps n (λ x l. omega (arith, w .1 ps m x, le qs (w .0) x)))
 
-  pub none-unique : ((ps : List ℕ) → isMatch ss vs cs ps ≡ true → ⊥) → first (matches ss vs cs) ≡ none
+  none-unique : ((ps : List ℕ) → isMatch ss vs cs ps ≡ true → ⊥) → first (matches ss vs cs) ≡ none
   none-unique n = go (first (matches ss vs cs)) refl
     where
       go : (o : Option (List ℕ)) → first (matches ss vs cs) ≡ o → first (matches ss vs cs) ≡ none
@@ -234,7 +233,7 @@ module _ (ss : List ℕ) (vs : List (List ℕ)) (cs : List Predicate) (up : Rise
       go (some qs) e = absurd (n qs (least-is qs e .0))
 
 -- a test of `⊑`
-pub reaches-decides : (bs qs : List ℕ) → Decides (reaches bs qs) (bs ⊑ qs)
+reaches-decides : (bs qs : List ℕ) → Decides (reaches bs qs) (bs ⊑ qs)
 unfolding reaches
 reaches-decides [] qs = record { yes = λ e x. omega arith; no = λ e h. true≢false e }
 reaches-decides (b ∷ bs) [] = same-decides (and-decides (eqb-decides b 0) (reaches-decides bs [])) (λ h. each (h .0) (h .1)) (λ h. (omega (arith, h 0), λ x. h (suc x)))
@@ -276,7 +275,7 @@ module _ (ss : List ℕ) (vs : List (List ℕ)) (cs : List Predicate) (up : Rise
   unfolding matches
   best-from o e = subst (Best both-test vs) (sym (ap first (keep-keep (λ ps. allHold ss cs ps) (reaches bs) (tuples vs))) ∙ e) (best both-test both-meet vs up)
 
-  pub from-least : (ps : List ℕ) → first (keep (reaches bs) (matches ss vs cs)) ≡ some ps → ((isMatch ss vs cs ps ≡ true) × (bs ⊑ ps)) × ((qs : List ℕ) → (isMatch ss vs cs qs ≡ true) × (bs ⊑ qs) → ps ⊑ qs)
+  from-least : (ps : List ℕ) → first (keep (reaches bs) (matches ss vs cs)) ≡ some ps → ((isMatch ss vs cs ps ≡ true) × (bs ⊑ ps)) × ((qs : List ℕ) → (isMatch ss vs cs qs ≡ true) × (bs ⊑ qs) → ps ⊑ qs)
   from-least ps e =
       let b = best-from (some ps) e in
       let t = both (allHold ss cs ps) (reaches bs ps) (b .0 .1) in (
@@ -284,12 +283,12 @@ module _ (ss : List ℕ) (vs : List (List ℕ)) (cs : List Predicate) (up : Rise
         λ qs m. let w = both (fits vs qs) (allHold ss cs qs) (m .0) in b .1 qs (w .0) (both-true (allHold ss cs qs) (reaches bs qs) (w .1) (decides.holds (reaches-decides bs qs) (m .1))),
       )
 
-  pub from-none : first (keep (reaches bs) (matches ss vs cs)) ≡ none → (qs : List ℕ) → (isMatch ss vs cs qs ≡ true) × (bs ⊑ qs) → ⊥
+  from-none : first (keep (reaches bs) (matches ss vs cs)) ≡ none → (qs : List ℕ) → (isMatch ss vs cs qs ≡ true) × (bs ⊑ qs) → ⊥
   from-none e qs m =
       let w = both (fits vs qs) (allHold ss cs qs) (m .0) in
       best-from none e qs (w .0) (both-true (allHold ss cs qs) (reaches bs qs) (w .1) (decides.holds (reaches-decides bs qs) (m .1)))
 
-  pub from-least-unique : (ps : List ℕ) → (isMatch ss vs cs ps ≡ true) × (bs ⊑ ps) → ((qs : List ℕ) → (isMatch ss vs cs qs ≡ true) × (bs ⊑ qs) → ps ⊑ qs) → first (keep (reaches bs) (matches ss vs cs)) ≡ some ps
+  from-least-unique : (ps : List ℕ) → (isMatch ss vs cs ps ≡ true) × (bs ⊑ ps) → ((qs : List ℕ) → (isMatch ss vs cs qs ≡ true) × (bs ⊑ qs) → ps ⊑ qs) → first (keep (reaches bs) (matches ss vs cs)) ≡ some ps
   from-least-unique ps m le = go (first (keep (reaches bs) (matches ss vs cs))) refl
     where
       go : (o : Option (List ℕ)) → first (keep (reaches bs) (matches ss vs cs)) ≡ o → first (keep (reaches bs) (matches ss vs cs)) ≡ some ps
@@ -299,7 +298,7 @@ module _ (ss : List ℕ) (vs : List (List ℕ)) (cs : List Predicate) (up : Rise
           let n : length qs ≡ length ps = match-length ss vs cs qs (w .0 .0) ∙ sym (match-length ss vs cs ps (m .0)) in
           e ∙ ap some (ext-getD 0 qs ps n (λ x l. omega (arith, w .1 ps m x, le qs (w .0) x)))
 
-  pub from-none-unique : ((qs : List ℕ) → (isMatch ss vs cs qs ≡ true) × (bs ⊑ qs) → ⊥) → first (keep (reaches bs) (matches ss vs cs)) ≡ none
+  from-none-unique : ((qs : List ℕ) → (isMatch ss vs cs qs ≡ true) × (bs ⊑ qs) → ⊥) → first (keep (reaches bs) (matches ss vs cs)) ≡ none
   from-none-unique n = go (first (keep (reaches bs) (matches ss vs cs))) refl
     where
       go : (o : Option (List ℕ)) → first (keep (reaches bs) (matches ss vs cs)) ≡ o → first (keep (reaches bs) (matches ss vs cs)) ≡ none
@@ -308,7 +307,7 @@ module _ (ss : List ℕ) (vs : List (List ℕ)) (cs : List Predicate) (up : Rise
 
 -- of a volume's lists and a pattern's variables
 module _ (lists : List (List ℕ)) (d : ℕ) where
-  pub vars-rise : ((l : ℕ) → rises (listOf lists l) ≡ true) → (vars : List ℕ) → Rise (varsIn lists d vars)
+  vars-rise : ((l : ℕ) → rises (listOf lists l) ≡ true) → (vars : List ℕ) → Rise (varsIn lists d vars)
   unfolding rises
   vars-rise up [] x = refl
   vars-rise up (l ∷ vars) zero = positions-rise d (listOf lists l) (up l)
@@ -390,14 +389,3 @@ module _ (lists : List (List ℕ)) (up : (l : ℕ) → rises (listOf lists l) �
         go : (o : Option (List ℕ)) → leastFrom lists d f bs ≡ o → leastFrom lists d f bs ≡ leastIn lists d f
         go none e = e ∙ sym (unfound-iff .1 (λ qs m. unfoundFrom-iff .0 e qs (m, low qs m)))
         go (some ps) e = let w = leastFrom-iff ps .0 e in e ∙ sym (least-iff ps .1 (record { matching = w .0 .0; least = λ qs m. w .1 qs (m, low qs m) }))
-
-  -- bounds that every match from bs on is at or behind serve as well as bs
-  pub leastFrom-same : (bs cs : List ℕ) → bs ⊑ cs → ((qs : List ℕ) → MatchFrom lists d f bs qs → cs ⊑ qs) → leastFrom lists d f bs ≡ leastFrom lists d f cs
-  leastFrom-same bs cs le low = go (leastFrom lists d f bs) refl
-    where
-      back : (qs : List ℕ) → MatchFrom lists d f cs qs → MatchFrom lists d f bs qs
-      back qs m = (m .0, λ x. let a = le x in let b = m .1 x in omega arith)
-
-      go : (o : Option (List ℕ)) → leastFrom lists d f bs ≡ o → leastFrom lists d f bs ≡ leastFrom lists d f cs
-      go none e = e ∙ sym (unfoundFrom-iff cs .1 (λ qs m. unfoundFrom-iff bs .0 e qs (back qs m)))
-      go (some ps) e = let w = leastFrom-iff bs ps .0 e in e ∙ sym (leastFrom-iff cs ps .1 ((w .0 .0, low ps (w .0)), λ qs m. w .1 qs (back qs m)))

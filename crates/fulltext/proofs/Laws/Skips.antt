@@ -72,7 +72,7 @@ module _ (test : Pattern → Bool) where
       go (kind.Operator o) g rest = rest g (operate-none o bs e)
 
   -- where no pattern is found the plan's answer is no
-  pub answer-none : (rows : List Row) → NoneOf (patternsOf rows) → answer test rows ≡ false
+  answer-none : (rows : List Row) → NoneOf (patternsOf rows) → answer test rows ≡ false
   unfolding answer all
   answer-none rows h = last (answersFrom test noRow [] rows) (answers-none noRow [] rows h refl)
     where
@@ -98,7 +98,7 @@ tuples-none [] i h e = absurd (let z : ⊥ = omega arith in z)
 tuples-none (l ∷ vs) zero h e = ap (λ (ps : List ℕ). withEach ps (tuples vs)) e
 tuples-none (l ∷ vs) (suc i) h e = ap (withEach l) (tuples-none vs i (omega arith) e) ∙ each-none l
 
-pub found-none : (lists : List (List ℕ)) (d : ℕ) (f : Pattern) (i : ℕ) → i < length (f .vars) → positionsIn d (listOf lists (getD (f .vars) i 0)) ≡ [] → found lists d f ≡ false
+found-none : (lists : List (List ℕ)) (d : ℕ) (f : Pattern) (i : ℕ) → i < length (f .vars) → positionsIn d (listOf lists (getD (f .vars) i 0)) ≡ [] → found lists d f ≡ false
 unfolding found leastIn matches keep
 found-none lists d f i h e =
     let vs = varsIn lists d (f .vars) in
@@ -111,7 +111,7 @@ found-none lists d f i h e =
     nth (x ∷ xs) (suc j) l = nth xs j (omega arith)
 
 -- a list with no postings from document a up to b has no position in a document there
-pub positions-none : (a b d : ℕ) (l : List ℕ) → a ≤ d → d < b → countIn a b l ≡ 0 → positionsIn d l ≡ []
+positions-none : (a b d : ℕ) (l : List ℕ) → a ≤ d → d < b → countIn a b l ≡ 0 → positionsIn d l ≡ []
 unfolding positionsIn countIn keep
 positions-none a b d [] h k e = refl
 positions-none a b d (p ∷ ps) h k e = go (within (docOf p)) refl (positions-none a b d ps h k) e

@@ -1,15 +1,13 @@
 -- A struct tells the answer that it was made from. No contract cites this file.
---     heard-refused, heard-done, heard-more     by its fields
+--     heard-refused, heard-more     by its fields
 --     heard-flat         what is heard is what listing answers
 -- Assumes nothing.
 use Prim.Native.Nat.{ℕ, _<_}
 use native.Mathlib.Omega.{arith}
 use mathlib.Core.Path.{_≡_, refl, ap}
-use mathlib.Core.Bool.{cond}
 use mathlib.Core.Logic.{_≢_}
 use mathlib.Core.List.{List}
 use lib.ListN.{length}
-use lib.Dec.{eqb}
 use borrow.Author.Tests.{eq-eqb, ne-eqb}
 use Rattle.seq.specs.Refusals.{Said, refused, answered}
 use Rattle.fulltext.specs.Positions.{limit}
@@ -23,13 +21,10 @@ use Rattle.lihambozy.specs.Flat.{flatListing}
 use Rattle.lihambozy.specs.Search.{heard}
 
 module _ (a : ListAnswer) where
-  pub heard-refused : a .refusal ≢ 0 → heard a ≡ refused (a .refusal) (a .at)
+  heard-refused : a .refusal ≢ 0 → heard a ≡ refused (a .refusal) (a .at)
   heard-refused h = rw (ne-eqb (a .refusal) 0 h)
 
-  pub heard-done : a .refusal ≡ 0 → a .next ≡ limit → heard a ≡ answered (record { rows = a .rows; tally = a .tally; next = done })
-  heard-done h e = rw (eq-eqb (a .refusal) 0 h, eq-eqb (a .next) limit e)
-
-  pub heard-more : (t : ℕ) → a .refusal ≡ 0 → a .next ≡ t → t < limit → heard a ≡ answered (record { rows = a .rows; tally = a .tally; next = more t })
+  heard-more : (t : ℕ) → a .refusal ≡ 0 → a .next ≡ t → t < limit → heard a ≡ answered (record { rows = a .rows; tally = a .tally; next = more t })
   heard-more t h e l = rw (eq-eqb (a .refusal) 0 h, ne-eqb (a .next) limit (λ q. let z : ⊥ = omega arith in z)) (ap (λ (n : ℕ). answered (record { rows = a .rows; tally = a .tally; next = more n })) e)
 
 -- what is heard is what listing answers

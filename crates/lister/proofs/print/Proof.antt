@@ -44,8 +44,9 @@ slice-aggregate-write-turn c =
 
 write-turn-requires : tie.Need-write-turn-requires Inv-loop μ-loop
 write-turn-requires c κs =
-    let l = c .before .before .before .before .before .before .before .loop in
-    let t = c .before .before .before .before .before .turn-text in
+    let text = c .before .before .before .before .before in
+    let l = text .before .before .loop in
+    let t = text .turn-text in
     let g = c .before .before .turn .given in
     (l .inv .3, told-last (t .ensures .0) (g .0 .0) (g .1))
 
@@ -66,8 +67,9 @@ slice-aggregate-write-turn-2 c =
 
 write-turn-requires-2 : tie.Need-write-turn-requires-2 Inv-loop μ-loop
 write-turn-requires-2 c κs =
-    let l = c .before .before .before .before .before .before .before .loop in
-    let t = c .before .before .before .before .before .turn-text in
+    let text = c .before .before .before .before .before in
+    let l = text .before .before .loop in
+    let t = text .turn-text in
     let g = c .before .before .turn2 .given in
     (l .inv .3, told-next (t .ensures .0) (g .0 .0) (g .0 .1 .0) (g .0 .1 .1 .0) (g .1) .0)
 
@@ -76,16 +78,20 @@ returns-2 c = tt
 
 loop-less : tie.Need-loop-less Inv-loop μ-loop
 loop-less c =
-    let a = rw (c .before .before .before .before .turn2 .given .1) at (c .before .before .before .before .before .before .before .turn-text .ensures .1) in
+    let more = c .before .before .before .before in
+    let a = rw (more .turn2 .given .1) at (more .before .before .before .turn-text .ensures .1) in
     omega (arith, a .1 .0, a .1 .1 .0)
 
 loop-again : tie.Need-loop-again Inv-loop μ-loop
 loop-again c =
-    let a = rw (c .before .before .before .before .turn2 .given .1) at (c .before .before .before .before .before .before .before .turn-text .ensures .1) in
-    let s = c .before .before .before .before .before .before .before .before .before .before .before .before .args in
-    let l = c .before .before .before .before .before .before .before .before .before .loop in
-    let t = c .before .before .before .before .before .before .before .turn-text in
-    let g = c .before .before .before .before .turn2 .given in
+    let more = c .before .before .before .before in
+    let text = more .before .before .before in
+    let turn = text .before .before in
+    let a = rw (more .turn2 .given .1) at (text .turn-text .ensures .1) in
+    let s = turn .before .before .before .args in
+    let l = turn .loop in
+    let t = text .turn-text in
+    let g = more .turn2 .given in
     let came = came-next (now (s .volume)) (now (s .file)) (l .inv .3 .0) (l .from) (l .tally) (l .inv .3 .1) (t .ensures .0) (g .0 .0) (g .0 .1 .0) (g .0 .1 .1 .0) (g .1) in
     (a .1 .1 .0, a .1 .1 .1, omega arith, (_, came))
 

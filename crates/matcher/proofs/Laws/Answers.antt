@@ -1,5 +1,4 @@
 -- An answer is known from its number and values. No contract cites this file. Assumes nothing.
-use Prim.Native.Nat.{ℕ}
 use mathlib.Core.Path.{_≡_, refl}
 use mathlib.Core.Bool.{Bool, cond}
 use lib.Dec.{eqb}

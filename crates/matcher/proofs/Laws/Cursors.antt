@@ -11,7 +11,7 @@ use Prim.Native.Nat.{ℕ, zero, suc, _+_, _-_, _<_, _≤_}
 use native.Mathlib.Omega.{arith}
 use mathlib.Core.Path.{_≡_, refl, ap}
 use mathlib.Core.List.{List}
-use mathlib.Core.Logic.{_⊎_, ⊎-elim}
+use mathlib.Core.Logic.{⊎-elim}
 use lib.Dec.{leb}
 use borrow.Author.Tests.{leb-true, leb-false, lt-ltb, le-ltb}
 use Rattle.seq.specs.Numbers.{sumTo}
@@ -39,7 +39,7 @@ module _ (v : List ℕ) (target i e : ℕ) where
   unfolding seekFrom
   seek-below j h l = leb-false target _ (first-before (λ j. leb target (word v j)) i (e - i) j h l)
 
-  pub seek-is : (k : ℕ) → i ≤ k → k ≤ e → ((j : ℕ) → i ≤ j → j < k → word v j < target) → (k < e → target ≤ word v k) → seekFrom v target i e ≡ k
+  seek-is : (k : ℕ) → i ≤ k → k ≤ e → ((j : ℕ) → i ≤ j → j < k → word v j < target) → (k < e → target ≤ word v k) → seekFrom v target i e ≡ k
   seek-is k h l below here = ⊎-elim early (λ (g : k ≤ seekFrom v target i e). ⊎-elim late (λ (f : seekFrom v target i e ≤ k). omega arith) (below-or k (seekFrom v target i e))) (below-or (seekFrom v target i e) k)
     where
       early : seekFrom v target i e < k → seekFrom v target i e ≡ k

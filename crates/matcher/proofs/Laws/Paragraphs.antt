@@ -62,11 +62,11 @@ largest-in x (y ∷ ys) =
     (below-or x (largest (y ∷ ys)))
 
 -- r is the greatest of some starts not above p, or 65,536 where there is none
-abbrev pub ParaAt : List ℕ → ℕ → ℕ → Type 0
+abbrev ParaAt : List ℕ → ℕ → ℕ → Type 0
 ParaAt ss p r = ((r ≡ limit) × ((s : ℕ) → In s ss → s ≤ p → ⊥)) ⊎ (In r ss × ((r ≤ p) × ((s : ℕ) → In s ss → s ≤ p → s ≤ r)))
 
 module _ (ss : List ℕ) (p : ℕ) where
-  pub para-told : ParaAt ss p (paraStart ss p)
+  para-told : ParaAt ss p (paraStart ss p)
   unfolding paraStart
   para-told = go (keep (λ s. leb s p) ss) (keep-in (λ s. leb s p) ss) (λ s i h. in-keep (λ t. leb t p) ss s i (le-leb s p h))
     where
@@ -77,7 +77,7 @@ module _ (ss : List ℕ) (p : ℕ) where
           inr (w .0, (leb-true (largest (x ∷ xs)) p (w .1), λ s i h. let k = back s i h in let l = at-largest (x ∷ xs) (k .0) in omega (arith, k .2)))
 
   -- there is one such number
-  pub para-is : (r : ℕ) → ParaAt ss p r → r ≡ paraStart ss p
+  para-is : (r : ℕ) → ParaAt ss p r → r ≡ paraStart ss p
   para-is r a =
       ⊎-elim
       (λ x. ⊎-elim (λ y. x .0 ∙ sym (y .0)) (λ y. absurd (x .1 (paraStart ss p) (y .0) (y .1 .0))) para-told)

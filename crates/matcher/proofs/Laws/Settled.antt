@@ -61,7 +61,7 @@ module _ (v p : List ℕ) (o : Outline) (doc : Document) (ats ends : List ℕ) (
   list-is : (x : ℕ) → x < length (patternAt p k .vars) → varAt p (o .first + x) ≡ getD (patternAt p k .vars) x 0
   list-is x h = ap (λ (i : ℕ). varAt p (i + x)) (r .entry .first-is) ∙ varAt-is p k x (r .pattern) h
 
-  pub ready-stands : (x : ℕ) → x < length (patternAt p k .vars)
+  ready-stands : (x : ℕ) → x < length (patternAt p k .vars)
       → Stands v (getD (patternAt p k .vars) x 0) d (getD ats (o .first + x) 0) × ((getD ats (o .first + x) 0 < listEnd v (getD (patternAt p k .vars) x 0)) × (docOf (word v (getD ats (o .first + x) 0)) ≡ d))
   ready-stands x h =
       let s = r .candidate .stands (o .first + x) (among x h) in
@@ -69,7 +69,7 @@ module _ (v p : List ℕ) (o : Outline) (doc : Document) (ats ends : List ℕ) (
       let e = list-is x h in
       (subst (λ (l : ℕ). Stands v l d (getD ats (o .first + x) 0)) e (s .0), (let a = t .0 in let b = s .1 ∙ ap (listEnd v) e in omega arith, t .1))
 
-  pub ready-ends : (x : ℕ) → x < length (patternAt p k .vars) → getD ends (o .first + x) 0 ≡ listEnd v (getD (patternAt p k .vars) x 0)
+  ready-ends : (x : ℕ) → x < length (patternAt p k .vars) → getD ends (o .first + x) 0 ≡ listEnd v (getD (patternAt p k .vars) x 0)
   ready-ends x h = r .candidate .stands (o .first + x) (among x h) .1 ∙ ap (listEnd v) (list-is x h)
 
   pub ready-stream : (x : ℕ) → x < o .vars → getD ats (o .first + x) 0 < streamLength v
@@ -115,7 +115,7 @@ module _ (v p : List ℕ) (o : Outline) (doc : Document) (ats ends : List ℕ) (
         qs (m, λ x. omega arith)))
 
 -- zeros, as many as are taken
-pub take-zeros : (n m : ℕ) → n ≤ m → take {A = ℕ} n (replicate m 0) ≡ replicate n 0
+take-zeros : (n m : ℕ) → n ≤ m → take {A = ℕ} n (replicate m 0) ≡ replicate n 0
 take-zeros zero m h = refl
 take-zeros (suc n) zero h = absurd (let z : ⊥ = omega arith in z)
 take-zeros (suc n) (suc m) h = ap (λ (zs : List ℕ). 0 ∷ zs) (take-zeros n m (omega arith))
@@ -136,7 +136,7 @@ module _ (v p : List ℕ) (k d n : ℕ) (ps : List ℕ) (b : Bool) (e : leastIn 
   settled-no t m l = ap (λ (zs : List ℕ). 0 ∷ zs) (take-zeros n 8 l ∙ ap (λ (i : ℕ). replicate i 0) m) ∙ sym (ap (shown (length (patternAt p k .vars))) (e ∙ ap (λ (c : Bool). givenIf c (take n ps)) t))
 
 -- nothing is found where the least match is none
-pub unfound-none : (v p : List ℕ) (k d : ℕ) → found (listsOf v) d (patternAt p k) ≡ false → leastIn (listsOf v) d (patternAt p k) ≡ none
+unfound-none : (v p : List ℕ) (k d : ℕ) → found (listsOf v) d (patternAt p k) ≡ false → leastIn (listsOf v) d (patternAt p k) ≡ none
 unfolding found
 unfound-none v p k d e = go (leastIn (listsOf v) d (patternAt p k)) e
   where
@@ -154,9 +154,6 @@ module _ (v p : List ℕ) (o : Outline) (doc : Document) (ats ends : List ℕ) (
 
   pub away-few : o .vars ≤ 8
   away-few = let e = w .entry .outlines .vars-are in let m = given v p (w .accepted) .well-made k′ (w .pattern) .most-vars in omega arith
-
-  pub away-pattern : k′ < 8
-  away-pattern = let a = w .pattern in let b = given v p (w .accepted) .most-patterns in omega arith
 
   pub away-found : r ≢ d′ → found (listsOf v) d′ (patternAt p k′) ≡ false
   away-found n = w .candidate .absent d′ (omega arith) (let f = w .candidate .from in omega arith)

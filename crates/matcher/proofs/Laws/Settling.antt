@@ -10,7 +10,7 @@ use Prim.Native.Nat.{ℕ, suc, _+_, _*_, _<_, _≤_}
 use native.Mathlib.Omega.{arith}
 use mathlib.Core.Path.{_≡_, refl, sym, ap, _∙_}
 use mathlib.Core.Bool.{true}
-use mathlib.Core.Logic.{_⊎_, ⊎-elim, _≢_}
+use mathlib.Core.Logic.{⊎-elim, _≢_}
 use mathlib.Core.List.{List, [], _∷_, _++_, append-nil, append-assoc}
 use mathlib.Core.Option.{none, some}
 use lib.ListN.{length, getD, set, take, drop, length-set, length-append, take-append-drop, List·getD-eq-default}
@@ -127,7 +127,7 @@ module _ (v : List ℕ) (ok : Accepted v) (d : ℕ) (f : Pattern) (there : (x : 
     pub low-var : x < length (f .vars)
     low-var = let s = short .there in let e = size in omega arith
 
-    pub low-before : getD ps x 0 < b
+    low-before : getD ps x 0 < b
     low-before = let e = getD-take (length (f .vars)) ps x 0 low-var in let s = short .before in omega arith
 
     -- each match has variable x at b or behind

@@ -1,7 +1,6 @@
 -- The refusals of a volume and a plan, by their numbers. No contract cites this file.
 --     plan-number     they are 1 to 14
 --     plan-stage      they have the first ten stages
---     list-number     those of listing are 1 to 16
 -- Assumes nothing.
 use Prim.Native.Nat.{ℕ, _≤_}
 use native.Mathlib.Omega.{arith}
@@ -10,7 +9,6 @@ use Rattle.seq.specs.Lists.{elem}
 use Rattle.seq.specs.Refusals.{stageIn}
 use Rattle.volume.specs.Refusals.{VolumeApplies}
 use Rattle.volume.specs.Refusals as volume
-use Rattle.matcher.specs.Refusals as search
 use Rattle.plan.specs.Refusals.{PlanApplies, ofVolume, wrongLength, wrongForm, wrongList, ninth, wrongOrder, unfinished, planStages}
 
 volume-number : (v : List ℕ) (n q : ℕ) → VolumeApplies v n q → (1 ≤ n) × (n ≤ 8)

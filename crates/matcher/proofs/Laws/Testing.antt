@@ -43,13 +43,11 @@ use Rattle.plan.specs.declared.outline.Outline.{Outline}
 use Rattle.plan.specs.Inner.Outline.{Outlines, outlineAt, Tabled}
 use Rattle.plan.proofs.Laws.Accepted.{given}
 use Rattle.matcher.specs.declared.cursor.Cursor.{Cursor}
-use Rattle.matcher.specs.declared.cursor.Document.{Document}
 use Rattle.fulltext.specs.Positions.{limit, listOf, positionsIn}
 use Rattle.fulltext.specs.Calculus.{at, Holds}
 use Rattle.fulltext.specs.Matches.{holds, allHold, fits, startsIn, varsIn, matchesAt}
 use Rattle.matcher.specs.Inner.Shortfall.{InDocument, LeftShort}
 use Rattle.matcher.specs.Inner.Cursors.{seekFrom, Stretch, sought, listEnd, listCursor, Stands, AtDocument}
-use Rattle.matcher.specs.Inner.Tables.{varAt}
 use Rattle.matcher.specs.Testing.{outOfRange, testBy, testAnswer}
 use Rattle.matcher.specs.Inner.Settling.{Asked}
 use Rattle.fulltext.proofs.Laws.Positions.{positions-hold}

@@ -2,7 +2,7 @@
 --     in-range     a position of which the formula is true is at most 65,535
 --     test-iff     the call says yes exactly if the pattern is true of the positions
 -- Assumes nothing.
-use Prim.Native.Nat.{ℕ, _<_, _≤_}
+use Prim.Native.Nat.{ℕ, _<_}
 use native.Mathlib.Omega.{arith}
 use mathlib.Core.Path.{_≡_, refl, sym, ap, _∙_}
 use mathlib.Core.Bool.{Bool, true, false}

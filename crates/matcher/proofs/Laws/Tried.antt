@@ -11,7 +11,7 @@ use Prim.Native.Nat.{ℕ, zero, suc, _+_, _-_, _*_, _<_, _≤_}
 use native.Mathlib.Omega.{arith}
 use mathlib.Core.Path.{_≡_, refl, sym, ap, subst, _∙_}
 use mathlib.Core.Bool.{Bool, true, false}
-use mathlib.Core.Logic.{_⊎_, ⊎-elim}
+use mathlib.Core.Logic.{⊎-elim}
 use mathlib.Core.List.{List, [], _∷_}
 use mathlib.Core.Option.{none, some}
 use lib.ListN.{length, getD, set, take, length-set}
@@ -43,7 +43,7 @@ slack [] = 0
 slack (p ∷ ps) = (65536 - p) + slack ps
 
 -- a position that moves on
-pub slack-set : (ps : List ℕ) (x q : ℕ) → x < length ps → getD ps x 0 < q → q ≤ 65535 → slack (set ps x q) < slack ps
+slack-set : (ps : List ℕ) (x q : ℕ) → x < length ps → getD ps x 0 < q → q ≤ 65535 → slack (set ps x q) < slack ps
 slack-set [] x q h l m = absurd (let z : ⊥ = omega arith in z)
 slack-set (p ∷ ps) zero q h l m = omega arith
 slack-set (p ∷ ps) (suc x) q h l m = let r = slack-set ps x q (omega arith) l m in omega arith

@@ -25,7 +25,7 @@ use Rattle.fulltext.specs.Calculus.{Holds}
 use Rattle.matcher.specs.Inner.Cursors.{Stretch, listEnd}
 
 -- where neighbours rise any two do
-pub rising-apart : (xs : List ℕ) → Rising xs → (i j : ℕ) → i < j → j < length xs → getD xs i 0 < getD xs j 0
+rising-apart : (xs : List ℕ) → Rising xs → (i j : ℕ) → i < j → j < length xs → getD xs i 0 < getD xs j 0
 rising-apart xs r i zero h l = absurd (let z : ⊥ = omega arith in z)
 rising-apart xs r i (suc j) h l = ⊎-elim (λ (k : i < j). far (rising-apart xs r i j k (omega arith))) near (below-or i j)
   where

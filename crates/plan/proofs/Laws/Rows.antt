@@ -16,8 +16,8 @@ use native.Mathlib.Nat.{add-zero}
 use native.Mathlib.Numerals.{add-one, add-two, add-three}
 use native.Mathlib.Omega.{arith}
 use mathlib.Core.Path.{_≡_, refl, sym, ap, ap₂, _∙_, subst}
-use mathlib.Core.Bool.{Bool, true, false, not, _&&_, _||_, true≢false}
-use mathlib.Core.Logic.{_↔_, _≢_}
+use mathlib.Core.Bool.{Bool, true, false, _||_, true≢false}
+use mathlib.Core.Logic.{_↔_}
 use mathlib.Core.List.{List, [], _∷_, _++_}
 use lib.ListN.{length, getD, take, drop}
 use lib.Dec.{eqb, ltb}
@@ -40,7 +40,7 @@ use Rattle.plan.specs.Refusals.{Stray, WrongPair, WrongForm}
 use Rattle.plan.proofs.Laws.Passed.{Passed}
 use Rattle.seq.proofs.Laws.Slices.{length-slice, getD-slice, slice-run}
 
-pub each-kind : (P : ℕ → Type 0) → P 1 → P 2 → P 3 → P 4 → P 5 → P 6 → P 7 → P 8 → P 9 → (k : ℕ) → 1 ≤ k → k ≤ lastKind → P k
+each-kind : (P : ℕ → Type 0) → P 1 → P 2 → P 3 → P 4 → P 5 → P 6 → P 7 → P 8 → P 9 → (k : ℕ) → 1 ≤ k → k ≤ lastKind → P k
 each-kind P p1 p2 p3 p4 p5 p6 p7 p8 p9 zero l h = absurd (let z : ⊥ = omega arith in z)
 each-kind P p1 p2 p3 p4 p5 p6 p7 p8 p9 (suc zero) l h = p1
 each-kind P p1 p2 p3 p4 p5 p6 p7 p8 p9 (suc (suc zero)) l h = p2
@@ -119,7 +119,7 @@ module _ (a b c : ℕ) where
       each-kind (λ k. Used (usesOf (kindOf k a b c)) a b c → pairWrong (kindOf k a b c) ≡ false → InRange (kindOf k a b c))
       (λ u f. tt) (λ u f. u .c-most) (λ u f. tt) (λ u f. tt) (λ u f. (u .c-least, u .c-most)) (λ u f. tt) (λ u f. tt) (λ u f. tt) (λ u f. tt)
 
-pub words-of : (k a b c : ℕ) → formWrong k a b c ≡ false → wordsOf (kindOf k a b c) ≡ k ∷ a ∷ b ∷ c ∷ []
+words-of : (k a b c : ℕ) → formWrong k a b c ≡ false → wordsOf (kindOf k a b c) ≡ k ∷ a ∷ b ∷ c ∷ []
 words-of k a b c e = let f = formed-known k a b c e in used-words a b c k (f .0) (f .1) (f .2)
 
 pub range-of : (k a b c : ℕ) → formWrong k a b c ≡ false → InRange (kindOf k a b c)

@@ -1,11 +1,11 @@
 -- The laws of `specs/Answers.antt`: an answer is known from its number and values. No contract cites this file.
---     heardListed, heardTested       the answer with a number and values
---     heard-listed, heard-tested     what is heard is what was said
---     one-to-one                     no two answers are said alike
+--     heardListed      the answer with a number and values
+--     heard-listed     what is heard is what was said
+--     one-to-one       no two answers are said alike
 -- Assumes nothing.
 use Prim.Native.Nat.{ℕ}
 use mathlib.Core.Path.{_≡_, refl}
-use mathlib.Core.Bool.{Bool, cond}
+use mathlib.Core.Bool.{cond}
 use lib.Dec.{eqb}
 use Rattle.seq.specs.Refusals.{Said, refused, answered}
 use Rattle.seq.proofs.Laws.Refusals.{alike}
@@ -15,10 +15,7 @@ use Rattle.plan.specs.declared.answers.Refusal.the-variants.{Volume, Length, Ro
 use Rattle.plan.proofs.Laws.Answers.{heard}
 use Rattle.search.specs.declared.answers.Listed.{Listed}
 use Rattle.search.specs.declared.answers.Listed.the-variants as listed
-use Rattle.matcher.specs.declared.answers.Tested.{Tested}
-use Rattle.matcher.specs.declared.answers.Tested.the-variants as tested
 use Rattle.search.specs.Answers.{Next, done, more, Page, saidListed}
-use Rattle.matcher.specs.Answers.{saidTested}
 use Rattle.search.specs.Demands.{OneToOne}
 
 -- by what is next, the rows and the tally

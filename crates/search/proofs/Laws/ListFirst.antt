@@ -84,7 +84,7 @@ module _ (v p : List ℕ) (start room : ℕ) where
       refusal : ((n : ℕ) × (q : ℕ) × (verdict v p ≡ refused n q)) → IsSound (listBy (verdict v p) (work v p) start room)
       refusal w = rw (w .2) (over-refused _ _ _ _ over (sizes p) page (w .0) (w .1) (verdict v p) (check-sound v p) (w .2))
 
-  pub list-first : FirstRefusal (stageIn listStages) (ListApplies v p start room) page (listAnswer v p start room)
+  list-first : FirstRefusal (stageIn listStages) (ListApplies v p start room) page (listAnswer v p start room)
   list-first = first-refusal (stageIn listStages) (ListApplies v p start room) page (listAnswer v p start room) list-sound
 
 pub list-call : (v p : List ℕ) (start : ℕ) (out : List ℕ) → ListCall v p start out

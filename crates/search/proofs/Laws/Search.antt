@@ -3,7 +3,7 @@
 --     from-search  it holds of all
 --     searched     what holds of every search over an accepted volume and plan, in every form of answer that tells what listing answers
 -- Assumes nothing.
-use Prim.Native.Nat.{ℕ, suc, _+_, _*_, _<_, _≤_, max}
+use Prim.Native.Nat.{ℕ, _+_, _*_, _<_, _≤_, max}
 use native.Mathlib.Nat.{le-div-iff-mul-le, one-mul, add-zero}
 use native.Mathlib.Omega.{arith}
 use mathlib.Core.Path.{_≡_, refl, sym, ap, ap₂, _∙_, subst}
@@ -39,7 +39,7 @@ module _ {A : Type 0} (form : Form A) where
   Closes k calls reached = (front rest : List (Call A)) (c : Call A) → unrefused form calls ≡ front ++ (c ∷ rest) → max 1 k ≤ length front + 1 → SaysDone form c × (reached ≡ limit)
 
   -- calls from document s on that come to an outcome
-  pub record From (w : Work) (s : ℕ) (calls : List (Call A)) (o : Outcome) : Type 0 where
+  record From (w : Work) (s : ℕ) (calls : List (Call A)) (o : Outcome) : Type 0 where
     pub above : s ≤ o .reached
     pub below : o .reached ≤ limit
     pub rows : o .rows ≡ rowsOfDocs w (docsIn w s (o .reached))
@@ -139,7 +139,7 @@ module _ {A : Type 0} (form : Form A) where
             ap length (docs-parts (work v p) s t limit (i .from) (omega arith)) ∙ length-append (docsIn (work v p) s t) (docsIn (work v p) t limit)
             ∙ ap (λ (n : ℕ). n + length (docsIn (work v p) t limit)) (at-front (work v p) s limit (room (work v p) c) t x i)
 
-    pub from-search : (calls : List (Call A)) (s : ℕ) → s < limit → IsSearch form v p s calls → From (work v p) s calls (comesTo s calls)
+    from-search : (calls : List (Call A)) (s : ℕ) → s < limit → IsSearch form v p s calls → From (work v p) s calls (comesTo s calls)
     from-search [] s h k = record {
       above = omega arith;
       below = omega arith;

@@ -3,12 +3,7 @@
 use Prim.Native.Nat.{ℕ, _≤_}
 use native.Mathlib.Omega.{arith}
 use mathlib.Core.List.{List}
-use Rattle.seq.specs.Lists.{elem}
-use Rattle.seq.specs.Refusals.{stageIn}
-use Rattle.volume.specs.Refusals.{VolumeApplies}
-use Rattle.volume.specs.Refusals as volume
 use Rattle.search.specs.Refusals as search
-use Rattle.plan.specs.Refusals.{PlanApplies, ofVolume, wrongLength, wrongForm, wrongList, ninth, wrongOrder, unfinished, planStages}
 use Rattle.matcher.proofs.Laws.Stages.{plan-number}
 
 module _ (v p : List ℕ) where

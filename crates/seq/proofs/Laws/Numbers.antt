@@ -20,7 +20,7 @@ use lib.ListN.{length, getD}
 use Rattle.seq.specs.Numbers.{firstFrom, run, sumTo}
 use Rattle.seq.proofs.Laws.Tests.{contrary, below-or}
 
-pub sub-step : (k n : ℕ) → k < n → n - k ≡ suc (n - (k + 1))
+sub-step : (k n : ℕ) → k < n → n - k ≡ suc (n - (k + 1))
 sub-step k n h = omega arith
 
 sub-none : (k n : ℕ) → n ≤ k → n - k ≡ 0

@@ -49,13 +49,13 @@ unfolding rises
 rises-rising [] e = λ j l. absurd (omega arith)
 rises-rising (x ∷ xs) e = above-rising x xs e
 
-pub rises-falls : (xs : List ℕ) → rises xs ≡ false → NotRising xs
+rises-falls : (xs : List ℕ) → rises xs ≡ false → NotRising xs
 unfolding rises
 rises-falls [] e = absurd (mathlib.Core.Bool.true≢false e)
 rises-falls (x ∷ xs) e = above-falls x xs e
 
 -- a list does not both rise and not rise
-pub not-both-ways : (xs : List ℕ) → Rising xs → NotRising xs → ⊥
+not-both-ways : (xs : List ℕ) → Rising xs → NotRising xs → ⊥
 not-both-ways xs r n = let h : getD xs (n .0) 0 < getD xs (n .0 + 1) 0 = r (n .0) (n .1) in omega (arith, n .2)
 
 pub rises-decides : (xs : List ℕ) → Decides (rises xs) (Rising xs)

@@ -22,7 +22,7 @@ module _ {A : Type 0} where
   total-ones [] = refl
   total-ones (x ∷ xs) = let e = total-ones xs in omega arith
 
-  pub total-append : (f : A → ℕ) (xs ys : List A) → total f (xs ++ ys) ≡ total f xs + total f ys
+  total-append : (f : A → ℕ) (xs ys : List A) → total f (xs ++ ys) ≡ total f xs + total f ys
   unfolding total
   total-append f [] ys = omega arith
   total-append f (x ∷ xs) ys = let e = total-append f xs ys in omega arith

@@ -23,7 +23,7 @@ use Rattle.volume.proofs.Laws.Write.{length-wordBytes, wordBytes-append
 
 module _ (f : ℕ → ℕ) where
   -- block j stands at 512 j
-  pub drop-block : (n j : ℕ) → j < n → drop (512 * j) (blocksFrom f 0 n) ≡ sealed (blockBody f j) ++ blocksFrom f (suc j) (n - (j + 1))
+  drop-block : (n j : ℕ) → j < n → drop (512 * j) (blocksFrom f 0 n) ≡ sealed (blockBody f j) ++ blocksFrom f (suc j) (n - (j + 1))
   unfolding blocksFrom
   drop-block n j h =
       let e : n ≡ j + suc (n - (j + 1)) = omega arith in
@@ -49,19 +49,19 @@ module _ (f : ℕ → ℕ) (n : ℕ) where
   at-check : (k : ℕ) → k < n → drop (512 * k + 508) (blocksFrom f 0 n) ≡ behind k
   at-check k h = sym (drop-drop 508 (512 * k) (blocksFrom f 0 n)) ∙ ap (λ (l : List ℕ). drop 508 l) (at-block k h) ∙ drop-at (blockBody f k) (behind k) 508 (length-blockBody f k)
 
-  pub covered-is : (k : ℕ) → k < n → covered (blocksFrom f 0 n) k ≡ blockBody f k
+  covered-is : (k : ℕ) → k < n → covered (blocksFrom f 0 n) k ≡ blockBody f k
   covered-is k h = ap (λ (l : List ℕ). take 508 l) (at-block k h) ∙ take-at (blockBody f k) (behind k) 508 (length-blockBody f k)
 
-  pub storedA-is : (k : ℕ) → k < n → storedA (blocksFrom f 0 n) k ≡ checkA (blockBody f k)
+  storedA-is : (k : ℕ) → k < n → storedA (blocksFrom f 0 n) k ≡ checkA (blockBody f k)
   storedA-is k h = le16-at (blocksFrom f 0 n) _ (512 * k + 508) (checkA (blockBody f k)) (let l = checkA-lt (blockBody f k) in omega arith) (at-check k h)
 
-  pub storedB-is : (k : ℕ) → k < n → storedB (blocksFrom f 0 n) k ≡ checkB (blockBody f k)
+  storedB-is : (k : ℕ) → k < n → storedB (blocksFrom f 0 n) k ≡ checkB (blockBody f k)
   storedB-is k h =
       le16-at (blocksFrom f 0 n) _ (512 * k + 510) (checkB (blockBody f k)) (let l = checkB-lt (blockBody f k) in omega arith)
       (let e : 512 * k + 510 ≡ 512 * k + 508 + 2 = omega arith in
       ap (λ (o : ℕ). drop o (blocksFrom f 0 n)) e ∙ sym (drop-drop 2 (512 * k + 508) (blocksFrom f 0 n)) ∙ ap (λ (l : List ℕ). drop 2 l) (at-check k h))
 
-  pub number-is : (k : ℕ) → k < n → k < 4294967296 → blockNumber (blocksFrom f 0 n) k ≡ k
+  number-is : (k : ℕ) → k < n → k < 4294967296 → blockNumber (blocksFrom f 0 n) k ≡ k
   unfolding blockBody
   number-is k h l = le32-at (blocksFrom f 0 n) (wordBytes f (126 * k) 126 ++ behind k) (512 * k) k l (at-block k h)
 

@@ -117,7 +117,7 @@ least-blocksFor w = record { enough = omega arith; least = λ m h. omega arith }
 pub blocksFor-least : (w n : ℕ) → LeastBlocks w n → blocksFor w ≡ n
 blocksFor-least w n l = let a = l .least (blocksFor w) (least-blocksFor w .enough) in let b = l .enough in omega arith
 
-pub least-decides : (w n : ℕ) → Decides (eqb (blocksFor w) n) (LeastBlocks w n)
+least-decides : (w n : ℕ) → Decides (eqb (blocksFor w) n) (LeastBlocks w n)
 least-decides w n = same-decides (eqb-decides (blocksFor w) n) (λ (e : blocksFor w ≡ n). rw e at (least-blocksFor w)) (blocksFor-least w n)
 
 -- what each test decides
@@ -198,7 +198,7 @@ module _ (v : List ℕ) where
       go true false k rest q = absurd (not-both (refused 3 k) s 3 k q refl)
       go false t k rest q = (refl, q)
 
-  pub passed-by : (s : Sizes) → verdict v ≡ answered s → Passed v
+  passed-by : (s : Sizes) → verdict v ≡ answered s → Passed v
   unfolding verdict streamVerdict
   passed-by s e =
       let e1 = past (lengthWrong v) 1 0 _ s e in
@@ -213,7 +213,7 @@ module _ (v : List ℕ) where
   pub passed : Accepted v → Passed v
   passed e = passed-by (sizes v) e
 
-  pub passed-accepted : Passed v → Accepted v
+  passed-accepted : Passed v → Accepted v
   passed-accepted p = verdict-stream v (p .length-passed) (p .blocks-passed) ∙ stream-answer v (p .version-passed) (p .listCount-passed) (p .extent-passed) (p .lists-passed) (p .tail-passed)
 
 -- whatever sizes are told are those of the volume
@@ -313,7 +313,7 @@ module _ (v : List ℕ) where
       least : LeastBlocks (extent v) (blocks v)
       least = stable (least-decides (extent v) (blocks v)) (extentWrong-decides v .no (p .extent-passed))
 
-  pub good-passed : Good v → Passed v
+  good-passed : Good v → Passed v
   unfolding orderWrong
   good-passed g = record {
     length-passed = fails (lengthWrong-decides v) len;

@@ -1,4 +1,4 @@
--- The laws of `specs/Falls.antt`: what has no falls rises. No contract cites this file.
+-- The laws of `specs/Inner/Falls.antt`: what has no falls rises. No contract cites this file.
 --     rise-run                                   a run without falls rises
 --     falls-again, falls-done                    a run rises exactly if no fall is counted in it
 --     fall-in-block, fall-last, falls-more       the falls of the stream, one by one
@@ -37,7 +37,7 @@ no-fall x y e = go (ltb x y) e
     go false q = absurd (omega arith)
 
 -- f from k on, suc m of them, rises above each other where there are no falls at k, .., k + m − 1
-pub rise-run : (f : ℕ → ℕ) (k m : ℕ) → sumTo (fall f) (k + m) ≡ sumTo (fall f) k → above (f k) (run f (suc k) m) ≡ true
+rise-run : (f : ℕ → ℕ) (k m : ℕ) → sumTo (fall f) (k + m) ≡ sumTo (fall f) k → above (f k) (run f (suc k) m) ≡ true
 unfolding above run
 rise-run f k zero e = refl
 rise-run f k (suc m) e =

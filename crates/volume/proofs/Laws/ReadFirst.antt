@@ -74,7 +74,7 @@ module _ (v : List ℕ) (i room : ℕ) where
           ⊎-elim (none m q) (⊎-elim (λ w. let z : 9 ≤ 7 = rw (w .0) at h in omega arith) (λ w. let z : 9 ≤ 8 = rw (w .0) at h in omega arith)) (of-call m q a)
 
   -- the whole ladder
-  pub read-sound : IsSound (readAnswer v i room)
+  read-sound : IsSound (readAnswer v i room)
   unfolding readAnswer
   read-sound = ⊎-elim accepted refusal (check-sound v .total)
     where

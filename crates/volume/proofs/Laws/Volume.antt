@@ -31,13 +31,13 @@ module _ (cs ps : List ℕ) where
   stream-at : (i : ℕ) → at (streamOf cs ps) (entry i) ≡ at (cs ++ ps) i
   stream-at i = let e : 2 + i ≡ suc (suc i) = omega arith in rw e
 
-  pub stream-count : (i : ℕ) → i < length cs → at (streamOf cs ps) (entry i) ≡ at cs i
+  stream-count : (i : ℕ) → i < length cs → at (streamOf cs ps) (entry i) ≡ at cs i
   stream-count i h = stream-at i ∙ List·getD-append cs ps 0 i h
 
-  pub stream-posting : (j : ℕ) → at (streamOf cs ps) (lead (length cs) + j) ≡ at ps j
+  stream-posting : (j : ℕ) → at (streamOf cs ps) (lead (length cs) + j) ≡ at ps j
   stream-posting j = ap (at (streamOf cs ps)) (add-assoc 2 (length cs) j) ∙ stream-at (length cs + j) ∙ getD-append-add cs ps j 0
 
-  pub stream-zero : (i : ℕ) → extentOf (length cs) (length ps) ≤ i → at (streamOf cs ps) i ≡ 0
+  stream-zero : (i : ℕ) → extentOf (length cs) (length ps) ≤ i → at (streamOf cs ps) i ≡ 0
   stream-zero i h = let l : length (streamOf cs ps) ≤ i = let e = length-append cs ps in omega arith in List·getD-eq-default (streamOf cs ps) 0 l
 
   pub length-written : length (written cs ps) ≡ 512 * blocksFor (extentOf (length cs) (length ps))
@@ -84,7 +84,7 @@ module _ (cs ps : List ℕ) (g : Given cs ps) where
           let c = g .words (i - length cs) in
           omega arith
 
-  pub blocks-written : blocks (written cs ps) ≡ blocksFor need
+  blocks-written : blocks (written cs ps) ≡ blocksFor need
   blocks-written = let e = length-written cs ps in omega arith
 
   word-inside : (i : ℕ) → i < 126 * blocksFor need → word (written cs ps) i ≡ at (streamOf cs ps) i
@@ -98,10 +98,10 @@ module _ (cs ps : List ℕ) (g : Given cs ps) where
   unfolding written
   block-written k h = let f = g .fits in block-right (at (streamOf cs ps)) (blocksFor need) k h (omega arith)
 
-  pub listCount-written : listCount (written cs ps) ≡ length cs
+  listCount-written : listCount (written cs ps) ≡ length cs
   listCount-written = let h = g .lists-some in word-written 1 (omega arith)
 
-  pub count-written : (i : ℕ) → i < length cs → count (written cs ps) i ≡ at cs i
+  count-written : (i : ℕ) → i < length cs → count (written cs ps) i ≡ at cs i
   count-written i h = word-written (entry i) (omega arith) ∙ stream-count cs ps i h
 
   sum-written : (i : ℕ) → i ≤ length cs → sumTo (count (written cs ps)) i ≡ sumTo (at cs) i
@@ -110,10 +110,10 @@ module _ (cs ps : List ℕ) (g : Given cs ps) where
   start-written : (i : ℕ) → i ≤ length cs → start (written cs ps) i ≡ lead (length cs) + sumTo (at cs) i
   start-written i h = let a = listCount-written in let b = sum-written i h in omega arith
 
-  pub extent-written : extent (written cs ps) ≡ need
+  extent-written : extent (written cs ps) ≡ need
   extent-written = start-written (listCount (written cs ps)) (let a = listCount-written in omega arith) ∙ ap (λ (n : ℕ). extentOf (length cs) n) (ap (sumTo (at cs)) listCount-written ∙ g .sum-is)
 
-  pub postings-written : (i : ℕ) → i < length cs → postingsOf (written cs ps) i ≡ givenList cs ps i
+  postings-written : (i : ℕ) → i < length cs → postingsOf (written cs ps) i ≡ givenList cs ps i
   postings-written i h =
       ap₂ (λ (k m : ℕ). run (word (written cs ps)) k m) (start-written i (omega arith)) (count-written i h)
       ∙ run-ext (word (written cs ps)) (at ps) (lead (length cs) + sumTo (at cs) i) (sumTo (at cs) i) (at cs i) word-here
@@ -153,7 +153,7 @@ module _ (cs ps : List ℕ) (g : Given cs ps) where
 
 -- the counts and the postings of an accepted volume
 module _ (v : List ℕ) where
-  pub lengths-of : map length (listsOf v) ≡ run (count v) 0 (listCount v)
+  lengths-of : map length (listsOf v) ≡ run (count v) 0 (listCount v)
   unfolding listsOf
   lengths-of =
       map-run length (postingsOf v) 0 (listCount v)

@@ -44,7 +44,7 @@ module _ (f : ℕ → ℕ) where
   unfolding blockBody
   length-blockBody k = rw (length-wordBytes (126 * k) 126)
 
-pub length-sealed : (xs : List ℕ) → length (sealed xs) ≡ length xs + 4
+length-sealed : (xs : List ℕ) → length (sealed xs) ≡ length xs + 4
 unfolding sealed
 length-sealed xs = length-append xs _
 

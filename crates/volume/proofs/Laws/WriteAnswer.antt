@@ -78,7 +78,7 @@ module _ (counts postings : List ℕ) where
   unfolding shortOutput
   shortOutput-decides room = ltb-decides room (512 * blocksFor (extentOf (length counts) (length postings)))
 
-  pub givenListsWrong-true : badGiven counts postings < length counts → givenListsWrong counts postings ≡ true
+  givenListsWrong-true : badGiven counts postings < length counts → givenListsWrong counts postings ≡ true
   unfolding givenListsWrong
   givenListsWrong-true h = lt-ltb (badGiven counts postings) (length counts) h
 

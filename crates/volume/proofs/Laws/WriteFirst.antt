@@ -96,7 +96,7 @@ module _ (counts postings : List ℕ) (room : ℕ) where
       later
 
   -- the whole ladder
-  pub write-sound : IsSound (writeAnswer counts postings room)
+  write-sound : IsSound (writeAnswer counts postings room)
   unfolding writeAnswer stageIn elem
   write-sound =
       single (stageIn writeStages) (WriteApplies counts postings room) value (countsWrong counts) 5 _ _ (countsWrong-decides counts postings) wrongCounts (λ m q a. omega arith) (at-this 0)

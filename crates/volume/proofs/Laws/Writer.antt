@@ -3,7 +3,7 @@
 --     writes                         when it refuses, and what it lays
 --     writes-every                   lists within the limits are written
 -- Assumes nothing.
-use Prim.Native.Nat.{ℕ, _+_, _*_, _<_, _≤_}
+use Prim.Native.Nat.{ℕ, _*_, _<_, _≤_}
 use native.Mathlib.Omega.{arith}
 use mathlib.Core.Path.{_≡_, sym, ap, ap₂, _∙_}
 use mathlib.Core.Bool.{false}
@@ -39,7 +39,7 @@ module _ (cs ps : List ℕ) where
   limits-sum : Limits cs ps → total (λ x. x) cs ≡ length ps
   limits-sum l = stable (eqb-decides (total (λ x. x) cs) (length ps)) (sumWrong-decides cs ps .no (l .sum-passes))
 
-  pub limits-given : IsWords ps → Limits cs ps → Given cs ps
+  limits-given : IsWords ps → Limits cs ps → Given cs ps
   unfolding givenWrong
   limits-given words l = record {
     lists-some = range-some;
@@ -59,7 +59,7 @@ module _ (cs ps : List ℕ) where
       range-most : length cs ≤ 1024
       range-most = let h : (1024 < length cs) → ⊥ = λ (x : 1024 < length cs). range (inr x) in omega arith
 
-  pub given-limits : Given cs ps → Limits cs ps
+  given-limits : Given cs ps → Limits cs ps
   unfolding givenWrong
   given-limits g = record {
     counts-pass = fails (countsWrong-decides cs ps) range;

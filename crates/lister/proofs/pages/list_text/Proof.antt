@@ -8,6 +8,16 @@ use borrow.Author.Needs.{needs}
 use Rattle.lister.proofs.pages.list_text.Statement.{statement}
 use Rattle.lister.proofs.pages.list_text.Tie as tie
 
+-- the places that the answers speak of, each from the one behind it
+abbrev start-of : tie.After-check → tie.Start
+start-of c = c .before .before .before .before
+
+abbrev accepted-checked : tie.After-checked2 → tie.After-check
+accepted-checked c = c .before .before
+
+abbrev refused-checked : tie.After-checked → tie.After-check
+refused-checked c = c .before .before
+
 check-requires : tie.Need-check-requires
 check-requires c κs = tt
 
@@ -28,20 +38,24 @@ row-words-requires c κs = tt
 
 page-text-requires : tie.Need-page-text-requires
 page-text-requires c κs =
-    let s = c .before .before .before .before .before .before .before .before .before in
-    let g = c .before .before .before .checked2 .given in
-    let check = c .before .before .before .before .before .check in
-    (c .before .row-words .ensures ∙ width-is (now (s .args .volume)) (now (s .args .plan)) (g .0 .0) (g .0 .1 .0) (sym (check .ensures) ∙ ap saidChecked (g .1)), s .pre)
+    let accepted = c .before .before .before in
+    let checked = accepted-checked accepted in
+    let start = start-of checked in
+    let g = accepted .checked2 .given in
+    let check = checked .check in
+    (c .before .row-words .ensures ∙ width-is (now (start .args .volume)) (now (start .args .plan)) (g .0 .0) (g .0 .1 .0) (sym (check .ensures) ∙ ap saidChecked (g .1)), start .pre)
 
 same-length : tie.Need-same-length
 same-length c = omega arith
 
 returns : tie.Need-returns
 returns c =
-    let a = c .before .before .before .before .before .before .before .before .before .before .before .before .args in
-    let g = c .before .before .before .before .before .before .checked .given in
+    let refused = c .before .before .before .before .before .before in
+    let checked = refused-checked refused in
+    let a = start-of checked .args in
+    let g = refused .checked .given in
     let code = c .before .before .before .before .code-of .ensures in
-    rw (list-refused (now (a .volume)) (now (a .plan)) (a .from) (a .tally) (codeOf (g .0 .0)) (atOf (g .0 .0)) (sym (c .before .before .before .before .before .before .before .before .check .ensures) ∙ ap saidChecked (g .1)))
+    rw (list-refused (now (a .volume)) (now (a .plan)) (a .from) (a .tally) (codeOf (g .0 .0)) (atOf (g .0 .0)) (sym (checked .check .ensures) ∙ ap saidChecked (g .1)))
     (told-only (a .tally) (rw (code .0, code .1) at (c .before .before .put-refusal .ensures)))
 
 same-length-2 : tie.Need-same-length-2

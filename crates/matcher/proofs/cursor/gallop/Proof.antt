@@ -10,6 +10,13 @@ use denote.Ref.{now}
 use Rattle.volume.specs.Inner.Below.{belowCount}
 use Rattle.matcher.proofs.Laws.Cursors.{seek-here, galloped-end, stretch-within, window-hit, window-all}
 
+-- the places that the answers speak of, each from the one behind it
+abbrev start-of : tie.After-word-at → tie.Start
+start-of c = c .before .before .before .before .before
+
+abbrev word-of : tie.After-below-in-window → tie.After-word-at
+word-of c = c .before .before
+
 sub-if1 : tie.Need-sub-if1
 sub-if1 c = let o = c .before .pre .order in omega arith
 
@@ -21,9 +28,8 @@ cast-if4 c = omega arith
 
 returns : tie.Need-returns
 returns c =
-    let p = c .before .before .before .before .before .before in
     let w = c .before .word-at .ensures in
-    seek-here _ _ _ _ (p .pre .order) (omega arith)
+    seek-here _ _ _ _ (start-of (c .before) .pre .order) (omega arith)
 
 cast-below-in-window : tie.Need-cast-below-in-window
 cast-below-in-window c = search needs
@@ -32,30 +38,28 @@ below-in-window-requires : tie.Need-below-in-window-requires
 below-in-window-requires c κs = search needs
 
 add-result : tie.Need-add-result
-add-result c = let w = c .before .before .before .before .before .before .before .before .pre .within in omega arith
+add-result c = let w = start-of (word-of (c .before)) .pre .within in omega arith
 
 returns-2 : tie.Need-returns-2
 returns-2 c =
-    let p = c .before .before .before .before .before .before .before .before in
+    let start = start-of (word-of (c .before)) in
     let n = c .before .below-in-window .ensures .0 in
-    let few : belowCount (now (p .args .volume)) (p .args .target) (p .args .from) 8 < 8 = omega arith in
-    let hit = window-hit (now (p .args .volume)) (p .args .target) (p .args .from) (p .args .end) 8 (p .pre) (omega arith) few in
+    let few : belowCount (now (start .args .volume)) (start .args .target) (start .args .from) 8 < 8 = omega arith in
+    let hit = window-hit (now (start .args .volume)) (start .args .target) (start .args .from) (start .args .end) 8 (start .pre) (omega arith) few in
     omega arith
 
 add-leap : tie.Need-add-leap
-add-leap c = let w = c .before .before .before .before .before .before .before .before .pre .within in omega arith
+add-leap c = let w = start-of (word-of (c .before)) .pre .within in omega arith
 
 leap-requires : tie.Need-leap-requires
-leap-requires c κs =
-    let p = c .before .before .before .before .before .before .before .before in
-    (stretch-within _ _ _ _ _ (p .pre) (omega arith) (omega arith) (omega arith), omega arith)
+leap-requires c κs = (stretch-within _ _ _ _ _ (start-of (word-of (c .before)) .pre) (omega arith) (omega arith) (omega arith), omega arith)
 
 returns-3 : tie.Need-returns-3
 returns-3 c =
-    let p = c .before .before .before .before .before .before .before .before .before in
+    let start = start-of (word-of (c .before .before)) in
     let n = c .before .before .below-in-window .ensures .0 in
-    let most : 8 ≤ belowCount (now (p .args .volume)) (p .args .target) (p .args .from) 8 = omega arith in
-    c .leap .ensures ∙ galloped-end _ _ _ _ (p .pre) _ (window-all _ _ _ _ 8 (p .pre) (omega arith) most)
+    let most : 8 ≤ belowCount (now (start .args .volume)) (start .args .target) (start .args .from) 8 = omega arith in
+    c .leap .ensures ∙ galloped-end _ _ _ _ (start .pre) _ (window-all _ _ _ _ 8 (start .pre) (omega arith) most)
 
 leap-requires-2 : tie.Need-leap-requires-2
 leap-requires-2 c κs = (c .before .before .pre, omega arith)

@@ -15,21 +15,30 @@ Inv-loop plan patterns table₀ vars₀ k₀ table vars k = Laid plan (length ta
 abbrev μ-loop : tie.MeasureT-loop
 μ-loop plan patterns table₀ vars₀ k₀ table vars k = patterns - k
 
+-- the places that the answers speak of, each from the one behind it
+abbrev start-of : tie.At-loop Inv-loop μ-loop → tie.Start Inv-loop μ-loop
+start-of c = c .before .before .before
+
+abbrev round-of : tie.After-span-at Inv-loop μ-loop → tie.At-loop Inv-loop μ-loop
+round-of c = c .before .before
+
 -- the rows of a pattern, as a turn finds them
-turn : (c : tie.After-first-of Inv-loop μ-loop) → Spanned (now (c .before .before .before .before .before .before .before .args .plan)) (c .before .before .before .before .loop .k) (c .before .before .span-at .result .start) (c .before .before .span-at .result .len) (c .first-of .result)
+turn : (c : tie.After-first-of Inv-loop μ-loop) → let round = round-of (c .before .before) in let start = start-of round in
+    Spanned (now (start .args .plan)) (round .loop .k) (c .before .before .span-at .result .start) (c .before .before .span-at .result .len) (c .first-of .result)
 turn c =
-    let l = c .before .before .before .before .loop in
-    let start = c .before .before .before .before .before .before .before in
+    let round = round-of (c .before .before) in
+    let start = start-of round in
+    let l = round .loop in
     spanned (start .pre .0 .0) (now (start .args .plan)) (start .pre .0 .1) (l .k) (omega arith) (c .before .before .span-at .result) (c .first-of .result) (c .before .before .span-at .ensures) (c .first-of .ensures)
 
 loop-holds : tie.Need-loop-holds Inv-loop μ-loop
 loop-holds c = laid-first (now (c .before .before .args .plan)) (now (c .before .before .args .table))
 
 span-at-requires : tie.Need-span-at-requires Inv-loop μ-loop
-span-at-requires c κs = (c .before .before .before .before .pre .0, omega arith)
+span-at-requires c κs = (start-of (c .before) .pre .0, omega arith)
 
 first-of-requires : tie.Need-first-of-requires Inv-loop μ-loop
-first-of-requires c κs = c .before .before .before .before .before .before .pre .0
+first-of-requires c κs = start-of (round-of (c .before)) .pre .0
 
 sub-count : tie.Need-sub-count Inv-loop μ-loop
 sub-count c =
@@ -84,9 +93,10 @@ slice-write-table-4 c = simp length-set (omega arith)
 
 add-vars : tie.Need-add-vars Inv-loop μ-loop
 add-vars c =
+    let round = round-of (c .before .before .before) in
+    let start = start-of round in
     let s = turn (c .before) in
-    let l = c .before .before .before .before .before .loop in
-    let start = c .before .before .before .before .before .before .before .before in
+    let l = round .loop in
     let w = vars-within (now (start .args .plan)) (l .k) (omega arith) in
     let m = given _ _ (start .pre .0 .1) .most-vars in
     omega arith
@@ -99,9 +109,11 @@ loop-less c = omega arith
 
 loop-again : tie.Need-loop-again Inv-loop μ-loop
 loop-again c =
-    let l = c .before .before .before .before .before .loop in
-    let start = c .before .before .before .before .before .before .before .before in
-    let s = c .before .before .before .span-at .result in
+    let span = c .before .before .before in
+    let round = round-of span in
+    let start = start-of round in
+    let l = round .loop in
+    let s = span .span-at .result in
     laid-next (start .pre .0 .0) (now (start .args .plan)) (start .pre .0 .1) (length (now (start .args .table))) (l .table) (l .vars) (l .k) (s .start) (s .len) (c .before .first-of .result) (l .inv) (omega arith) (omega arith) (turn (c .before))
 
 same-length : tie.Need-same-length Inv-loop μ-loop
@@ -110,7 +122,7 @@ same-length c = c .before .loop .inv .same
 returns : tie.Need-returns Inv-loop μ-loop
 returns c =
     let l = c .before .loop in
-    let a = c .before .before .before .before .args in
+    let a = start-of (c .before) .args in
     laid-done (now (a .plan)) (length (now (a .table))) (l .table) (l .vars) (l .k) (l .inv) (omega arith)
 
 pub lay-out-spec : {M : Type 1} → statement M

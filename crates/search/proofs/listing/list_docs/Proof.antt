@@ -27,8 +27,11 @@ abbrev μ-loop : tie.MeasureT-loop
 μ-loop volume plan table start firsts ends ats₀ out₀ patterns width room paras starts₀ docs₀ row₀ known₀ rows₀ from₀ ats out starts docs row known rows from = 65537 - from
 
 -- the places that the answers speak of, each from the one behind it
+abbrev entry-of : tie.After-slice-known2 Inv-loop μ-loop → tie.Start Inv-loop μ-loop
+entry-of c = c .before .before .before .before .before .before .before
+
 abbrev start-of : tie.At-loop Inv-loop μ-loop → tie.Start Inv-loop μ-loop
-start-of c = c .before .before .before .before .before .before .before .before .before .before .before
+start-of c = entry-of (c .before .before .before .before)
 
 abbrev words-of : tie.At-loop Inv-loop μ-loop → tie.After-row-words Inv-loop μ-loop
 words-of c = c .before .before .before
@@ -49,9 +52,9 @@ told-of c = c .before .before
 many : (c : tie.Start Inv-loop μ-loop) → length (now (c .args .table)) / 4 ≡ sizes (now (c .args .plan)) .patterns
 many c = let t = c .pre .1 .0 in omega arith
 
-wide : (c : tie.After-row-words Inv-loop μ-loop) → let start = c .before .before .before .before .before .before .before .before in
+wide : (c : tie.After-row-words Inv-loop μ-loop) → let start = entry-of (c .before) in
     c .row-words .result ≡ 1 + sizes (now (start .args .plan)) .patterns + sizes (now (start .args .plan)) .vars
-wide c = let start = c .before .before .before .before .before .before .before .before in let e = c .row-words .ensures in let m = many start in let f = start .pre .1 .1 .0 in omega arith
+wide c = let start = entry-of (c .before) in let e = c .row-words .ensures in let m = many start in let f = start .pre .1 .1 .0 in omega arith
 
 few : (c : tie.Start Inv-loop μ-loop) → (sizes (now (c .args .plan)) .patterns ≤ 8) × (1 + sizes (now (c .args .plan)) .patterns + sizes (now (c .args .plan)) .vars ≤ 59)
 few c = visit-few _ _ _ _ (c .pre .0)
@@ -103,10 +106,10 @@ remembers c =
     (remembers-next _ _ (turn .loop .inv .1 .1 .1 .1 .1) _ (omega arith) _ (c .answer-of .ensures .0))
 
 cast-row-words : tie.Need-cast-row-words Inv-loop μ-loop
-cast-row-words c = let m = many (c .before .before .before .before .before .before .before) in let f = few (c .before .before .before .before .before .before .before) .0 in omega arith
+cast-row-words c = let m = many (entry-of c) in let f = few (entry-of c) .0 in omega arith
 
 cast-row-words-2 : tie.Need-cast-row-words-2 Inv-loop μ-loop
-cast-row-words-2 c = let e = c .before .before .before .before .before .before .before .pre .1 .1 .0 in let f = few (c .before .before .before .before .before .before .before) .1 in omega arith
+cast-row-words-2 c = let e = entry-of c .pre .1 .1 .0 in let f = few (entry-of c) .1 in omega arith
 
 row-words-requires : tie.Need-row-words-requires Inv-loop μ-loop
 row-words-requires c κs = omega arith
@@ -115,14 +118,14 @@ div-room : tie.Need-div-room Inv-loop μ-loop
 div-room c = let w = wide c in omega arith
 
 has-samepara-requires : tie.Need-has-samepara-requires Inv-loop μ-loop
-has-samepara-requires c κs = let start = c .before .before .before .before .before .before .before .before in (now (start .args .volume), start .pre .0 .accepted)
+has-samepara-requires c κs = let start = entry-of (c .before) in (now (start .args .volume), start .pre .0 .accepted)
 
 starts-of-requires : tie.Need-starts-of-requires Inv-loop μ-loop
-starts-of-requires c κs = given _ _ (c .before .before .before .before .before .before .before .before .before .pre .0 .accepted) .volume-accepted
+starts-of-requires c κs = given _ _ (entry-of (c .before .before) .pre .0 .accepted) .volume-accepted
 
 loop-holds : tie.Need-loop-holds Inv-loop μ-loop
 loop-holds c =
-    let start = c .before .before .before .before .before .before .before .before .before .before in
+    let start = entry-of (c .before .before .before) in
     let p = start .pre in
     let f = p .1 .1 .0 in
     let low : start .args .start ≤ 65536 = let l = p .1 .1 .1 .0 in omega arith in

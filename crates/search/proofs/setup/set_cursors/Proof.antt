@@ -7,6 +7,7 @@ use mathlib.Core.List.{List}
 use lib.ListN.{length, getD}
 use denote.Ref.{now}
 use Rattle.plan.specs.declared.outline.Outline.{Outline}
+use Rattle.plan.specs.Limits.{mostVars}
 use Rattle.plan.specs.Check.{sizes}
 use Rattle.plan.specs.Accepted.{patternAt}
 use Rattle.plan.specs.Inner.Outline.{varsBefore, outlineAt, Entry, Tabled}
@@ -29,6 +30,19 @@ Inv-loop volume plan patterns table start ats₀ ends₀ k₀ ats ends k = (k �
 abbrev μ-loop : tie.MeasureT-loop
 μ-loop volume plan patterns table start ats₀ ends₀ k₀ ats ends k = patterns - k
 
+-- the places that the answers speak of, each from the one behind it
+abbrev start-of : tie.At-loop Inv-loop2 μ-loop2 Inv-loop μ-loop → tie.Start Inv-loop2 μ-loop2 Inv-loop μ-loop
+start-of c = c .before .before .before .before .before .before
+
+abbrev round-of : tie.After-outline-at Inv-loop2 μ-loop2 Inv-loop μ-loop → tie.At-loop Inv-loop2 μ-loop2 Inv-loop μ-loop
+round-of c = c .before .before
+
+abbrev entry-of : tie.At-loop2 Inv-loop2 μ-loop2 Inv-loop μ-loop → tie.After-outline-at Inv-loop2 μ-loop2 Inv-loop μ-loop
+entry-of c = c .before .before
+
+abbrev var-of : tie.After-list-at Inv-loop2 μ-loop2 Inv-loop μ-loop → tie.At-loop2 Inv-loop2 μ-loop2 Inv-loop μ-loop
+var-of c = c .before .before
+
 -- the outline of pattern k, as a turn reads it
 record Outlined (p : List ℕ) (k : ℕ) (o : Outline) : Type 0 where
   entry : Entry p o
@@ -40,21 +54,25 @@ record Outlined (p : List ℕ) (k : ℕ) (o : Outline) : Type 0 where
 outlined : (p table : List ℕ) → Tabled p table → (k : ℕ) → k < sizes p .patterns → (o : Outline) → o ≡ outlineAt table k → Outlined p k o
 outlined p table t k h o e = rw e (record { entry = t k h; there = h; room = t k h .outlines .room; first-is = t k h .first-is; vars-are = t k h .outlines .vars-are })
 
-outline : (c : tie.After-struct-known Inv-loop2 μ-loop2 Inv-loop μ-loop) → Outlined (now (c .before .before .before .before .before .before .before .before .before .args .plan)) (c .before .before .before .loop .k) (c .before .outline-at .result)
+outline : (c : tie.After-struct-known Inv-loop2 μ-loop2 Inv-loop μ-loop) → let round = round-of (c .before) in let start = start-of round in
+    Outlined (now (start .args .plan)) (round .loop .k) (c .before .outline-at .result)
 outline c =
-    let s = c .before .before .before .before .before .before .before .before .before in
-    outlined (now (s .args .plan)) (now (s .args .table)) (s .pre .1 .1 .0) (c .before .before .before .loop .k) (omega arith) (c .before .outline-at .result) (c .before .outline-at .ensures)
+    let round = round-of (c .before) in
+    let start = start-of round in
+    outlined (now (start .args .plan)) (now (start .args .table)) (start .pre .1 .1 .0) (round .loop .k) (omega arith) (c .before .outline-at .result) (c .before .outline-at .ensures)
 
 -- the VOICE row of a variable, which an inner turn reads
 turn :
     (c : tie.In-loop2 Inv-loop2 μ-loop2 Inv-loop μ-loop)
-    → Voiced (now (c .before .before .before .before .before .before .before .before .before .before .before .args .volume)) (now (c .before .before .before .before .before .before .before .before .before .before .before .args .plan))
-    (c .before .before .before .outline-at .result .condition - c .before .before .before .outline-at .result .vars + c .before .loop2 .i)
-    (getD (patternAt (now (c .before .before .before .before .before .before .before .before .before .before .before .args .plan)) (c .before .before .before .outline-at .result .pattern) .vars) (c .before .loop2 .i) 0)
+    → let entry = entry-of (c .before) in let start = start-of (round-of entry) in
+    Voiced (now (start .args .volume)) (now (start .args .plan))
+    (entry .outline-at .result .condition - entry .outline-at .result .vars + c .before .loop2 .i)
+    (getD (patternAt (now (start .args .plan)) (entry .outline-at .result .pattern) .vars) (c .before .loop2 .i) 0)
 turn c =
-    let s = c .before .before .before .before .before .before .before .before .before .before .before in
+    let entry = entry-of (c .before) in
+    let start = start-of (round-of entry) in
     let o = outline (c .before .before) in
-    voiced (now (s .args .volume)) (now (s .args .plan)) (s .pre .0) (c .before .before .before .outline-at .result) (o .there) (o .entry .outlines) (c .before .loop2 .i) (omega arith)
+    voiced (now (start .args .volume)) (now (start .args .plan)) (start .pre .0) (entry .outline-at .result) (o .there) (o .entry .outlines) (c .before .loop2 .i) (omega arith)
 
 loop-holds : tie.Need-loop-holds Inv-loop2 μ-loop2 Inv-loop μ-loop
 loop-holds c =
@@ -69,8 +87,9 @@ sub-row c = let o = outline c .room in omega arith
 
 loop2-holds : tie.Need-loop2-holds Inv-loop2 μ-loop2 Inv-loop μ-loop
 loop2-holds c =
-    let l = c .before .before .before .loop in
-    let a = c .before .before .before .before .before .before .before .before .before .args in
+    let round = round-of (c .before) in
+    let l = round .loop in
+    let a = start-of round .args in
     let p = now (a .plan) in
     let first = c .before .outline-at .result .first in
     let f = outline c .first-is in
@@ -79,7 +98,7 @@ loop2-holds c =
 add-list-at : tie.Need-add-list-at Inv-loop2 μ-loop2 Inv-loop μ-loop
 add-list-at c =
     let t = turn c .inside in
-    let g = given _ _ (c .before .before .before .before .before .before .before .before .before .before .before .pre .0) .most-rows in
+    let g = given _ _ (start-of (round-of (entry-of (c .before))) .pre .0) .most-rows in
     omega arith
 
 list-at-requires : tie.Need-list-at-requires Inv-loop2 μ-loop2 Inv-loop μ-loop
@@ -90,16 +109,19 @@ cast-cursor-on c = omega arith
 
 cursor-on-requires : tie.Need-cursor-on-requires Inv-loop2 μ-loop2 Inv-loop μ-loop
 cursor-on-requires c κs =
-    let g = given _ _ (c .before .before .before .before .before .before .before .before .before .before .before .before .pre .0) in
+    let g = given _ _ (start-of (round-of (entry-of (var-of c))) .pre .0) in
     let t = turn (c .before) in
     (g .volume-accepted, rw (voiced-list t (c .list-at .result) (c .list-at .ensures)) (t .there))
 
 -- each variable has its place in the two buffers
-room : (c : tie.After-cursor-on Inv-loop2 μ-loop2 Inv-loop μ-loop) → c .before .before .before .before .before .outline-at .result .first + c .before .before .before .loop2 .i < 51
+room : (c : tie.After-cursor-on Inv-loop2 μ-loop2 Inv-loop μ-loop) → let var = var-of (c .before) in let entry = entry-of var in
+    entry .outline-at .result .first + var .loop2 .i < mostVars
 room c =
-    let s = c .before .before .before .before .before .before .before .before .before .before .before .before .before in
+    let var = var-of (c .before) in
+    let entry = entry-of var in
+    let start = start-of (round-of entry) in
     let o = outline (c .before .before .before .before) in
-    var-few (now (s .args .volume)) (now (s .args .plan)) (s .pre .0) (c .before .before .before .before .before .outline-at .result) (o .there) (o .entry) (c .before .before .before .loop2 .i) (omega arith)
+    var-few (now (start .args .volume)) (now (start .args .plan)) (start .pre .0) (entry .outline-at .result) (o .there) (o .entry) (var .loop2 .i) (omega arith)
 
 add-ats : tie.Need-add-ats Inv-loop2 μ-loop2 Inv-loop μ-loop
 add-ats c = let t = room c in omega arith
@@ -127,20 +149,23 @@ loop2-less c = omega arith
 
 loop2-again : tie.Need-loop2-again Inv-loop2 μ-loop2 Inv-loop μ-loop
 loop2-again c =
-    let l = c .before .before .before .loop2 in
-    let outer = c .before .before .before .before .before .before .before .loop in
-    let s = c .before .before .before .before .before .before .before .before .before .before .before .before .before in
-    let a = s .args in
+    let var = var-of (c .before) in
+    let entry = entry-of var in
+    let round = round-of entry in
+    let start = start-of round in
+    let l = var .loop2 in
+    let outer = round .loop in
+    let a = start .args in
     let v = now (a .volume) in
     let t = turn (c .before .before) in
     let o = outline (c .before .before .before .before) in
     let few = room c in
-    let rooms = s .pre .1 .1 .1 .1 .1 in
+    let rooms = start .pre .1 .1 .1 .1 .1 in
     let ats-same = outer .inv .1 .same-ats in
     let ends-same = outer .inv .1 .same-ends in
-    let x = c .before .before .before .before .before .outline-at .result .first + l .i in
-    let list = voiced-list t (c .before .list-at .result) (c .before .list-at .ensures) ∙ var-is v (now (a .plan)) (s .pre .0) (c .before .before .before .before .before .outline-at .result) (o .there) (o .entry) (l .i) (omega arith) in
-    let e : x + 1 ≡ c .before .before .before .before .before .outline-at .result .first + (l .i + 1) = omega arith in
+    let x = entry .outline-at .result .first + l .i in
+    let list = voiced-list t (c .before .list-at .result) (c .before .list-at .ensures) ∙ var-is v (now (a .plan)) (start .pre .0) (entry .outline-at .result) (o .there) (o .entry) (l .i) (omega arith) in
+    let e : x + 1 ≡ entry .outline-at .result .first + (l .i + 1) = omega arith in
     let next = placing-next v (now (a .plan)) (a .start) (length (outer .ats)) (length (outer .ends)) (l .ats) (l .ends) x (l .inv .1) in
     (omega arith, rw e at (next (omega (arith, few, rooms .0, ats-same)) (omega (arith, few, rooms .1, ends-same)) (c .cursor-on .result) (c .cursor-on .ensures ∙ ap (λ (list : ℕ). cursorOn v list (a .start)) list)))
 
@@ -152,14 +177,16 @@ loop-less c = omega arith
 
 loop-again : tie.Need-loop-again Inv-loop2 μ-loop2 Inv-loop μ-loop
 loop-again c =
+    let entry = entry-of (c .before) in
+    let round = round-of entry in
     let l = c .before .loop2 in
-    let outer = c .before .before .before .before .before .loop in
-    let a = c .before .before .before .before .before .before .before .before .before .before .before .args in
+    let outer = round .loop in
+    let a = start-of round .args in
     let p = now (a .plan) in
     let f = outline (c .before .before) .first-is in
     let m = outline (c .before .before) .vars-are in
     let next = varsBefore-next p (outer .k) (omega arith) in
-    let first = c .before .before .before .outline-at .result .first in
+    let first = entry .outline-at .result .first in
     (omega arith, placing-as (now (a .volume)) p (a .start) (length (outer .ats)) (length (outer .ends)) (first + l .i) (length (now (a .ats))) (length (now (a .ends))) (varsBefore p (outer .k + 1)) (l .ats) (l .ends) (l .inv .1) (outer .inv .1 .same-ats) (outer .inv .1 .same-ends) (omega arith))
 
 same-length : tie.Need-same-length Inv-loop2 μ-loop2 Inv-loop μ-loop
@@ -171,7 +198,7 @@ same-length-2 c = c .before .loop .inv .1 .same-ends
 returns : tie.Need-returns Inv-loop2 μ-loop2 Inv-loop μ-loop
 returns c =
     let l = c .before .loop in
-    let a = c .before .before .before .before .before .before .before .args in
+    let a = start-of (c .before) .args in
     placing-done (now (a .volume)) (now (a .plan)) (a .start) (length (now (a .ats))) (length (now (a .ends))) (l .ats) (l .ends) (l .k) (l .inv .1) (omega arith)
 
 pub set-cursors-spec : {M : Type 1} → statement M

@@ -96,54 +96,54 @@ outline-at-requires : tie.Need-outline-at-requires Inv-loop μ-loop
 outline-at-requires c κs = let t = start-of (c .before) .pre .1 .0 in let i = inside c in omega arith
 
 add-next : tie.Need-add-next Inv-loop μ-loop
-add-next c = let m = room (c .before) in let n = vars (c) in let l = c .before .before .loop .inv .row-length in let w = whole (c .before .before) in omega arith
+add-next c = let m = room (c .before) in let n = vars c in let l = c .before .before .loop .inv .row-length in let w = whole (c .before .before) in omega arith
 
 add-next-2 : tie.Need-add-next-2 Inv-loop μ-loop
 add-next-2 c = let m = room (c .before .before) in let n = vars (c .before) in let l = c .before .before .before .loop .inv .row-length in let w = whole (c .before .before .before) in omega arith
 
 mul-show-pattern : tie.Need-mul-show-pattern Inv-loop μ-loop
-mul-show-pattern c = let m = room (c .before .before) in let l = (c .before .before .before) .loop .inv .row-length in let w = whole (c .before .before .before) in omega arith
+mul-show-pattern c = let m = room (c .before .before) in let l = c .before .before .before .loop .inv .row-length in let w = whole (c .before .before .before) in omega arith
 
 shared-slice-read-show-pattern : tie.Need-shared-slice-read-show-pattern Inv-loop μ-loop
-shared-slice-read-show-pattern c = let m = room (c .before .before .before) in let l = (c .before .before .before .before) .loop .inv .row-length in let w = whole (c .before .before .before .before) in omega arith
+shared-slice-read-show-pattern c = let m = room (c .before .before .before) in let l = c .before .before .before .before .loop .inv .row-length in let w = whole (c .before .before .before .before) in omega arith
 
 mul-show-pattern-2 : tie.Need-mul-show-pattern-2 Inv-loop μ-loop
-mul-show-pattern-2 c = let m = room (c .before .before .before) in let l = (c .before .before .before .before) .loop .inv .row-length in let w = whole (c .before .before .before .before) in omega arith
+mul-show-pattern-2 c = let m = room (c .before .before .before) in let l = c .before .before .before .before .loop .inv .row-length in let w = whole (c .before .before .before .before) in omega arith
 
 sub-show-pattern : tie.Need-sub-show-pattern Inv-loop μ-loop
-sub-show-pattern c = let m = room (c .before .before .before) in let l = (c .before .before .before .before) .loop .inv .row-length in let w = whole (c .before .before .before .before) in omega arith
+sub-show-pattern c = let m = room (c .before .before .before) in let l = c .before .before .before .before .loop .inv .row-length in let w = whole (c .before .before .before .before) in omega arith
 
 part-show-pattern-start : tie.Need-part-show-pattern-start Inv-loop μ-loop
-part-show-pattern-start c = let m = room (c .before .before .before) in let l = (c .before .before .before .before) .loop .inv .row-length in let w = whole (c .before .before .before .before) in omega arith
+part-show-pattern-start c = let m = room (c .before .before .before) in let l = c .before .before .before .before .loop .inv .row-length in let w = whole (c .before .before .before .before) in omega arith
 
 part-show-pattern-end : tie.Need-part-show-pattern-end Inv-loop μ-loop
-part-show-pattern-end c = let m = room (c .before .before .before) in let l = (c .before .before .before .before) .loop .inv .row-length in let w = whole (c .before .before .before .before) in omega arith
+part-show-pattern-end c = let m = room (c .before .before .before) in let l = c .before .before .before .before .loop .inv .row-length in let w = whole (c .before .before .before .before) in omega arith
 
 show-pattern-requires : tie.Need-show-pattern-requires Inv-loop μ-loop
 show-pattern-requires c κs =
-    let turn = (c .before .before .before .before) in
+    let turn = c .before .before .before .before in
     let laid = c .before .before .before in
     let m = room turn in
     let n = vars laid in
     (rw (laid .outline-at .ensures) (ready turn), simp (length-take, length-drop) (omega arith))
 
 add-bits : tie.Need-add-bits Inv-loop μ-loop
-add-bits c = let s = small (c .before .before .before .before .before .before .before .before) in omega arith
+add-bits c = let s = small (laid-of (c .before .before .before) .before) in omega arith
 
 mul-weight : tie.Need-mul-weight Inv-loop μ-loop
-mul-weight c = let s = small (c .before .before .before .before .before .before .before .before) in omega arith
+mul-weight c = let s = small (laid-of (c .before .before .before) .before) in omega arith
 
 add-k : tie.Need-add-k Inv-loop μ-loop
 add-k c = omega arith
 
 loop-less : tie.Need-loop-less Inv-loop μ-loop
-loop-less c = let t = (c .before .before .before .before .before .before .before .before) .loop-test .taken in omega arith
+loop-less c = let t = laid-of (c .before .before .before) .before .loop-test .taken in omega arith
 
 loop-again : tie.Need-loop-again Inv-loop μ-loop
 loop-again c =
     let shown = c .before .before .before in
-    let turn = (c .before .before .before .before .before .before .before .before) in
-    let laid = c .before .before .before .before .before .before .before in
+    let laid = laid-of shown in
+    let turn = laid .before in
     let start = start-of (turn .before) in
     let l = turn .before .loop in
     let m = room turn in

@@ -13,13 +13,19 @@ use Rattle.volume.proofs.Laws.WriteAnswer.{Ordered, refuses-counts, ref
 use Rattle.volume.proofs.writing.write.Statement.{statement}
 use Rattle.volume.proofs.writing.write.Tie as tie
 
+-- the places that the answers speak of, each from the one behind it
+abbrev start-of : tie.Else3 → tie.Start
+start-of c = c .before .before .before .before .before .before .before
+
 -- behind the test of 18 the counts sum to the number of postings
-sum-is : (c : tie.Else3) → sumTo (at (now (c .before .before .before .before .before .before .before .args .counts))) (length (now (c .before .before .before .before .before .before .before .args .counts)))
-    ≡ length (now (c .before .before .before .before .before .before .before .args .postings))
+sum-is : (c : tie.Else3) → let start = start-of c in
+    sumTo (at (now (start .args .counts))) (length (now (start .args .counts)))
+    ≡ length (now (start .args .postings))
 sum-is c = sym (c .before .sum-of .ensures) ∙ c .if3 .left
 
 -- behind the test of 7 the lists rise
-ordered : (c : tie.Else4) → Ordered (now (c .before .before .before .before .before .before .before .before .before .args .counts)) (now (c .before .before .before .before .before .before .before .before .before .args .postings))
+ordered : (c : tie.Else4) → let start = start-of (c .before .before) in
+    Ordered (now (start .args .counts)) (now (start .args .postings))
 ordered c = record {
   few = omega arith;
   many = omega (arith, ltb-false);
