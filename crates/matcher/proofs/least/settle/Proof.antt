@@ -91,14 +91,15 @@ same-length c = search needs
 
 returns : tie.Need-returns
 returns c =
-    let matched = c .before .before .before .before .before .before .before .before in
+    let tested = c .before .before .before .before .before in
+    let matched = tested .before .before .before in
     let a = start-of (stood-of matched) .args in
     let ps = matched .match-from .last .1 .1 .1 .1 .1 .1 .0 in
     let r = matched .match-from .result in (
-      sym (c .before .before .before .before .before .if1 .taken) ∙ settled-found (now (a .volume)) (now (a .plan)) (a .outline .pattern) (a .document .doc) (a .outline .vars) ps r (least-of matched),
+      sym (tested .if1 .taken) ∙ settled-found (now (a .volume)) (now (a .plan)) (a .outline .pattern) (a .document .doc) (a .outline .vars) ps r (least-of matched),
       c .before .before .show .ensures
           ∙ ap (λ (xs : List ℕ). xs ++ drop (1 + a .outline .vars) (now (a .row)))
-          (settled-yes (now (a .volume)) (now (a .plan)) (a .outline .pattern) (a .document .doc) (a .outline .vars) ps r (least-of matched) (c .before .before .before .before .before .if1 .taken)),
+          (settled-yes (now (a .volume)) (now (a .plan)) (a .outline .pattern) (a .document .doc) (a .outline .vars) ps r (least-of matched) (tested .if1 .taken)),
     )
 
 slice-aggregate-show-2 : tie.Need-slice-aggregate-show-2
@@ -115,15 +116,16 @@ same-length-2 c = search needs
 
 returns-2 : tie.Need-returns-2
 returns-2 c =
-    let matched = c .before .before .before .before .before .before .before .before in
+    let tested = c .before .before .before .before .before in
+    let matched = tested .before .before .before in
     let start = start-of (stood-of matched) in
     let a = start .args in
     let ps = matched .match-from .last .1 .1 .1 .1 .1 .1 .0 in
     let r = matched .match-from .result in (
-      sym (c .before .before .before .before .before .if1 .left) ∙ settled-found (now (a .volume)) (now (a .plan)) (a .outline .pattern) (a .document .doc) (a .outline .vars) ps r (least-of matched),
+      sym (tested .if1 .left) ∙ settled-found (now (a .volume)) (now (a .plan)) (a .outline .pattern) (a .document .doc) (a .outline .vars) ps r (least-of matched),
       c .before .before .show2 .ensures
           ∙ ap (λ (xs : List ℕ). xs ++ drop (1 + a .outline .vars) (now (a .row)))
-          (settled-no (now (a .volume)) (now (a .plan)) (a .outline .pattern) (a .document .doc) (a .outline .vars) ps r (least-of matched) (c .before .before .before .before .before .if1 .left)
+          (settled-no (now (a .volume)) (now (a .plan)) (a .outline .pattern) (a .document .doc) (a .outline .vars) ps r (least-of matched) (tested .if1 .left)
           (start .pre .0 .entry .outlines .vars-are) (ready-vars _ _ _ _ _ _ (start .pre .0))),
     )
 

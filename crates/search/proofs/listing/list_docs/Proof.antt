@@ -48,6 +48,12 @@ found-of c = c .before .before .before
 abbrev told-of : tie.Else2 Inv-loop μ-loop → tie.After-answer-of Inv-loop μ-loop
 told-of c = c .before .before
 
+abbrev last-seen : tie.After-tally Inv-loop μ-loop → tie.After-visit Inv-loop μ-loop
+last-seen c = c .before .before .before .before .before .before
+
+abbrev true-of : tie.After-slice-known4 Inv-loop μ-loop → tie.Else2 Inv-loop μ-loop
+true-of c = c .before .before .before .before .before .before
+
 -- the number of patterns, and the words of a row
 many : (c : tie.Start Inv-loop μ-loop) → length (now (c .args .table)) / 4 ≡ sizes (now (c .args .plan)) .patterns
 many c = let t = c .pre .1 .0 in omega arith
@@ -175,20 +181,20 @@ tally-requires c κs =
     (p .0 .accepted, (e, (omega arith, (reached seen .from, (seen .visit .ensures .most, p .1 .1 .1 .1 .0)))))
 
 cast-t34 : tie.Need-cast-t34 Inv-loop μ-loop
-cast-t34 c = let n = visit-rows _ _ _ _ _ _ _ (reached (c .before .before .before .before .before .before)) in omega arith
+cast-t34 c = let n = visit-rows _ _ _ _ _ _ _ (reached (last-seen c)) in omega arith
 
 same-length : tie.Need-same-length Inv-loop μ-loop
-same-length c = ats-size (c .before .before .before .before .before .before)
+same-length c = ats-size (last-seen c)
 
 same-length-2 : tie.Need-same-length-2 Inv-loop μ-loop
 same-length-2 c =
-    let turn = turn-of (c .before .before .before .before .before .before) in
+    let turn = turn-of (last-seen c) in
     let start = start-of turn in
     same-size (work (now (start .args .volume)) (now (start .args .plan))) (work-even (now (start .args .volume)) (now (start .args .plan))) (turn .loop .inv .0 .progress)
 
 returns : tie.Need-returns Inv-loop μ-loop
 returns c =
-    let seen = c .before .before .before .before .before .before in
+    let seen = last-seen c in
     let start = start-of (turn-of seen) in
     let p = start .pre in
     visit-done _ _ _ _ (p .0) _ _ (p .1 .1 .1 .0) (p .1 .1 .1 .1 .1 .1) _ _ _ (reached seen) (c .tally .result) (c .tally .ensures) (c .before .if1 .taken)
@@ -284,25 +290,25 @@ put-row-requires c κs =
     (omega arith, visit-room _ _ _ _ _ _ (turn .loop .rows) _ w (turn .loop .inv .0 .progress) (c .before .before .if3 .left))
 
 add-rows : tie.Need-add-rows Inv-loop μ-loop
-add-rows c = let n = visit-rows _ _ _ _ _ _ _ (reached (seen-of (found-of (told-of (c .before .before .before .before .before .before))))) in omega arith
+add-rows c = let n = visit-rows _ _ _ _ _ _ _ (reached (seen-of (found-of (told-of (true-of c))))) in omega arith
 
 loop-less-2 : tie.Need-loop-less-2 Inv-loop μ-loop
 loop-less-2 c =
-    let found = found-of (told-of (c .before .before .before .before .before .before)) in
+    let found = found-of (told-of (true-of c)) in
     let l = inside found in
     let f = seen-of found .visit .ensures .later in
     omega arith
 
 loop-again-2 : tie.Need-loop-again-2 Inv-loop μ-loop
 loop-again-2 c =
-    let told-at = told-of (c .before .before .before .before .before .before) in
+    let told-at = told-of (true-of c) in
     let found = found-of told-at in
     let seen = seen-of found in
     let turn = turn-of seen in
     let start = start-of turn in (
       visiting-part _ _ _ _ _ _ _ _ _ _ _ _ _ (many start)
           (visit-put _ _ _ _ _ _ _ _ _ _ (seen .visit .ensures) _ _ (turn .loop .inv .0 .progress) (inside found)
-          (told told-at ∙ not-false _ (c .before .before .before .before .before .before .if2 .left)) _ (wide (words-of turn))
+          (told told-at ∙ not-false _ (true-of c .if2 .left)) _ (wide (words-of turn))
           (c .before .before .before .before .before .if3 .left) _ (c .before .before .put-row .ensures)),
       (
         part-length (turn .loop .docs) (seen .visit .last .1 .1 .1 .1 .1 .1 .0) (length (now (start .args .table)) / 4) 8 (docs-size seen)

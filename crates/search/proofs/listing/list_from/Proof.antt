@@ -68,18 +68,18 @@ set-cursors-requires c κs =
     (p .0, (p .1 .0, (laid .lay-out .ensures, (omega arith, (p .1 .1 .1 .0, (omega arith, omega arith))))))
 
 mul-table : tie.Need-mul-table
-mul-table c = let m = few (c .before .before .before .before .before .before .before .before .before .before .before .before) .0 in omega arith
+mul-table c = let m = few (start-of (laid-of (c .before .before))) .0 in omega arith
 
 array-share-prefix-table : tie.Need-array-share-prefix-table
 array-share-prefix-table c =
-    let laid = c .before .before .before .before .before .before .before in
+    let laid = laid-of (c .before .before) in
     let m = few (start-of laid) .0 in
     let t = table-size laid in
     omega arith
 
 slice-aggregate-list-docs : tie.Need-slice-aggregate-list-docs
 slice-aggregate-list-docs c =
-    let laid = c .before .before .before .before .before .before .before .before in
+    let laid = laid-of (c .before .before .before) in
     let start = start-of laid in
     let m = few start .0 in
     let t = table-size laid in
