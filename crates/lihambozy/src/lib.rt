@@ -155,7 +155,11 @@ pub extern "C" fn lhz_read_list(volume: &[u8], list: u32, out: &mut [u32]) -> Re
 
 // Writes the volume of counts and postings to the front of out.
 #[no_mangle]
-pub extern "C" fn lhz_write_volume(counts: &[u32], postings: &[u32], out: &mut [u8]) -> WriteVolumeAnswer
+pub extern "C" fn lhz_write_volume(
+    counts: &[u32],
+    postings: &[u32],
+    out: &mut [u8],
+) -> WriteVolumeAnswer
     ensures { λ r. ⌜ r ≡ flatVolume (writeAnswer (now (counts .entry)) (now (postings .entry)) (length (now (out .entry)))) ⌝ }
     ensures { λ _. ⌜ now (out .exit) ≡ writeOut (now (counts .entry)) (now (postings .entry)) (now (out .entry)) ⌝ }
 {

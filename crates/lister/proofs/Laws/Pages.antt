@@ -21,6 +21,7 @@ use Rattle.seq.specs.Numbers.{run}
 use Rattle.seq.specs.Refusals.{Said, refused, answered}
 use Rattle.seq.proofs.Laws.Numbers.{run-ext}
 use Rattle.seq.proofs.Laws.Stores.{drop-past}
+use Rattle.plan.specs.Limits.{rowWords}
 use Rattle.plan.specs.Answers.{Sizes}
 use Rattle.plan.specs.Check.{verdict, sizes}
 use Rattle.plan.proofs.Laws.Check.{verdict-sizes}
@@ -169,9 +170,9 @@ module _ (v p : List ℕ) (from tally width : ℕ) (back : List ℕ) (said : Sai
         (rw turn-listed at (t .0), rw answer (turn-ahead v p from blank said (sym (kept .0)) tally (length out) h (rw answer at (t .1))));
   }
 
-pub width-is : (v p : List ℕ) (patterns vars : ℕ) → verdict v p ≡ answered (record { patterns = patterns; vars = vars }) → 1 + patterns + vars ≡ work v p .width
+pub width-is : (v p : List ℕ) (patterns vars : ℕ) → verdict v p ≡ answered (record { patterns = patterns; vars = vars }) → rowWords patterns vars ≡ work v p .width
 unfolding work workOf sizes
-width-is v p patterns vars e = ap (λ (s : Sizes). 1 + s .patterns + s .vars) (verdict-sizes v p (record { patterns = patterns; vars = vars }) e)
+width-is v p patterns vars e = ap (λ (s : Sizes). rowWords (s .patterns) (s .vars)) (verdict-sizes v p (record { patterns = patterns; vars = vars }) e)
 
 -- the turns that have no page
 pub list-refused : (v p : List ℕ) (from tally n q : ℕ) → verdict v p ≡ refused n q → listTurn v p from tally ≡ only (line refusedWord (n ∷ q ∷ [])) tally

@@ -19,6 +19,7 @@ use Rattle.volume.specs.Layout.{listCount}
 use Rattle.plan.specs.declared.row.Kind.{Kind}
 use Rattle.plan.specs.declared.row.Kind.the-variants as kind
 use Rattle.plan.specs.declared.outline.Outline.{Outline}
+use Rattle.plan.specs.Limits.{mostVars}
 use Rattle.plan.specs.Rows.{rowCount, rowAt, rowsOf, formWrongAt}
 use Rattle.plan.specs.Patterns.{Pattern, noRow, patternsOf, varsOf}
 use Rattle.plan.specs.Check.{Accepted, sizes}
@@ -65,14 +66,14 @@ module _ (v p : List ℕ) (accepted : Accepted v p) (o : Outline) (h : o .patter
         there = g .well-made (o .pattern) h .lists i (omega arith) .1;
       }
 
-  -- its list is that of variable first + i of the plan, one of at most 51
+  -- its list is that of variable first + i of the plan, one of at most `mostVars`
   module _ (e : Entry p o) (i : ℕ) (l : i < o .vars) where
     pub var-is : getD (patternAt p (o .pattern) .vars) i 0 ≡ varAt p (o .first + i)
     var-is =
         let n = e .outlines .vars-are in
         sym (ap (λ (x : ℕ). varAt p (x + i)) (e .first-is) ∙ varAt-is p (o .pattern) i h (omega arith))
 
-    pub var-few : o .first + i < 51
+    pub var-few : o .first + i < mostVars
     var-few =
         let w = vars-within p (o .pattern) h in
         let f = e .first-is in

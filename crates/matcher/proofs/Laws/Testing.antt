@@ -33,6 +33,7 @@ use Rattle.volume.proofs.Laws.Check.{good}
 use Rattle.plan.specs.declared.row.Predicate.{Predicate}
 use Rattle.plan.specs.declared.row.Predicate.the-variants.{Window}
 use Rattle.plan.specs.declared.row.Kind.the-variants as kind
+use Rattle.plan.specs.Limits.{mostRows}
 use Rattle.plan.specs.Rows.{rowCount, rowAt, formWrongAt, InRange}
 use Rattle.plan.specs.State.{namesBelow}
 use Rattle.plan.specs.Patterns.{Pattern}
@@ -180,7 +181,7 @@ laid table t k h e = record { outlines = rw e (t k h .outlines); pattern-is = ap
 -- the row of predicate c, for n variables
 pub record Stated (p : List ℕ) (row n : ℕ) (c : Predicate) : Type 0 where
   pub inside : row < rowCount p
-  pub few : row < 64
+  pub few : row < mostRows
   pub formed : formWrongAt p row ≡ false
   pub kind-is : rowAt p row .kind ≡ kind.Condition c
   pub names : namesBelow n c ≡ true
@@ -228,7 +229,7 @@ module _ {v p : List ℕ} {o : Outline} {d : ℕ} {ps : List ℕ} (posed : Asked
       let m = e .vars-are in
       voiced v p (posed .accepted) o (posed .pattern) e x (omega arith)
 
-  pub voice-few : (x : ℕ) → x < length ps → firstVar + x < 64
+  pub voice-few : (x : ℕ) → x < length ps → firstVar + x < mostRows
   voice-few x h = let i = voice-of x h .inside in let r = posed-given .most-rows in omega arith
 
   -- the list that is read of the VOICE row of variable x, and what it is told to hold

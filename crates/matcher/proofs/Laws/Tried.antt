@@ -24,6 +24,7 @@ use Rattle.plan.specs.declared.row.Predicate.{Predicate}
 use Rattle.plan.specs.declared.row.Predicate.the-variants.{Window}
 use Rattle.plan.specs.declared.row.Kind.{Kind}
 use Rattle.plan.specs.declared.row.Kind.the-variants as kind
+use Rattle.plan.specs.Limits.{mostRows}
 use Rattle.plan.specs.Rows.{rowCount, rowAt, formWrongAt, InRange}
 use Rattle.plan.specs.State.{namesBelow}
 use Rattle.plan.specs.Accepted.{patternAt, Given, WellMade}
@@ -105,7 +106,7 @@ module _ (v p : List ℕ) (o : Outline) (doc : Document) (ends : List ℕ) (q : 
   }
 
   -- the rows of the predicates
-  pub tried-last : last ≤ 64
+  pub tried-last : last ≤ mostRows
   tried-last = let a = q .outlines .inside in let b = g .most-rows in omega arith
 
   some-vars : 1 ≤ n

@@ -18,6 +18,7 @@ use Rattle.seq.specs.Lists.{joined}
 use Rattle.seq.proofs.Laws.Lists.{joined-append}
 use Rattle.seq.proofs.Laws.Tests.{below-or}
 use Rattle.volume.specs.Layout.{listsOf}
+use Rattle.plan.specs.Limits.{rowWords}
 use Rattle.plan.specs.Rows.{rowsOf}
 use Rattle.plan.specs.Patterns.{Pattern, noRow, patternsOf}
 use Rattle.plan.specs.Check.{sizes}
@@ -103,7 +104,7 @@ module _ (v p : List ℕ) (d : ℕ) (row₀ : List ℕ) where
   }
 
   module _ (row : List ℕ) (to bits weight k : ℕ) (f : Filling v p d row₀ row to bits weight k) (h : k < sizes p .patterns) where
-    pub filling-room : 1 + sizes p .patterns + sizes p .vars ≤ length row₀ → to + (1 + length (patternAt p k .vars)) ≤ length row
+    pub filling-room : rowWords (sizes p .patterns) (sizes p .vars) ≤ length row₀ → to + (1 + length (patternAt p k .vars)) ≤ length row
     filling-room wide = let t = f .to-is in let l = f .row-length in let w = vars-within p k h in omega arith
 
     pub filling-small : sizes p .patterns ≤ 8 → (weight ≤ 256) × (bits < 256)
@@ -164,18 +165,18 @@ module _ (v p : List ℕ) (d : ℕ) (row₀ : List ℕ) where
       filling-no t = next bits (sym (ap bitsOf (found-last ∙ ap (λ (b : Bool). foundIn v p d k ++ (b ∷ [])) t) ∙ bits-no (foundIn v p d k) ∙ sym (f .bits-are)))
 
   pub filling-done : (row : List ℕ) (to bits weight k : ℕ) → Filling v p d row₀ row to bits weight k → sizes p .patterns ≤ k
-      → (take (1 + sizes p .patterns + sizes p .vars) row ≡ rowIn (listsOf v) (rowsOf p) d) × (bits ≡ foundBits (found (listsOf v) d) p)
+      → (take (rowWords (sizes p .patterns) (sizes p .vars)) row ≡ rowIn (listsOf v) (rowsOf p) d) × (bits ≡ foundBits (found (listsOf v) d) p)
   unfolding sizes rowIn
   filling-done row to bits weight k f h = (shown, f .bits-are ∙ ap (λ (fs : List Pattern). bitsOf (map (found (listsOf v) d) fs)) whole)
     where
       all : k ≡ sizes p .patterns
       all = let m = f .most in omega arith
 
-      width : to ≡ 1 + sizes p .patterns + sizes p .vars
+      width : to ≡ rowWords (sizes p .patterns) (sizes p .vars)
       width = let t = f .to-is in let w = ap (varsBefore p) all ∙ varsBefore-end p in let a = all in omega arith
 
       whole : take k (patternsOf (rowsOf p)) ≡ patternsOf (rowsOf p)
       whole = take-all k (patternsOf (rowsOf p)) h
 
-      shown : take (1 + sizes p .patterns + sizes p .vars) row ≡ rowIn (listsOf v) (rowsOf p) d
+      shown : take (rowWords (sizes p .patterns) (sizes p .vars)) row ≡ rowIn (listsOf v) (rowsOf p) d
       shown = ap (λ (i : ℕ). take i row) (sym width) ∙ f .shown ∙ ap (λ (fs : List Pattern). d ∷ joined (map (shownIn (listsOf v) d) fs)) whole

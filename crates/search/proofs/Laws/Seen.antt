@@ -19,6 +19,7 @@ use Rattle.seq.proofs.Laws.Tests.{below-or}
 use Rattle.volume.specs.Layout.{listsOf}
 use Rattle.volume.specs.Layout as layout
 use Rattle.volume.proofs.Laws.Check.{good}
+use Rattle.plan.specs.Limits.{rowWords}
 use Rattle.plan.specs.Rows.{rowsOf}
 use Rattle.plan.specs.Patterns.{Pattern, answer}
 use Rattle.plan.specs.Check.{sizes}
@@ -39,7 +40,7 @@ use Rattle.search.specs.Inner.Walk.{Stood, Pending, Brought, LeastDoc, W
 use Rattle.search.proofs.Laws.Tally.{var-there}
 
 -- the words of a row, by the plan's sizes
-pub work-words : (v p : List ℕ) → work v p .width ≡ 1 + sizes p .patterns + sizes p .vars
+pub work-words : (v p : List ℕ) → work v p .width ≡ rowWords (sizes p .patterns) (sizes p .vars)
 unfolding work sizes
 work-words v p = refl
 
@@ -158,7 +159,7 @@ module _ (v p table ends : List ℕ) (w : Walks v p table ends) where
       walking = λ h. absurd (let z : ⊥ = omega arith in z);
     }
 
-    pub seen-in : (bits : ℕ) (starts : Cursor) (row : List ℕ) → bits ≡ foundBits (found (listsOf v) doc) p → take (1 + sizes p .patterns + sizes p .vars) row ≡ rowIn (listsOf v) (rowsOf p) doc
+    pub seen-in : (bits : ℕ) (starts : Cursor) (row : List ℕ) → bits ≡ foundBits (found (listsOf v) doc) p → take (rowWords (sizes p .patterns) (sizes p .vars)) row ≡ rowIn (listsOf v) (rowsOf p) doc
         → Stands v 0 doc (starts .at) → starts .end ≡ listEnd v 0 → sizes p .vars ≤ length ats → Visited v p ends from (record { doc = doc; found = bits; starts = starts }) ats docs row
     unfolding work workOf
     seen-in bits starts row f shown s e room = record {

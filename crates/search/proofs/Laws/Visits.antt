@@ -24,6 +24,7 @@ use Rattle.seq.specs.Refusals.{answered}
 use Rattle.seq.proofs.Laws.Numbers.{length-run}
 use Rattle.seq.proofs.Laws.Keep.{keep-le}
 use Rattle.volume.specs.Layout.{listsOf}
+use Rattle.plan.specs.Limits.{mostPatterns, rowWords, mostRowWords}
 use Rattle.plan.specs.Rows.{rowsOf}
 use Rattle.plan.specs.Check.{sizes}
 use Rattle.plan.proofs.Laws.Accepted.{given}
@@ -79,7 +80,7 @@ module _ (v p ends : List ℕ) (start : ℕ) (out₀ : List ℕ) (from : ℕ) (s
     }
 
     -- the row is put behind the others, where one more fits
-    pub visit-put : work v p .isTrue (seen .doc) ≡ true → (wide : ℕ) → wide ≡ 1 + sizes p .patterns + sizes p .vars → rows ≢ length out₀ / wide → (out′ : List ℕ)
+    pub visit-put : work v p .isTrue (seen .doc) ≡ true → (wide : ℕ) → wide ≡ rowWords (sizes p .patterns) (sizes p .vars) → rows ≢ length out₀ / wide → (out′ : List ℕ)
         → out′ ≡ take (rows * wide) out ++ take wide row ++ drop (rows * wide + wide) out
         → Visiting v p ends start out₀ ats docs out′ (seen .doc + 1) (rows + 1) (seen .starts)
     visit-put t wide e less out′ put = record {
@@ -97,11 +98,11 @@ module _ (v p ends : List ℕ) (start : ℕ) (out₀ : List ℕ) (from : ℕ) (s
 
 module _ (v p table ends : List ℕ) (w : Walks v p table ends) where
   -- a plan's patterns, and the words of a row
-  pub visit-few : (sizes p .patterns ≤ 8) × (1 + sizes p .patterns + sizes p .vars ≤ 59)
+  pub visit-few : (sizes p .patterns ≤ mostPatterns) × (rowWords (sizes p .patterns) (sizes p .vars) ≤ mostRowWords)
   visit-few = let g = given v p (w .accepted) in (g .most-patterns, g .width)
 
   -- the ways out of the loop
-  module _ (start : ℕ) (out₀ : List ℕ) (low : start ≤ 65535) (room : 1 + sizes p .patterns + sizes p .vars ≤ length out₀) (doc rows : ℕ) (out : List ℕ) (g : Progress (work v p) start out₀ doc rows out) (tally : ℕ) (passed : tally ≡ postingsIn (listsOf v) (rowsOf p) start doc) where
+  module _ (start : ℕ) (out₀ : List ℕ) (low : start ≤ 65535) (room : rowWords (sizes p .patterns) (sizes p .vars) ≤ length out₀) (doc rows : ℕ) (out : List ℕ) (g : Progress (work v p) start out₀ doc rows out) (tally : ℕ) (passed : tally ≡ postingsIn (listsOf v) (rowsOf p) start doc) where
     counted : tally ≡ work v p .postings start doc
     unfolding work workOf
     counted = passed
@@ -112,14 +113,14 @@ module _ (v p table ends : List ℕ) (w : Walks v p table ends) where
         let t : tally ≡ work v p .postings start limit = counted ∙ ap (λ (d : ℕ). work v p .postings start d) e in
         (ap (λ (n : ℕ). answered (record { rows = rows; tally = n; next = done })) t ∙ k .0, k .1)
 
-    pub visit-more : doc < limit → work v p .isTrue doc ≡ true → (wide : ℕ) → wide ≡ 1 + sizes p .patterns + sizes p .vars → rows ≡ length out₀ / wide
+    pub visit-more : doc < limit → work v p .isTrue doc ≡ true → (wide : ℕ) → wide ≡ rowWords (sizes p .patterns) (sizes p .vars) → rows ≡ length out₀ / wide
         → Kept v p start (record { lent = out₀; says = answered (record { rows = rows; tally = tally; next = more doc }); back = out })
     visit-more l t wide e full =
         let k = stops-kept v p start out₀ (sizes p) (w .accepted) low (let q = work-words v p in omega arith) g l t (full ∙ ap (λ (n : ℕ). length out₀ / n) (e ∙ sym (work-words v p))) in
         (ap (λ (n : ℕ). answered (record { rows = rows; tally = n; next = more doc })) counted ∙ k .0, k .1)
 
 -- one more row fits
-pub visit-room : (v p : List ℕ) (start : ℕ) (out₀ out : List ℕ) (d rows wide : ℕ) → wide ≡ 1 + sizes p .patterns + sizes p .vars → Progress (work v p) start out₀ d rows out → rows ≢ length out₀ / wide
+pub visit-room : (v p : List ℕ) (start : ℕ) (out₀ out : List ℕ) (d rows wide : ℕ) → wide ≡ rowWords (sizes p .patterns) (sizes p .vars) → Progress (work v p) start out₀ d rows out → rows ≢ length out₀ / wide
     → rows * wide + wide ≤ length out
 visit-room v p start out₀ out d rows wide e g less =
     let same : wide ≡ work v p .width = e ∙ sym (work-words v p) in
@@ -133,5 +134,5 @@ visit-room v p start out₀ out d rows wide e g less =
     omega arith
 
 -- the words of the rows are few
-pub visit-words : (n w : ℕ) → n ≤ 65536 → w ≤ 59 → n * w ≤ 3866624
+pub visit-words : (n w : ℕ) → n ≤ limit → w ≤ mostRowWords → n * w ≤ limit * mostRowWords
 visit-words n w h l = let a = mul-le-mul-right w h in let b = mul-le-mul-left 65536 l in omega arith

@@ -8,8 +8,9 @@ use lib.ListN.{length, take}
 use lib.Seq.{length-take-le}
 use borrow.Author.Tests.{not-true, not-false}
 use denote.Ref.{now}
+use Rattle.plan.specs.Limits.{mostPatterns, rowWords, mostRowWords}
 use Rattle.plan.specs.Check.{sizes}
-use Rattle.plan.specs.Inner.Stack.{Remembers}
+use Rattle.plan.specs.Inner.Stack.{mostFoundSets, Remembers}
 use Rattle.plan.proofs.Laws.Accepted.{given}
 use Rattle.plan.proofs.Laws.Stack.{found-small, remembers-first, remembers-next}
 use Rattle.fulltext.specs.Documents.{work}
@@ -21,7 +22,7 @@ use Rattle.search.proofs.Laws.Visits.{Visiting, visiting-first, visitin
 abbrev Inv-loop : tie.InvT-loop
 Inv-loop volume plan table start firsts ends ats₀ out₀ patterns width room paras starts₀ docs₀ row₀ known₀ rows₀ from₀ ats out starts docs row known rows from =
     Visiting volume plan ends start out₀ ats (take patterns docs) out from rows starts ×
-    ((length docs ≡ 8) × ((length row ≡ 59) × ((length ats ≡ length ats₀) × ((length known ≡ 256) × Remembers plan known))))
+    ((length docs ≡ mostPatterns) × ((length row ≡ mostRowWords) × ((length ats ≡ length ats₀) × ((length known ≡ mostFoundSets) × Remembers plan known))))
 
 abbrev μ-loop : tie.MeasureT-loop
 μ-loop volume plan table start firsts ends ats₀ out₀ patterns width room paras starts₀ docs₀ row₀ known₀ rows₀ from₀ ats out starts docs row known rows from = 65537 - from
@@ -59,10 +60,10 @@ many : (c : tie.Start Inv-loop μ-loop) → length (now (c .args .table)) / 4 �
 many c = let t = c .pre .1 .0 in omega arith
 
 wide : (c : tie.After-row-words Inv-loop μ-loop) → let start = entry-of (c .before) in
-    c .row-words .result ≡ 1 + sizes (now (start .args .plan)) .patterns + sizes (now (start .args .plan)) .vars
+    c .row-words .result ≡ rowWords (sizes (now (start .args .plan)) .patterns) (sizes (now (start .args .plan)) .vars)
 wide c = let start = entry-of (c .before) in let e = c .row-words .ensures in let m = many start in let f = start .pre .1 .1 .0 in omega arith
 
-few : (c : tie.Start Inv-loop μ-loop) → (sizes (now (c .args .plan)) .patterns ≤ 8) × (1 + sizes (now (c .args .plan)) .patterns + sizes (now (c .args .plan)) .vars ≤ 59)
+few : (c : tie.Start Inv-loop μ-loop) → (sizes (now (c .args .plan)) .patterns ≤ mostPatterns) × (rowWords (sizes (now (c .args .plan)) .patterns) (sizes (now (c .args .plan)) .vars) ≤ 59)
 few c = visit-few _ _ _ _ (c .pre .0)
 
 -- the rows laid when the next document is reached
@@ -79,14 +80,14 @@ docs-size : (c : tie.After-visit Inv-loop μ-loop) → let turn = turn-of c in l
     length (c .visit .last .1 .1 .1 .1 .1 .1 .0) ≡ length (take (length (now (start .args .table)) / 4) (turn .loop .docs))
 docs-size c = c .visit .kept .1 .1 .1 .1 .1 .1 .0
 
-row-size : (c : tie.After-visit Inv-loop μ-loop) → length (c .visit .last .1 .1 .1 .1 .1 .1 .1 .0) ≡ 59
+row-size : (c : tie.After-visit Inv-loop μ-loop) → length (c .visit .last .1 .1 .1 .1 .1 .1 .1 .0) ≡ mostRowWords
 row-size c = c .visit .kept .1 .1 .1 .1 .1 .1 .1 .0 ∙ turn-of c .loop .inv .1 .1 .0
 
 ats-size : (c : tie.After-visit Inv-loop μ-loop) → length (c .visit .last .1 .1 .1 .1 .0) ≡ length (now (start-of (turn-of c) .args .ats))
 ats-size c = c .visit .kept .1 .1 .1 .1 .0 ∙ turn-of c .loop .inv .1 .1 .1 .0
 
 -- the bits of the found patterns are below 256
-bits-small : (c : tie.Else1 Inv-loop μ-loop) → seen-of c .visit .result .found < 256
+bits-small : (c : tie.Else1 Inv-loop μ-loop) → seen-of c .visit .result .found < mostFoundSets
 bits-small c =
     let start = start-of (turn-of (seen-of c)) in
     rw (seen-of c .visit .ensures .found-are (inside c)) (found-small _ (now (start .args .plan)) (few start .0))
@@ -100,7 +101,7 @@ told c =
     seen-true (now (start .args .volume)) (now (start .args .plan)) (seen .visit .result .found) (seen .visit .result .doc) (c .answer-of .result) (c .answer-of .ensures .0) (seen .visit .ensures .found-are (inside (found-of c)))
 
 -- one answer more is known
-known-size : (c : tie.After-answer-of Inv-loop μ-loop) → length (c .answer-of .last .1 .1 .0) ≡ 256
+known-size : (c : tie.After-answer-of Inv-loop μ-loop) → length (c .answer-of .last .1 .1 .0) ≡ mostFoundSets
 known-size c = c .answer-of .kept .1 .1 .0 ∙ turn-of (seen-of (found-of c)) .loop .inv .1 .1 .1 .1 .0
 
 remembers : (c : tie.After-answer-of Inv-loop μ-loop) → Remembers (now (start-of (turn-of (seen-of (found-of c))) .args .plan)) (c .answer-of .last .1 .1 .0)
@@ -140,7 +141,7 @@ loop-holds c =
       visiting-first _ _ _ _ _ _ _ _ low
           (walking-first _ _ _ _ (p .0) _ (now (start .args .firsts)) _ _ low (omega arith) (p .1 .1 .1 .1 .0) (p .1 .1 .1 .1 .1 .0)
           (length-take-le (length (now (start .args .table)) / 4) _ (omega arith) ∙ m) _ (c .starts-of .ensures)),
-      (refl, (refl, (refl, (refl, remembers-first (now (start .args .plan)) 256)))),
+      (refl, (refl, (refl, (refl, remembers-first (now (start .args .plan)) mostFoundSets)))),
     )
 
 array-borrow-prefix-docs : tie.Need-array-borrow-prefix-docs Inv-loop μ-loop

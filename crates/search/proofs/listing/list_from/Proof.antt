@@ -8,6 +8,7 @@ use mathlib.Core.Path.{_≡_, refl, sym, _∙_}
 use lib.ListN.{length, take}
 use lib.Seq.{length-take-le}
 use denote.Ref.{now}
+use Rattle.plan.specs.Limits.{mostPatterns, mostVars}
 use Rattle.plan.specs.Check.{sizes}
 use Rattle.plan.proofs.Laws.Accepted.{given}
 use Rattle.search.proofs.Laws.Seen.{tabled-part, cursors-part}
@@ -23,7 +24,7 @@ abbrev placed-of : tie.After-list-docs-arg → tie.After-set-cursors
 placed-of c = c .before .before .before .before .before .before .before
 
 -- a plan's patterns and variables are few
-few : (c : tie.Start) → (c .args .patterns ≤ 8) × (c .args .vars ≤ 51)
+few : (c : tie.Start) → (c .args .patterns ≤ mostPatterns) × (c .args .vars ≤ mostVars)
 few c =
     let g = given _ _ (c .pre .0) in
     let e = c .pre .1 .0 in
@@ -36,7 +37,7 @@ few c =
 table-size : (c : tie.After-lay-out) → length (c .lay-out .last .1 .1 .0) ≡ 32
 table-size c = c .lay-out .kept .1 .1 .0
 
-firsts-size : (c : tie.After-set-cursors) → length (c .set-cursors .last .1 .1 .1 .1 .1 .0) ≡ 51
+firsts-size : (c : tie.After-set-cursors) → length (c .set-cursors .last .1 .1 .1 .1 .1 .0) ≡ mostVars
 firsts-size c = c .set-cursors .kept .1 .1 .1 .1 .1 .0
 
 slice-aggregate-lay-out : tie.Need-slice-aggregate-lay-out

@@ -11,6 +11,7 @@ use lib.ListN.{length, getD, set, take, drop, length-set, length-take, length-dr
 use denote.Ref.{now}
 use Rattle.volume.specs.Layout.{listsOf}
 use Rattle.plan.specs.declared.outline.Outline.{Outline}
+use Rattle.plan.specs.Limits.{rowWords}
 use Rattle.plan.specs.Check.{sizes}
 use Rattle.plan.specs.Accepted.{patternAt}
 use Rattle.plan.specs.Inner.Outline.{outlineAt}
@@ -34,7 +35,7 @@ laid-of c = c .before .before .before .before
 
 -- the row has a word for the document, for each pattern and for each variable
 wide : (c : tie.At-loop Inv-loop μ-loop) → let start = start-of c in
-    1 + sizes (now (start .args .plan)) .patterns + sizes (now (start .args .plan)) .vars ≤ length (set (now (start .args .row)) 0 (start .args .document .doc))
+    rowWords (sizes (now (start .args .plan)) .patterns) (sizes (now (start .args .plan)) .vars) ≤ length (set (now (start .args .row)) 0 (start .args .document .doc))
 wide c =
     let start = start-of c in
     let w = start .pre .1 .1 .0 in
