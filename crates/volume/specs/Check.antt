@@ -10,7 +10,8 @@ use Rattle.seq.specs.Numbers.{firstFrom}
 use Rattle.seq.specs.Refusals.{Said, refused, answered}
 use Rattle.volume.specs.Answers.{Sizes}
 use Rattle.block.specs.Checksum.{checkA, checkB}
-use Rattle.volume.specs.Layout.{blocks, streamLength, blockNumber, covered, storedA, storedB, word, version, listCount, postingCount, extent, blocksFor, postingsOf}
+use Rattle.volume.specs.Layout.{blocks, streamLength, blockNumber, covered, storedA, storedB, word}
+use Rattle.volume.specs.Layout.{version, listCount, postingCount, extent, blocksFor, postingsOf}
 
 -- 1: length 0, not a multiple of 512, or over 8,192 blocks
 unfoldable pub lengthWrong : List ℕ → Bool

@@ -7,7 +7,8 @@ use mathlib.Core.List.{List, [], _∷_, _++_}
 use lib.ListN.{length}
 use Rattle.seq.specs.Lists.{total, NotRising}
 use Rattle.block.specs.Checksum.{checkA, checkB}
-use Rattle.volume.specs.Layout.{blocks, streamLength, blockNumber, covered, storedA, storedB, word, version, listCount, count, extentOf, extent, postingsOf}
+use Rattle.volume.specs.Layout.{blocks, streamLength, blockNumber, covered, storedA, storedB, word}
+use Rattle.volume.specs.Layout.{version, listCount, count, extentOf, extent, postingsOf}
 use Rattle.volume.specs.Write.{givenList}
 
 -- n is the least number of blocks that holds w stream words, 126 to a block
