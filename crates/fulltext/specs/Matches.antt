@@ -13,9 +13,9 @@ use Rattle.plan.specs.Patterns.{Pattern}
 use Rattle.fulltext.specs.Positions.{listOf, positionsIn}
 use Rattle.fulltext.specs.Calculus.{at}
 
--- how far two positions are apart
-abbrev pub apart : ℕ → ℕ → ℕ
-apart p q = (p - q) + (q - p)
+-- by how much two positions differ
+abbrev pub difference : ℕ → ℕ → ℕ
+difference p q = (p - q) + (q - p)
 
 abbrev pub largest : List ℕ → ℕ
 largest [] = 0
@@ -40,7 +40,7 @@ together starts p q = all (λ s. not (separates p q s)) starts
 -- a predicate (01: condition) holds of the variables' positions, in a document with these starts
 unfoldable pub holds : List ℕ → Predicate → List ℕ → Bool
 unfolding all
-holds starts (Distance a b c) ps = leb (apart (at ps a) (at ps b)) (c + 1)
+holds starts (Distance a b c) ps = leb (difference (at ps a) (at ps b)) (c + 1)
 holds starts (Ordered a b) ps = ltb (at ps a) (at ps b)
 holds starts (Samepara a b) ps = together starts (at ps a) (at ps b)
 holds starts (Window c) ps = leb (largest ps - smallest ps) (c - 1)

@@ -22,7 +22,7 @@ use Rattle.seq.proofs.Laws.Lists.{all-each}
 use Rattle.plan.specs.declared.row.Predicate.{Predicate}
 use Rattle.plan.specs.declared.row.Predicate.the-variants.{Distance, Ordered, Samepara, Window}
 use Rattle.fulltext.specs.Calculus.{at, In}
-use Rattle.fulltext.specs.Matches.{apart, largest, smallestOf, smallest, separates, together, holds}
+use Rattle.fulltext.specs.Matches.{difference, largest, smallestOf, smallest, separates, together, holds}
 use Rattle.fulltext.specs.Inner.Bounds.{Needs}
 
 -- what a predicate says of the variables' positions, in a document with these starts
@@ -32,8 +32,8 @@ Fact ss (Ordered a b) ps = at ps a < at ps b
 Fact ss (Samepara a b) ps = (s : ℕ) → In s ss → (s ≤ at ps a) ↔ (s ≤ at ps b)
 Fact ss (Window c) ps = (x y : ℕ) → x < length ps → y < length ps → at ps x ≤ at ps y + (c - 1)
 
-distance-decides : (p q n : ℕ) → Decides (leb (apart p q) n) ((p ≤ q + n) × (q ≤ p + n))
-distance-decides p q n = same-decides (leb-decides (apart p q) n) (λ h. omega arith) (λ h. omega arith)
+distance-decides : (p q n : ℕ) → Decides (leb (difference p q) n) ((p ≤ q + n) × (q ≤ p + n))
+distance-decides p q n = same-decides (leb-decides (difference p q) n) (λ h. omega arith) (λ h. omega arith)
 
 -- a start that does not part two positions stands at or in front of both or of neither
 module _ (p q s : ℕ) where
