@@ -66,7 +66,8 @@ fn distance(positions: &[u32], a: usize, b: usize, limit: u32) -> Shortfall
     Shortfall::Holds
 }
 
-// BEFORE: whether a stands in front of b; if not, b is left short.
+// BEFORE: whether a stands in front of b; if not, b is left short. Where a is b no position serves:
+// b is left short by all of them.
 fn ordered(positions: &[u32], a: usize, b: usize) -> Shortfall
     requires { ⌜ InDocument (now positions) ⌝ }
     requires { ⌜ a < length (now positions) ⌝ }
@@ -76,6 +77,9 @@ fn ordered(positions: &[u32], a: usize, b: usize) -> Shortfall
     let first = positions[a];
     if first < positions[b] {
         return Shortfall::Holds;
+    }
+    if a == b {
+        return Shortfall::Short(b, Posting::POSITIONS);
     }
     Shortfall::Short(b, first + 1)
 }

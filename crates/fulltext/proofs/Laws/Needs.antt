@@ -2,14 +2,14 @@
 --     Fact, holds-decides          what a predicate says of positions; its test decides it
 --     distance-holds, ordered-holds, samepara-holds, window-holds
 --                                  the test is true where this is so
---     distance-needs-first, distance-needs-second, ordered-needs, samepara-needs-first, samepara-needs-second, window-needs
+--     distance-needs-first, distance-needs-second, ordered-needs, ordered-never, samepara-needs-first, samepara-needs-second, window-needs
 --                                  what a predicate needs of a variable
 --     meet, meet-at, length-meet   of each variable the lesser of two positions
 --     holds-meet                   a predicate that holds of two tuples holds of their meet
 -- Assumes nothing.
 use Prim.Native.Nat.{ℕ, zero, suc, _+_, _-_, min, max, _<_, _≤_}
 use native.Mathlib.Omega.{arith}
-use mathlib.Core.Path.{_≡_, refl}
+use mathlib.Core.Path.{_≡_, refl, ap}
 use mathlib.Core.Bool.{true, not}
 use mathlib.Core.Logic.{⊎-elim, _↔_}
 use mathlib.Core.List.{List, [], _∷_}
@@ -124,6 +124,10 @@ module _ (ss ps : List ℕ) where
 
   pub ordered-needs : (a b : ℕ) → Needs ss (Ordered a b) ps b (at ps a + 1)
   ordered-needs a b qs n le e = omega (arith, le a, fact-of ss (Ordered a b) qs e)
+
+  -- no position stands in front of itself, so that any bound is needed
+  pub ordered-never : (a b p : ℕ) → a ≡ b → Needs ss (Ordered a b) ps b p
+  ordered-never a b p same qs n le e = omega (arith, ap (at qs) same, fact-of ss (Ordered a b) qs e)
 
   pub samepara-holds : (a b : ℕ) → ((s : ℕ) → In s ss → min (at ps a) (at ps b) < s → s ≤ max (at ps a) (at ps b) → ⊥) → holds ss (Samepara a b) ps ≡ true
   samepara-holds a b none = fact-holds ss (Samepara a b) ps (λ s i. alike (at ps a) (at ps b) s (λ w. none s i (w .0) (w .1)))
