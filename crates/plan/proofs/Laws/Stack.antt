@@ -1,4 +1,5 @@
 -- The answer of a plan, read row by row with its answers as bits. No contract cites this file.
+--     bits-lt                              n answers are a number below two to the n
 --     operated, operated-bits              an operator on the bits is the operator on the answers
 --     Reading                              the answers so far, the open pattern, and what the rows left make of them
 --     reading-first                        in front of row 0
@@ -52,7 +53,7 @@ flag-back : (t : Bool) → eqb (flagOf t) 1 ≡ t
 flag-back true = refl
 flag-back false = refl
 
-bits-lt : (n : ℕ) (ts : List Bool) → length ts ≤ n → bitsOf ts < 2 ^ n
+pub bits-lt : (n : ℕ) (ts : List Bool) → length ts ≤ n → bitsOf ts < 2 ^ n
 unfolding bitsOf
 bits-lt zero [] h = omega arith
 bits-lt zero (t ∷ ts) h = absurd (let z : ⊥ = omega arith in z)

@@ -1,22 +1,22 @@
 -- A row that is filled pattern by pattern, and the bits of the patterns that are found. No contract cites this file.
---     bits-yes, bits-no, weight-small     one pattern more
+--     bits-yes, bits-no                   one pattern more
 --     Filling                             the row of the patterns in front of k is stored, and their bits are known
 --     filling-first, filling-yes, filling-no, filling-done     from pattern to pattern
 --     filling-room                        the next pattern fits the row
 --     relaid                              a part of the row that is lent comes back in its length
 -- Assumes nothing.
-use Prim.Native.Nat.{ℕ, zero, suc, _+_, _*_, _<_, _≤_}
+use Prim.Native.Nat.{ℕ, _+_, _*_, _^_, _<_, _≤_}
+use native.Mathlib.Nat.{two-pow-succ}
 use native.Mathlib.Numerals.{add-one}
 use native.Mathlib.Omega.{arith}
 use mathlib.Core.Path.{_≡_, refl, sym, ap, _∙_}
 use mathlib.Core.Bool.{Bool, true, false}
-use mathlib.Core.Logic.{⊎-elim}
 use mathlib.Core.List.{List, [], _∷_, _++_, map, map-append, append-nil, append-assoc}
 use lib.ListN.{length, set, take, drop, length-append, length-map, take-append-drop}
+use lib.Pow.{pow-mono}
 use lib.Seq.{take-suc, take-at, take-all, length-take-le}
 use Rattle.seq.specs.Lists.{joined}
 use Rattle.seq.proofs.Laws.Lists.{joined-append}
-use Rattle.seq.proofs.Laws.Tests.{below-or}
 use Rattle.volume.specs.Layout.{listsOf}
 use Rattle.plan.specs.Limits.{rowWords}
 use Rattle.plan.specs.Rows.{rowsOf}
@@ -25,47 +25,20 @@ use Rattle.plan.specs.Check.{sizes}
 use Rattle.plan.specs.Accepted.{patternAt}
 use Rattle.fulltext.specs.Documents.{found, shownIn, rowIn}
 use Rattle.plan.specs.Inner.Outline.{varsBefore}
-use Rattle.plan.specs.Inner.Stack.{flagOf, bitsOf, foundBits}
+use Rattle.plan.specs.Inner.Stack.{bitsOf, foundBits}
+use Rattle.plan.proofs.Laws.Stack.{bits-lt}
 use Rattle.plan.proofs.Laws.Outline.{varsBefore-first, varsBefore-next, varsBefore-end, vars-within}
 use Rattle.fulltext.proofs.Laws.Counts.{length-shown}
 
--- the weight of bit k
-unfoldable pub weightOf : ℕ → ℕ
-weightOf zero = 1
-weightOf (suc k) = weightOf k * 2
-
-bits-yes : (ts : List Bool) → bitsOf (ts ++ (true ∷ [])) ≡ bitsOf ts + weightOf (length ts)
-unfolding bitsOf weightOf
+bits-yes : (ts : List Bool) → bitsOf (ts ++ (true ∷ [])) ≡ bitsOf ts + 2 ^ length ts
+unfolding bitsOf
 bits-yes [] = refl
-bits-yes (t ∷ ts) = let e = bits-yes ts in omega arith
+bits-yes (t ∷ ts) = let e = bits-yes ts in rw two-pow-succ (omega arith)
 
 bits-no : (ts : List Bool) → bitsOf (ts ++ (false ∷ [])) ≡ bitsOf ts
 unfolding bitsOf
 bits-no [] = refl
 bits-no (t ∷ ts) = let e = bits-no ts in omega arith
-
-flag-small : (t : Bool) → flagOf t ≤ 1
-flag-small true = omega arith
-flag-small false = omega arith
-
--- the bits are below the next weight
-bits-small : (ts : List Bool) → bitsOf ts < weightOf (length ts)
-unfolding bitsOf weightOf
-bits-small [] = omega arith
-bits-small (t ∷ ts) = let e = bits-small ts in let f = flag-small t in omega arith
-
-weight-le : (m k : ℕ) → k ≤ m → weightOf k ≤ weightOf m
-unfolding weightOf
-weight-le zero k h = let e : k ≡ 0 = omega arith in rw e (omega arith)
-weight-le (suc m) k h =
-    ⊎-elim
-    (λ (l : k < suc m). let i = weight-le m k (omega arith) in omega arith)
-    (λ (l : suc m ≤ k). let e : k ≡ suc m = omega arith in rw e (omega arith))
-    (below-or k (suc m))
-
-weight-small : (k : ℕ) → k ≤ 8 → weightOf k ≤ 256
-unfolding weightOf
-weight-small k h = weight-le 8 k h
 
 -- what the row shows of the first k patterns, and whether each is found
 abbrev front : List ℕ → List ℕ → ℕ → ℕ → List ℕ
@@ -80,7 +53,7 @@ pub record Filling (v p : List ℕ) (d : ℕ) (row₀ row : List ℕ) (to bits w
   pub row-length : length row ≡ length row₀
   pub shown : take to row ≡ front v p d k
   pub bits-are : bits ≡ bitsOf (foundIn v p d k)
-  pub weight-is : weight ≡ weightOf k
+  pub weight-is : weight ≡ 2 ^ k
 
 -- a part of the row is lent and comes back in its length
 pub relaid : (to m : ℕ) (row part : List ℕ) → length part ≡ length (take m (drop to row)) → length (take to row ++ (part ++ drop m (drop to row))) ≡ length row
@@ -92,7 +65,7 @@ relaid to m row part e =
 
 module _ (v p : List ℕ) (d : ℕ) (row₀ : List ℕ) where
   pub filling-first : (r : List ℕ) → 1 ≤ length r → row₀ ≡ set r 0 d → Filling v p d row₀ row₀ 1 0 1 0
-  unfolding joined bitsOf weightOf
+  unfolding joined bitsOf
   filling-first [] h e = absurd (let z : ⊥ = omega arith in z)
   filling-first (x ∷ r) h e = record {
     most = omega arith;
@@ -107,15 +80,16 @@ module _ (v p : List ℕ) (d : ℕ) (row₀ : List ℕ) where
     pub filling-room : rowWords (sizes p .patterns) (sizes p .vars) ≤ length row₀ → to + (1 + length (patternAt p k .vars)) ≤ length row
     filling-room wide = let t = f .to-is in let l = f .row-length in let w = vars-within p k h in omega arith
 
-    pub filling-small : sizes p .patterns ≤ 8 → (weight ≤ 256) × (bits < 256)
+    many : length (foundIn v p d k) ≡ k
     unfolding sizes
+    many = length-map (take k (patternsOf (rowsOf p))) (found (listsOf v) d) ∙ length-take-le k (patternsOf (rowsOf p)) (omega arith)
+
+    pub filling-small : sizes p .patterns ≤ 8 → (weight ≤ 256) × (bits < 256)
     filling-small few =
         let w = f .weight-is in
-        let s = weight-small k (omega arith) in
+        let s : 2 ^ k ≤ 256 = pow-mono {j = 8} (omega arith) in
         let b = f .bits-are in
-        let l : length (foundIn v p d k) ≡ k = length-map (take k (patternsOf (rowsOf p))) (found (listsOf v) d) ∙ length-take-le k (patternsOf (rowsOf p)) (omega arith) in
-        let c = bits-small (foundIn v p d k) in
-        let e = ap weightOf l in
+        let l = bits-lt 8 (foundIn v p d k) (let m = many in omega arith) in
         (omega arith, omega arith)
 
     last : take (k + 1) (patternsOf (rowsOf p)) ≡ take k (patternsOf (rowsOf p)) ++ (patternAt p k ∷ [])
@@ -124,10 +98,6 @@ module _ (v p : List ℕ) (d : ℕ) (row₀ : List ℕ) where
 
     found-last : foundIn v p d (k + 1) ≡ foundIn v p d k ++ (found (listsOf v) d (patternAt p k) ∷ [])
     found-last = ap (map (found (listsOf v) d)) last ∙ map-append (found (listsOf v) d) (take k (patternsOf (rowsOf p))) (patternAt p k ∷ [])
-
-    many : length (foundIn v p d k) ≡ k
-    unfolding sizes
-    many = length-map (take k (patternsOf (rowsOf p))) (found (listsOf v) d) ∙ length-take-le k (patternsOf (rowsOf p)) (omega arith)
 
     module _ (n : ℕ) (own : n ≡ length (patternAt p k .vars)) (part rest back : List ℕ) (e : part ≡ shownIn (listsOf v) d (patternAt p k) ++ rest) (room : to ≤ length row) (same : length (take to row ++ (part ++ back)) ≡ length row) where
       shown-next : take (to + 1 + n) (take to row ++ (part ++ back)) ≡ front v p d (k + 1)
@@ -147,19 +117,18 @@ module _ (v p : List ℕ) (d : ℕ) (row₀ : List ℕ) where
           own-shown = shownIn (listsOf v) d (patternAt p k)
 
       next : (bits′ : ℕ) → bits′ ≡ bitsOf (foundIn v p d (k + 1)) → Filling v p d row₀ (take to row ++ (part ++ back)) (to + 1 + n) bits′ (weight * 2) (k + 1)
-      unfolding weightOf
       next bits′ b = record {
         most = omega arith;
         to-is = let t = f .to-is in let w = varsBefore-next p k h in omega arith;
         row-length = same ∙ f .row-length;
         shown = shown-next;
         bits-are = b;
-        weight-is = rw (add-one k) (ap (λ (w : ℕ). w * 2) (f .weight-is));
+        weight-is = let w = f .weight-is in rw (add-one k, two-pow-succ k) (omega arith);
       }
 
       -- the pattern is found, or not
       pub filling-yes : found (listsOf v) d (patternAt p k) ≡ true → Filling v p d row₀ (take to row ++ (part ++ back)) (to + 1 + n) (bits + weight) (weight * 2) (k + 1)
-      filling-yes t = next (bits + weight) (sym (ap bitsOf (found-last ∙ ap (λ (b : Bool). foundIn v p d k ++ (b ∷ [])) t) ∙ bits-yes (foundIn v p d k) ∙ (let b = f .bits-are in let w = f .weight-is in let m = ap weightOf many in omega arith)))
+      filling-yes t = next (bits + weight) (sym (ap bitsOf (found-last ∙ ap (λ (b : Bool). foundIn v p d k ++ (b ∷ [])) t) ∙ bits-yes (foundIn v p d k) ∙ (let b = f .bits-are in let w = f .weight-is in let m = ap (λ (n : ℕ). 2 ^ n) many in omega arith)))
 
       pub filling-no : found (listsOf v) d (patternAt p k) ≡ false → Filling v p d row₀ (take to row ++ (part ++ back)) (to + 1 + n) bits (weight * 2) (k + 1)
       filling-no t = next bits (sym (ap bitsOf (found-last ∙ ap (λ (b : Bool). foundIn v p d k ++ (b ∷ [])) t) ∙ bits-no (foundIn v p d k) ∙ sym (f .bits-are)))
