@@ -4,7 +4,6 @@
 --     list-passed, list-without, list-with     whether a list holds a position, by the posting in front of the first one behind it
 --     told-short                          a predicate that leaves a variable short does not hold
 --     posed-given, vars-order, condition-order     what is posed of a pattern
---     LaidOut, laid                       the outline of a pattern, from a table
 --     Voice, voice-of                     the VOICE row of a variable
 --     Listed, listed-next, listed-all, listed-not     the variables whose lists hold their positions
 --     Stated, stated, stated-asks, predicate-asked     the row of a predicate
@@ -38,10 +37,9 @@ use Rattle.plan.specs.Rows.{rowCount, rowAt, formWrongAt, InRange}
 use Rattle.plan.specs.State.{namesBelow}
 use Rattle.plan.specs.Patterns.{Pattern}
 use Rattle.plan.specs.Answers.{Sizes}
-use Rattle.plan.specs.Check.{verdict, sizes, Accepted}
+use Rattle.plan.specs.Check.{verdict, Accepted}
 use Rattle.plan.specs.Accepted.{patternAt, Given}
 use Rattle.plan.specs.declared.outline.Outline.{Outline}
-use Rattle.plan.specs.Inner.Outline.{Outlines, outlineAt, Tabled}
 use Rattle.plan.proofs.Laws.Accepted.{given}
 use Rattle.matcher.specs.declared.cursor.Cursor.{Cursor}
 use Rattle.fulltext.specs.Positions.{limit, listOf, positionsIn}
@@ -168,15 +166,6 @@ told-short ss c ps x b s =
 
 starts-stand : (v : List ℕ) (d : ℕ) → Stands v 0 d (start v 0)
 starts-stand v d = record { from = omega arith; to = omega arith; behind = λ j a b. absurd (let z : ⊥ = omega arith in z) }
-
--- the outline of pattern k, from a table
-pub record LaidOut (p : List ℕ) (k : ℕ) (o : Outline) : Type 0 where
-  pub outlines : Outlines p o
-  pub pattern-is : o .pattern ≡ k
-  pub vars-are : o .vars ≡ length (patternAt p k .vars)
-
-pub laid : {p : List ℕ} (table : List ℕ) → Tabled p table → (k : ℕ) → k < sizes p .patterns → {o : Outline} → o ≡ outlineAt table k → LaidOut p k o
-laid table t k h e = record { outlines = rw e (t k h .outlines); pattern-is = ap (λ (o : Outline). o .pattern) e; vars-are = ap (λ (o : Outline). o .vars) e ∙ t k h .outlines .vars-are }
 
 -- the row of predicate c, for n variables
 pub record Stated (p : List ℕ) (row n : ℕ) (c : Predicate) : Type 0 where

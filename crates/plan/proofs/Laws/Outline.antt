@@ -5,6 +5,7 @@
 --     Spanned, spanned                         its rows, from its span in words
 --     EntryAt                                  the entry of a pattern in a table
 --     Laid, laid-first, laid-next, laid-done   a table that is laid out entry by entry
+--     Outlined, outlined                       the outline of a pattern, as it is read from a table
 -- Assumes nothing.
 use Prim.Native.Nat.{ℕ, zero, suc, _+_, _-_, _*_, _/_, _<_, _≤_}
 use native.Mathlib.Nat.{add-zero}
@@ -27,6 +28,7 @@ use Rattle.plan.specs.declared.row.Predicate.the-variants.{Window}
 use Rattle.plan.specs.declared.row.Kind.{Kind}
 use Rattle.plan.specs.declared.row.Kind.the-variants as kind
 use Rattle.plan.specs.declared.row.Row.{Row}
+use Rattle.plan.specs.declared.outline.Outline.{Outline}
 use Rattle.plan.specs.declared.showing.Span.{Span}
 use Rattle.plan.specs.Rows.{rowCount, rowAt, rowsOf, isVoice}
 use Rattle.plan.specs.Patterns.{Pattern, noRow, patternsOf}
@@ -316,3 +318,15 @@ module _ (v p : List ℕ) (accepted : Accepted v p) (n : ℕ) (table : List ℕ)
 
 pub laid-done : (p : List ℕ) (n : ℕ) (table : List ℕ) (vars k : ℕ) → Laid p n table vars k → sizes p .patterns ≤ k → Tabled p table
 laid-done p n table vars k r h = λ j m. r .entries j (omega arith)
+
+-- the outline of pattern k, as it is read from a table
+pub record Outlined (p : List ℕ) (k : ℕ) (o : Outline) : Type 0 where
+  pub entry : Entry p o
+  pub pattern-is : o .pattern ≡ k
+  pub there : o .pattern < sizes p .patterns
+  pub room : o .vars ≤ o .condition
+  pub first-is : o .first ≡ varsBefore p k
+  pub vars-are : o .vars ≡ length (patternAt p k .vars)
+
+pub outlined : {p : List ℕ} (table : List ℕ) → Tabled p table → (k : ℕ) → k < sizes p .patterns → {o : Outline} → o ≡ outlineAt table k → Outlined p k o
+outlined table t k h e = rw e (record { entry = t k h; pattern-is = refl; there = h; room = t k h .outlines .room; first-is = t k h .first-is; vars-are = t k h .outlines .vars-are })

@@ -8,8 +8,9 @@ use Rattle.volume.specs.Layout.{listsOf}
 use Rattle.plan.specs.Check.{sizes}
 use Rattle.plan.specs.Accepted.{patternAt}
 use Rattle.plan.proofs.Laws.Accepted.{given}
+use Rattle.plan.proofs.Laws.Outline.{Outlined, outlined}
 use Rattle.fulltext.specs.Matches.{matchesAt}
-use Rattle.matcher.proofs.Laws.Testing.{small-decides, LaidOut, laid, test-number, test-doc, test-small, test-answer}
+use Rattle.matcher.proofs.Laws.Testing.{small-decides, test-number, test-doc, test-small, test-answer}
 use Rattle.matcher.proofs.testing.test_pattern.Statement.{statement}
 use Rattle.matcher.proofs.testing.test_pattern.Tie as tie
 
@@ -36,10 +37,10 @@ abbrev start-of : tie.After-outline-at → tie.Start
 start-of c = c .before .before .before .before .before .before .before .before
 
 -- it is that of the pattern
-outline : (c : tie.After-outline-at) → let a = start-of c .args in LaidOut (now (a .plan)) (a .pattern) (c .outline-at .result)
+outline : (c : tie.After-outline-at) → let a = start-of c .args in Outlined (now (a .plan)) (a .pattern) (c .outline-at .result)
 outline c =
     let l = c .before .before .before .lay-out in
-    laid (l .last .1 .1 .0) (l .ensures) (start-of c .args .pattern) (let p = start-of c .pre in omega arith) (c .outline-at .ensures)
+    outlined (l .last .1 .1 .0) (l .ensures) (start-of c .args .pattern) (let p = start-of c .pre in omega arith) (c .outline-at .ensures)
 
 returns : tie.Need-returns
 returns c =
@@ -70,12 +71,12 @@ is-match-requires : tie.Need-is-match-requires
 is-match-requires c κs =
     let o = outline (c .before .before .before .before) in
     let s = start-of (c .before .before .before .before) in
-    let v = o .outlines .vars-are in
+    let v = o .entry .outlines .vars-are in
     let k = o .pattern-is in
     record {
       accepted = s .pre .0;
       pattern = omega arith;
-      outlines = o .outlines;
+      outlines = o .entry .outlines;
       number = omega arith;
       doc-small = omega arith;
       small = small-decides (now (s .args .positions)) .yes (sym (c .before .in-document .ensures) ∙ not-false _ (c .if3 .left));

@@ -3,16 +3,13 @@
 use native.Mathlib.Omega.{arith}
 use Prim.Native.Nat.{ℕ, _+_, _-_, _<_, _≤_}
 use mathlib.Core.Path.{_≡_, sym, ap, _∙_}
-use mathlib.Core.List.{List}
 use lib.ListN.{length, getD}
 use denote.Ref.{now}
-use Rattle.plan.specs.declared.outline.Outline.{Outline}
 use Rattle.plan.specs.Limits.{mostVars}
-use Rattle.plan.specs.Check.{sizes}
 use Rattle.plan.specs.Accepted.{patternAt}
-use Rattle.plan.specs.Inner.Outline.{varsBefore, outlineAt, Entry, Tabled}
+use Rattle.plan.specs.Inner.Outline.{varsBefore}
 use Rattle.plan.proofs.Laws.Accepted.{given}
-use Rattle.plan.proofs.Laws.Outline.{varsBefore-next}
+use Rattle.plan.proofs.Laws.Outline.{varsBefore-next, Outlined, outlined}
 use Rattle.matcher.specs.Inner.Tables.{cursorOn}
 use Rattle.matcher.proofs.Laws.Placed.{Voiced, voiced, voiced-list, var-is, var-few, Placing, placing-first, placing-as, placing-next, placing-done}
 use Rattle.search.proofs.setup.set_cursors.Statement.{statement}
@@ -44,22 +41,12 @@ abbrev var-of : tie.After-list-at Inv-loop2 μ-loop2 Inv-loop μ-loop → tie.At
 var-of c = c .before .before
 
 -- the outline of pattern k, as a turn reads it
-record Outlined (p : List ℕ) (k : ℕ) (o : Outline) : Type 0 where
-  entry : Entry p o
-  there : o .pattern < sizes p .patterns
-  room : o .vars ≤ o .condition
-  first-is : o .first ≡ varsBefore p k
-  vars-are : o .vars ≡ length (patternAt p k .vars)
-
-outlined : (p table : List ℕ) → Tabled p table → (k : ℕ) → k < sizes p .patterns → (o : Outline) → o ≡ outlineAt table k → Outlined p k o
-outlined p table t k h o e = rw e (record { entry = t k h; there = h; room = t k h .outlines .room; first-is = t k h .first-is; vars-are = t k h .outlines .vars-are })
-
 outline : (c : tie.After-struct-known Inv-loop2 μ-loop2 Inv-loop μ-loop) → let round = round-of (c .before) in let start = start-of round in
     Outlined (now (start .args .plan)) (round .loop .k) (c .before .outline-at .result)
 outline c =
     let round = round-of (c .before) in
     let start = start-of round in
-    outlined (now (start .args .plan)) (now (start .args .table)) (start .pre .1 .1 .0) (round .loop .k) (omega arith) (c .before .outline-at .result) (c .before .outline-at .ensures)
+    outlined (now (start .args .table)) (start .pre .1 .1 .0) (round .loop .k) (omega arith) (c .before .outline-at .ensures)
 
 -- the VOICE row of a variable, which an inner turn reads
 turn :
