@@ -1,4 +1,5 @@
--- The full-text calculus of document 000 (3.2) as data, with its truth in a document, and the formula of a pattern and of a plan.
+-- The full-text calculus of document 000 (3.2), with the proximity operator of document 004, as data, with its truth in a document, and
+-- the formula of a pattern and of a plan.
 -- Where 000 gives a position one token, here two lists may hold one position. ∃ ranges over all numbers: `hasPos` stands inside it and
 -- says that the number is a position of the document. Left out of 000: ∀, which is ¬ ∃ ¬, and SearchContext, since a formula here is about
 -- one document. Assumes nothing.
@@ -15,6 +16,7 @@ use Rattle.plan.specs.declared.row.Operator.the-variants.{Both, Either, FirstNo
 use Rattle.plan.specs.declared.row.Kind.{Kind}
 use Rattle.plan.specs.declared.row.Kind.the-variants as kind
 use Rattle.plan.specs.declared.row.Row.{Row}
+use Rattle.plan.specs.Limits.{noUpperEnd}
 use Rattle.plan.specs.Patterns.{Pattern, noRow, openAfter}
 use Rattle.fulltext.specs.Positions.{limit, listOf}
 pub use Rattle.seq.specs.Lists.{at}
@@ -33,6 +35,8 @@ pub data Formula : Type 0 where
   samepara : ℕ → ℕ → Formula
   -- the first n variables stand within c positions
   window : ℕ → ℕ → Formula
+  -- variable x stands before variable y, with a number of words between them that is in the interval from least to most
+  proximity : ℕ → ℕ → ℕ → ℕ → Formula
   -- the ∧ of nothing
   truth : Formula
   -- f ∧ g, f ∨ g, ¬ f, ∃ f
@@ -61,6 +65,15 @@ Starts lists d s = Holds d s (listOf lists 0)
 abbrev pub NoStart : List (List ℕ) → ℕ → ℕ → ℕ → Type 0
 NoStart lists d p q = (s : ℕ) → Starts lists d s → p < s → s ≤ q → ⊥
 
+-- n is in the interval from least to most; a most of 65,535 sets no upper end, as ∞ does in document 004
+abbrev pub Within : ℕ → ℕ → ℕ → Type 0
+Within least most n = (least ≤ n) × ((most ≡ noUpperEnd) ⊎ (n ≤ most))
+
+-- document 004, Definition 3, case 2, of two neighbours p and q of a proximity word pattern: q − p − 1 is in the interval. The difference
+-- has its sign: there is such an n only where p stands before q
+abbrev pub Proximal : ℕ → ℕ → ℕ → ℕ → Type 0
+Proximal least most p q = (n : ℕ) × (q ≡ p + 1 + n) × Within least most n
+
 -- A formula is true in document d of a volume's lists, with the variables bound so far at these positions
 abbrev pub True : List (List ℕ) → ℕ → Formula → List ℕ → Type 0
 True lists d (hasPos x) ps = HasPos lists d (at ps x)
@@ -69,6 +82,7 @@ True lists d (distance x y c) ps = (at ps x ≤ at ps y + (c + 1)) × (at ps y �
 True lists d (ordered x y) ps = at ps x < at ps y
 True lists d (samepara x y) ps = NoStart lists d (at ps x) (at ps y) × NoStart lists d (at ps y) (at ps x)
 True lists d (window n c) ps = (x y : ℕ) → x < n → y < n → at ps x ≤ at ps y + (c - 1)
+True lists d (proximity x y least most) ps = Proximal least most (at ps x) (at ps y)
 True lists d truth ps = Unit
 True lists d (conj f g) ps = True lists d f ps × True lists d g ps
 True lists d (disj f g) ps = True lists d f ps ⊎ True lists d g ps
@@ -91,6 +105,7 @@ predicateOf n (predicate.Distance a b c) = distance a b c
 predicateOf n (predicate.Ordered a b) = ordered a b
 predicateOf n (predicate.Samepara a b) = samepara a b
 predicateOf n (predicate.Window c) = window n c
+predicateOf n (predicate.Proximity a b least most) = proximity a b least most
 
 abbrev pub predicatesOf : ℕ → List Predicate → List Formula
 predicatesOf n [] = []

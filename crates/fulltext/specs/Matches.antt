@@ -2,13 +2,14 @@
 -- Assumes nothing.
 use Prim.Native.Nat.{ℕ, _+_, _-_, min, max, _≤_}
 use mathlib.Core.Path.{_≡_}
-use mathlib.Core.Bool.{Bool, true, false, not, _&&_}
+use mathlib.Core.Bool.{Bool, true, false, not, _&&_, _||_}
 use mathlib.Core.List.{List, [], _∷_, _++_, map}
 use mathlib.Core.Option.{Option}
-use lib.Dec.{leb, ltb}
+use lib.Dec.{eqb, leb, ltb}
 use Rattle.seq.specs.Lists.{keep, all, elem, first}
 use Rattle.plan.specs.declared.row.Predicate.{Predicate}
-use Rattle.plan.specs.declared.row.Predicate.the-variants.{Distance, Ordered, Samepara, Window}
+use Rattle.plan.specs.declared.row.Predicate.the-variants.{Distance, Ordered, Samepara, Window, Proximity}
+use Rattle.plan.specs.Limits.{noUpperEnd}
 use Rattle.plan.specs.Patterns.{Pattern}
 use Rattle.fulltext.specs.Positions.{listOf, positionsIn}
 use Rattle.fulltext.specs.Calculus.{at}
@@ -37,6 +38,10 @@ separates p q s = ltb (min p q) s && leb s (max p q)
 abbrev pub together : List ℕ → ℕ → ℕ → Bool
 together starts p q = all (λ s. not (separates p q s)) starts
 
+-- a number is between least and most, both counted in; a most of 65,535 sets no upper end
+abbrev pub within : ℕ → ℕ → ℕ → Bool
+within least most n = leb least n && (eqb most noUpperEnd || leb n most)
+
 -- a predicate (01: condition) holds of the variables' positions, in a document with these starts
 unfoldable pub holds : List ℕ → Predicate → List ℕ → Bool
 unfolding all
@@ -44,6 +49,7 @@ holds starts (Distance a b c) ps = leb (difference (at ps a) (at ps b)) (c + 1)
 holds starts (Ordered a b) ps = ltb (at ps a) (at ps b)
 holds starts (Samepara a b) ps = together starts (at ps a) (at ps b)
 holds starts (Window c) ps = leb (largest ps - smallest ps) (c - 1)
+holds starts (Proximity a b least most) ps = ltb (at ps a) (at ps b) && within least most (at ps b - at ps a - 1)
 
 abbrev pub allHold : List ℕ → List Predicate → List ℕ → Bool
 allHold starts cs ps = all (λ c. holds starts c ps) cs

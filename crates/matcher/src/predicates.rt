@@ -8,7 +8,7 @@ ghost use Rattle.volume.specs.Check.{Accepted};
 ghost use Rattle.volume.specs.Layout.{listsOf};
 ghost use Rattle.plan.specs.State.{namesBelow};
 ghost use Rattle.plan.specs.Rows.{InRange};
-ghost use Rattle.plan.specs.declared.row.Predicate.the-variants.{Distance, Ordered, Samepara, Window};
+ghost use Rattle.plan.specs.declared.row.Predicate.the-variants.{Distance, Ordered, Samepara, Window, Proximity};
 ghost use Rattle.plan.specs.declared.row.Kind.the-variants as kind;
 ghost use Rattle.fulltext.specs.Matches.{startsIn};
 ghost use Rattle.fulltext.specs.Inner.Paragraphs.{paraStart};
@@ -141,6 +141,33 @@ fn window(positions: &[u32], limit: u32) -> Shortfall
     Shortfall::Holds
 }
 
+// APART: whether a stands in front of b, with at least `least` and at most `most` positions between
+// them; if not, b is left short where it is too near, and a where b is too far. Nothing is left for b
+// where it is a itself, or would have to stand behind the last position. No position is too far for
+// a `most` of 65,535.
+fn proximity(positions: &[u32], a: usize, b: usize, least: u32, most: u32) -> Shortfall
+    requires { ⌜ InDocument (now positions) ⌝ }
+    requires { ⌜ a < length (now positions) ⌝ }
+    requires { ⌜ b < length (now positions) ⌝ }
+    requires { ⌜ least ≤ 65535 ⌝ }
+    requires { ⌜ most ≤ 65535 ⌝ }
+    ensures { λ r. ⌜ ((ss : List ℕ) → Told ss (Proximity a b least most) (now (positions .entry)) r) ⌝ }
+{
+    let first = positions[a];
+    let second = positions[b];
+    let nearest = first + least + 1;
+    if a == b || Posting::LAST_POS < nearest {
+        return Shortfall::Short(b, Posting::POSITIONS);
+    }
+    if second < nearest {
+        return Shortfall::Short(b, nearest);
+    }
+    if first + most + 1 < second {
+        return Shortfall::Short(a, second - (most + 1));
+    }
+    Shortfall::Holds
+}
+
 // Whether a predicate holds of the first n positions; if not, a variable that it leaves short.
 pub fn falls_short(
     volume: &[u8],
@@ -164,5 +191,8 @@ pub fn falls_short(
         Predicate::Ordered { a, b } => ordered(tuple, a as usize, b as usize),
         Predicate::Samepara { a, b } => samepara(volume, document, tuple, a as usize, b as usize),
         Predicate::Window { limit } => window(tuple, limit),
+        Predicate::Proximity { a, b, least, most } => {
+            proximity(tuple, a as usize, b as usize, least, most)
+        }
     }
 }

@@ -30,7 +30,7 @@ CheckRefuses = (v p : List ℕ) → FirstRefusal (stageIn planStages) (PlanAppli
 unfoldable pub PartRefuses : Type 0
 PartRefuses = (v p : List ℕ) (k : ℕ) → (partOf v p k ≡ []) ↔ ((n : ℕ) × (q : ℕ) × PartApplies v p k n q)
 
--- four words have the right form and are read as a row exactly if its limit is in range and they are its words
+-- four words have the right form and are read as a row exactly if its limits are in range and they are its words
 unfoldable pub ReadsRows : Type 0
 ReadsRows =
     (k a b c : ℕ) (r : Row)

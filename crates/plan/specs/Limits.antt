@@ -4,7 +4,15 @@ use Prim.Native.Nat.{ℕ, _+_, _*_}
 
 -- the last kind of a row; the first is 1
 abbrev pub lastKind : ℕ
-lastKind = 9
+lastKind = 10
+
+-- what the least of an APART row is multiplied by in its c (02, N2): c is least × 65,536 + most
+abbrev pub leastUnit : ℕ
+leastUnit = 65536
+
+-- the most of an APART row that sets no upper end
+abbrev pub noUpperEnd : ℕ
+noUpperEnd = 65535
 
 -- the most rows of a plan, and its words
 abbrev pub mostRows : ℕ

@@ -11,7 +11,7 @@ use Rattle.volume.specs.Layout.{listCount}
 use Rattle.volume.specs.Refusals.{VolumeApplies, volumeStages}
 use Rattle.plan.specs.declared.kinds.Uses.{Uses}
 use Rattle.plan.specs.declared.row.Predicate.{Predicate}
-use Rattle.plan.specs.declared.row.Predicate.the-variants.{Distance, Ordered, Samepara, Window}
+use Rattle.plan.specs.declared.row.Predicate.the-variants.{Distance, Ordered, Samepara, Window, Proximity}
 use Rattle.plan.specs.declared.row.Kind.{Kind}
 use Rattle.plan.specs.declared.row.Kind.the-variants as kind
 use Rattle.plan.specs.declared.state.State.{State}
@@ -33,14 +33,18 @@ Stray used word = (used ≡ false) × (word ≢ 0)
 abbrev pub Misused : Uses → ℕ → ℕ → ℕ → Type 0
 Misused u a b c = Stray (u .a) a ⊎ (Stray (u .b) b ⊎ (Stray (u .c) c ⊎ ((c < u .least) ⊎ (u .most < c))))
 
--- words that a row carries do not fit each other; there is no such rule for any kind
+-- the limits that a row carries do not fit each other: the least of APART exceeds its most (02, N2)
 abbrev pub WrongPair : Kind → Type 0
 WrongPair (kind.Voice list) = ⊥
-WrongPair (kind.Condition c) = ⊥
+WrongPair (kind.Condition (Distance a b limit)) = ⊥
+WrongPair (kind.Condition (Ordered a b)) = ⊥
+WrongPair (kind.Condition (Samepara a b)) = ⊥
+WrongPair (kind.Condition (Window limit)) = ⊥
+WrongPair (kind.Condition (Proximity a b least most)) = most < least
 WrongPair kind.End = ⊥
 WrongPair (kind.Operator o) = ⊥
 
--- an unknown kind, an unused word that is not 0, or c out of range
+-- an unknown kind, an unused word that is not 0, c out of range, or limits that do not fit each other
 abbrev pub WrongForm : ℕ → ℕ → ℕ → ℕ → Type 0
 WrongForm k a b c = (k < 1) ⊎ ((lastKind < k) ⊎ (Misused (usesOf (kindOf k a b c)) a b c ⊎ WrongPair (kindOf k a b c)))
 
@@ -64,6 +68,7 @@ NamesMissing n (Distance a b limit) = (n ≤ a) ⊎ (n ≤ b)
 NamesMissing n (Ordered a b) = (n ≤ a) ⊎ (n ≤ b)
 NamesMissing n (Samepara a b) = (n ≤ a) ⊎ (n ≤ b)
 NamesMissing n (Window limit) = ⊥
+NamesMissing n (Proximity a b least most) = (n ≤ a) ⊎ (n ≤ b)
 
 -- VOICE after a condition; a condition with no pattern open or naming a variable not there; END with no pattern open;
 -- an operator with a pattern open or fewer answers than it takes
@@ -83,7 +88,7 @@ pub data PlanApplies (v p : List ℕ) : ℕ → ℕ → Type 0 where
   ofVolume : (n q : ℕ) → VolumeApplies v n q → PlanApplies v p n q
   -- 9: length 0, not a multiple of four words, or over 256 words
   wrongLength : WrongLength p → PlanApplies v p 9 0
-  -- 10: unknown kind, unused word not 0, or c out of range; place: row
+  -- 10: unknown kind, unused word not 0, c out of range, or a least above its most; place: row
   wrongForm : (i : ℕ) → i < rowCount p → WrongForm (kindAt p i) (aAt p i) (bAt p i) (cAt p i) → PlanApplies v p 10 i
   -- 11: list 0, or a list not below T; place: row
   wrongList : (i : ℕ) → i < rowCount p → WrongList (listCount v) (rowAt p i .kind) → PlanApplies v p 11 i

@@ -1,6 +1,6 @@
 -- The rows of a plan: four words each, and the kind that they are read as. Each definition is total: behind the end of the plan stand
 -- zeros. Assumes nothing.
-use Prim.Native.Nat.{ℕ, _+_, _-_, _*_, _/_, _≤_}
+use Prim.Native.Nat.{ℕ, _+_, _-_, _*_, _/_, _%_, _≤_}
 use mathlib.Core.Bool.{Bool, true, false, not, _&&_, _||_}
 use mathlib.Core.List.{List, [], _∷_, map}
 use lib.ListN.{length, getD}
@@ -8,13 +8,13 @@ use lib.Dec.{eqb, ltb}
 use Rattle.seq.specs.Lists.{joined}
 use Rattle.seq.specs.Numbers.{run}
 use Rattle.plan.specs.declared.kinds.Uses.{Uses}
-use Rattle.plan.specs.declared.row.Predicate.the-variants.{Distance, Ordered, Samepara, Window}
+use Rattle.plan.specs.declared.row.Predicate.the-variants.{Distance, Ordered, Samepara, Window, Proximity}
 use Rattle.plan.specs.declared.row.Operator.{Operator}
 use Rattle.plan.specs.declared.row.Operator.the-variants.{Both, Either, FirstNotSecond}
 use Rattle.plan.specs.declared.row.Kind.{Kind}
 use Rattle.plan.specs.declared.row.Kind.the-variants as kind
 use Rattle.plan.specs.declared.row.Row.{Row}
-use Rattle.plan.specs.Limits.{lastKind}
+use Rattle.plan.specs.Limits.{lastKind, leastUnit}
 
 -- the number of rows
 abbrev pub rowCount : List ℕ → ℕ
@@ -46,6 +46,7 @@ kindOf k a b c =
     ∷ kind.Operator Both
     ∷ kind.Operator Either
     ∷ kind.Operator FirstNotSecond
+    ∷ kind.Condition (Proximity a b (c / leastUnit) (c % leastUnit))
     ∷ [])
     (k - 1)
     kind.End
@@ -94,13 +95,14 @@ isOperator (kind.Operator o) = true
 abbrev pub uses : Bool → Bool → Bool → ℕ → ℕ → Uses
 uses a b c least most = record { a = a; b = b; c = c; least = least; most = most }
 
--- the words that a row uses, by its kind; the range of c is 0 to 0 where it is not used
+-- the words that a row uses, by its kind; the range of c is 0 to 0 where it is not used, and all words for APART
 abbrev pub usesOf : Kind → Uses
 usesOf (kind.Voice list) = uses true false false 0 0
 usesOf (kind.Condition (Distance a b limit)) = uses true true true 0 65535
 usesOf (kind.Condition (Ordered a b)) = uses true true false 0 0
 usesOf (kind.Condition (Samepara a b)) = uses true true false 0 0
 usesOf (kind.Condition (Window limit)) = uses false false true 1 65536
+usesOf (kind.Condition (Proximity a b least most)) = uses true true true 0 4294967295
 usesOf kind.End = uses false false false 0 0
 usesOf (kind.Operator o) = uses false false false 0 0
 
@@ -112,14 +114,18 @@ stray used word = not used && not (eqb word 0)
 unfoldable pub misused : Uses → ℕ → ℕ → ℕ → Bool
 misused u a b c = stray (u .a) a || (stray (u .b) b || (stray (u .c) c || (ltb c (u .least) || ltb (u .most) c)))
 
--- words that a row carries do not fit each other; there is no such rule for any kind
+-- the limits that a row carries do not fit each other: the least of APART exceeds its most (02, N2)
 abbrev pub pairWrong : Kind → Bool
 pairWrong (kind.Voice list) = false
-pairWrong (kind.Condition c) = false
+pairWrong (kind.Condition (Distance a b limit)) = false
+pairWrong (kind.Condition (Ordered a b)) = false
+pairWrong (kind.Condition (Samepara a b)) = false
+pairWrong (kind.Condition (Window limit)) = false
+pairWrong (kind.Condition (Proximity a b least most)) = ltb most least
 pairWrong kind.End = false
 pairWrong (kind.Operator o) = false
 
--- 10: unknown kind, unused word not 0, or c out of range
+-- 10: unknown kind, unused word not 0, c out of range, or limits that do not fit each other
 unfoldable pub formWrong : ℕ → ℕ → ℕ → ℕ → Bool
 formWrong k a b c = ltb k 1 || (ltb lastKind k || (misused (usesOf (kindOf k a b c)) a b c || pairWrong (kindOf k a b c)))
 
@@ -133,6 +139,7 @@ wordsOf (kind.Condition (Distance a b limit)) = 2 ∷ a ∷ b ∷ limit ∷ []
 wordsOf (kind.Condition (Ordered a b)) = 3 ∷ a ∷ b ∷ 0 ∷ []
 wordsOf (kind.Condition (Samepara a b)) = 4 ∷ a ∷ b ∷ 0 ∷ []
 wordsOf (kind.Condition (Window limit)) = 5 ∷ 0 ∷ 0 ∷ limit ∷ []
+wordsOf (kind.Condition (Proximity a b least most)) = 10 ∷ a ∷ b ∷ (least * leastUnit + most) ∷ []
 wordsOf kind.End = 6 ∷ 0 ∷ 0 ∷ 0 ∷ []
 wordsOf (kind.Operator Both) = 7 ∷ 0 ∷ 0 ∷ 0 ∷ []
 wordsOf (kind.Operator Either) = 8 ∷ 0 ∷ 0 ∷ 0 ∷ []
@@ -142,12 +149,13 @@ wordsOf (kind.Operator FirstNotSecond) = 9 ∷ 0 ∷ 0 ∷ 0 ∷ []
 abbrev pub planOf : List Row → List ℕ
 planOf rows = joined (map (λ (r : Row). wordsOf (r .kind)) rows)
 
--- the limit of a condition is in its range
+-- the limits of a condition are in their range
 abbrev pub InRange : Kind → Type 0
 InRange (kind.Voice list) = Unit
 InRange (kind.Condition (Distance a b limit)) = limit ≤ 65535
 InRange (kind.Condition (Ordered a b)) = Unit
 InRange (kind.Condition (Samepara a b)) = Unit
 InRange (kind.Condition (Window limit)) = (1 ≤ limit) × (limit ≤ 65536)
+InRange (kind.Condition (Proximity a b least most)) = (least ≤ most) × (most ≤ 65535)
 InRange kind.End = Unit
 InRange (kind.Operator o) = Unit

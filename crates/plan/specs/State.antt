@@ -11,7 +11,7 @@ use mathlib.Core.List.{List, [], _∷_}
 use lib.Dec.{eqb, ltb, leb}
 use Rattle.plan.specs.declared.answers.Fault.the-variants as fault
 use Rattle.plan.specs.declared.row.Predicate.{Predicate}
-use Rattle.plan.specs.declared.row.Predicate.the-variants.{Distance, Ordered, Samepara, Window}
+use Rattle.plan.specs.declared.row.Predicate.the-variants.{Distance, Ordered, Samepara, Window, Proximity}
 use Rattle.plan.specs.declared.row.Operator.{Operator}
 use Rattle.plan.specs.declared.row.Operator.the-variants.{Both, Either, FirstNotSecond}
 use Rattle.plan.specs.declared.row.Kind.{Kind}
@@ -59,6 +59,7 @@ namesBelow n (Distance a b limit) = ltb a n && ltb b n
 namesBelow n (Ordered a b) = ltb a n && ltb b n
 namesBelow n (Samepara a b) = ltb a n && ltb b n
 namesBelow n (Window limit) = true
+namesBelow n (Proximity a b least most) = ltb a n && ltb b n
 
 -- 11: list 0, or a list not below T
 abbrev pub listWrong : ℕ → Kind → Bool

@@ -6,6 +6,7 @@ ghost use Rattle.plan.specs.Rows.{kindOf, usesOf, pairWrong, formWrong};
 ghost use Rattle.plan.specs.Rows as rows;
 use super::limits::LAST_KIND;
 use super::row::Kind;
+use super::row::Predicate;
 use super::row::row_of;
 
 // Whether a, b and c are used, and the range of c; 0 to 0 where c is not used.
@@ -91,6 +92,14 @@ const KINDS: [Uses; LAST_KIND as usize] = [
         least: 0,
         most: 0,
     },
+    // 10 APART: a, b, c
+    Uses {
+        a: true,
+        b: true,
+        c: true,
+        least: 0,
+        most: 4294967295,
+    },
 ];
 
 // What rows of a kind use.
@@ -112,20 +121,35 @@ fn stray(used: bool, word: u32) -> bool
     word != 0
 }
 
-// Whether words that a row carries do not fit each other; there is no such rule for any kind.
+// Whether the limits that a row carries do not fit each other: the least of APART exceeds its most.
 fn pair_wrong(kind: Kind) -> bool
     ensures { λ r. ⌜ r ≡ pairWrong kind ⌝ }
 {
     match kind {
         Kind::Voice(_) => false,
-        Kind::Condition(_) => false,
+        Kind::Condition(predicate) => match predicate {
+            Predicate::Distance {
+                a: _,
+                b: _,
+                limit: _,
+            } => false,
+            Predicate::Ordered { a: _, b: _ } => false,
+            Predicate::Samepara { a: _, b: _ } => false,
+            Predicate::Window { limit: _ } => false,
+            Predicate::Proximity {
+                a: _,
+                b: _,
+                least,
+                most,
+            } => most < least,
+        },
         Kind::End => false,
         Kind::Operator(_) => false,
     }
 }
 
 // Whether four words are no row: the kind is unknown, a word that it does not use is not 0, c is out
-// of its range, or words do not fit each other.
+// of its range, or limits do not fit each other.
 pub fn form_wrong(kind: u32, a: u32, b: u32, c: u32) -> bool
     ensures { λ r. ⌜ r ≡ formWrong kind a b c ⌝ }
 {

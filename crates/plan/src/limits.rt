@@ -4,7 +4,9 @@ ghost use mathlib.Core.Path.{_≡_};
 ghost use Rattle.plan.specs.Limits.{rowWords};
 
 // The last kind of a row; the first is 1.
-pub const LAST_KIND: u32 = 9;
+pub const LAST_KIND: u32 = 10;
+// What the least of an APART row is multiplied by in its c.
+pub const LEAST_UNIT: u32 = 65536;
 // The most rows of a plan.
 pub const MOST_ROWS: usize = 64;
 // The most words of a plan.

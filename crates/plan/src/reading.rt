@@ -59,6 +59,12 @@ fn is_samepara(kind: Kind) -> bool
             Predicate::Ordered { a: _, b: _ } => false,
             Predicate::Samepara { a: _, b: _ } => true,
             Predicate::Window { limit: _ } => false,
+            Predicate::Proximity {
+                a: _,
+                b: _,
+                least: _,
+                most: _,
+            } => false,
         },
         Kind::End => false,
         Kind::Operator(_) => false,

@@ -4,17 +4,37 @@ ghost use mathlib.Core.Bool.{false};
 ghost use Prim.Native.Nat.{_<_, _≤_};
 ghost use Rattle.plan.specs.Limits.{lastKind};
 ghost use Rattle.plan.specs.Rows.{rowCount, rowOf, rowAt, formWrongAt};
+use super::limits::LEAST_UNIT;
 
 // A position predicate (01: condition) on the variables of a pattern, which are numbered from 0.
 pub enum Predicate {
     // NEAR: at most `limit` positions lie between a and b.
-    Distance { a: u32, b: u32, limit: u32 },
+    Distance {
+        a: u32,
+        b: u32,
+        limit: u32,
+    },
     // BEFORE: a stands in front of b.
-    Ordered { a: u32, b: u32 },
+    Ordered {
+        a: u32,
+        b: u32,
+    },
     // SAME TITLE: a and b stand in one paragraph.
-    Samepara { a: u32, b: u32 },
+    Samepara {
+        a: u32,
+        b: u32,
+    },
     // SPAN: all variables stand within `limit` positions.
-    Window { limit: u32 },
+    Window {
+        limit: u32,
+    },
+    // APART: a stands in front of b, with at least `least` and at most `most` positions between them.
+    Proximity {
+        a: u32,
+        b: u32,
+        least: u32,
+        most: u32,
+    },
 }
 
 // What makes one answer of several.
@@ -66,8 +86,16 @@ pub fn row_of(kind: u32, a: u32, b: u32, c: u32) -> Row
         8 => Row {
             kind: Kind::Operator(Operator::Either),
         },
-        _ => Row {
+        9 => Row {
             kind: Kind::Operator(Operator::FirstNotSecond),
+        },
+        _ => Row {
+            kind: Kind::Condition(Predicate::Proximity {
+                a,
+                b,
+                least: c / LEAST_UNIT,
+                most: c % LEAST_UNIT,
+            }),
         },
     }
 }

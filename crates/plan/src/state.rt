@@ -59,6 +59,12 @@ fn names_below(predicate: Predicate, n: u32) -> bool
         Predicate::Ordered { a, b } => a < n && b < n,
         Predicate::Samepara { a, b } => a < n && b < n,
         Predicate::Window { limit: _ } => true,
+        Predicate::Proximity {
+            a,
+            b,
+            least: _,
+            most: _,
+        } => a < n && b < n,
     }
 }
 

@@ -23,7 +23,7 @@ use Rattle.seq.proofs.Laws.Decides.{Decides, and-decides, or-decides, not-decid
 use Rattle.seq.proofs.Laws.Lists.{Each}
 use Rattle.volume.specs.Layout.{listsOf}
 use Rattle.plan.specs.declared.row.Predicate.{Predicate}
-use Rattle.plan.specs.declared.row.Predicate.the-variants.{Distance, Ordered, Samepara, Window}
+use Rattle.plan.specs.declared.row.Predicate.the-variants.{Distance, Ordered, Samepara, Window, Proximity}
 use Rattle.plan.specs.declared.row.Operator.{Operator}
 use Rattle.plan.specs.declared.row.Operator.the-variants.{Both, Either, FirstNotSecond}
 use Rattle.plan.specs.declared.row.Kind.{Kind}
@@ -69,6 +69,7 @@ module _ (lists : List (List ℕ)) (d : ℕ) where
   predicate-decides (Ordered a b) ps = holds-decides (startsIn lists d) (Ordered a b) ps
   predicate-decides (Samepara a b) ps = same-decides (holds-decides (startsIn lists d) (Samepara a b) ps) (unparted (at ps a) (at ps b)) (alike (at ps a) (at ps b))
   predicate-decides (Window c) ps = holds-decides (startsIn lists d) (Window c) ps
+  predicate-decides (Proximity a b least most) ps = holds-decides (startsIn lists d) (Proximity a b least most) ps
 
   predicates-decide : (cs : List Predicate) (ps : List ℕ) → Decides (allHold (startsIn lists d) cs ps) (True lists d (each (predicatesOf (length ps) cs)) ps)
   unfolding all

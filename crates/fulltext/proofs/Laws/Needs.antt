@@ -1,28 +1,30 @@
 -- What each predicate says and needs. No other law knows the predicates' tests, and no contract cites this file.
 --     Fact, holds-decides          what a predicate says of positions; its test decides it
---     distance-holds, ordered-holds, samepara-holds, window-holds
+--     distance-holds, ordered-holds, samepara-holds, window-holds, proximity-holds
 --                                  the test is true where this is so
---     distance-needs-first, distance-needs-second, ordered-needs, ordered-never, samepara-needs-first, samepara-needs-second, window-needs
+--     distance-needs-first, distance-needs-second, ordered-needs, ordered-never, samepara-needs-first, samepara-needs-second, window-needs,
+--     proximity-needs-first, proximity-needs-second, proximity-never
 --                                  what a predicate needs of a variable
 --     meet, meet-at, length-meet   of each variable the lesser of two positions
 --     holds-meet                   a predicate that holds of two tuples holds of their meet
 -- Assumes nothing.
 use Prim.Native.Nat.{ℕ, zero, suc, _+_, _-_, min, max, _<_, _≤_}
 use native.Mathlib.Omega.{arith}
-use mathlib.Core.Path.{_≡_, refl, ap}
-use mathlib.Core.Bool.{true, not}
-use mathlib.Core.Logic.{⊎-elim, _↔_}
+use mathlib.Core.Path.{_≡_, refl, ap, subst}
+use mathlib.Core.Bool.{true, not, _&&_}
+use mathlib.Core.Logic.{_⊎_, inl, inr, ⊎-elim, _↔_, _≢_}
 use mathlib.Core.List.{List, [], _∷_}
 use lib.ListN.{length, getD}
-use lib.Dec.{leb}
+use lib.Dec.{leb, ltb}
 use Rattle.seq.proofs.Laws.Tests.{below-or, contrary}
 use Rattle.seq.proofs.Laws.Decides as decides
-use Rattle.seq.proofs.Laws.Decides.{Decides, leb-decides, ltb-decides, not-decides, and-decides, same-decides}
+use Rattle.seq.proofs.Laws.Decides.{Decides, eqb-decides, leb-decides, ltb-decides, not-decides, and-decides, or-decides, same-decides}
 use Rattle.seq.proofs.Laws.Lists.{all-each}
 use Rattle.plan.specs.declared.row.Predicate.{Predicate}
-use Rattle.plan.specs.declared.row.Predicate.the-variants.{Distance, Ordered, Samepara, Window}
-use Rattle.fulltext.specs.Calculus.{at, In}
-use Rattle.fulltext.specs.Matches.{difference, largest, smallestOf, smallest, separates, together, holds}
+use Rattle.plan.specs.declared.row.Predicate.the-variants.{Distance, Ordered, Samepara, Window, Proximity}
+use Rattle.plan.specs.Limits.{noUpperEnd}
+use Rattle.fulltext.specs.Calculus.{at, In, Within, Proximal}
+use Rattle.fulltext.specs.Matches.{difference, largest, smallestOf, smallest, separates, together, within, holds}
 use Rattle.fulltext.specs.Inner.Bounds.{Needs}
 
 -- what a predicate says of the variables' positions, in a document with these starts
@@ -31,6 +33,7 @@ Fact ss (Distance a b c) ps = (at ps a ≤ at ps b + (c + 1)) × (at ps b ≤ at
 Fact ss (Ordered a b) ps = at ps a < at ps b
 Fact ss (Samepara a b) ps = (s : ℕ) → In s ss → (s ≤ at ps a) ↔ (s ≤ at ps b)
 Fact ss (Window c) ps = (x y : ℕ) → x < length ps → y < length ps → at ps x ≤ at ps y + (c - 1)
+Fact ss (Proximity a b least most) ps = Proximal least most (at ps a) (at ps b)
 
 distance-decides : (p q n : ℕ) → Decides (leb (difference p q) n) ((p ≤ q + n) × (q ≤ p + n))
 distance-decides p q n = same-decides (leb-decides (difference p q) n) (λ h. omega arith) (λ h. omega arith)
@@ -94,12 +97,25 @@ window-decides (p ∷ ps) n = same-decides (leb-decides (largest (p ∷ ps) - sm
     spread : ((x y : ℕ) → x < suc (length ps) → y < suc (length ps) → at (p ∷ ps) x ≤ at (p ∷ ps) y + n) → largest (p ∷ ps) - smallest (p ∷ ps) ≤ n
     spread h = omega (arith, le-smallest p ps (largest (p ∷ ps) - n) (λ y k. omega (arith, largest-le (p ∷ ps) (at (p ∷ ps) y + n) (λ x l. h x y l k))))
 
+within-decides : (least most n : ℕ) → Decides (within least most n) (Within least most n)
+within-decides least most n = and-decides (leb-decides least n) (or-decides (eqb-decides most noUpperEnd) (leb-decides n most))
+
+proximity-decides : (least most p q : ℕ) → Decides (ltb p q && within least most (q - p - 1)) (Proximal least most p q)
+proximity-decides least most p q = same-decides (and-decides (ltb-decides p q) (within-decides least most (q - p - 1))) there back
+  where
+    there : (p < q) × Within least most (q - p - 1) → Proximal least most p q
+    there h = (q - p - 1, omega arith, h .1)
+
+    back : Proximal least most p q → (p < q) × Within least most (q - p - 1)
+    back h = let n = h .0 in let e : n ≡ q - p - 1 = omega arith in (omega arith, subst (Within least most) e (h .2))
+
 pub holds-decides : (ss : List ℕ) (c : Predicate) (ps : List ℕ) → Decides (holds ss c ps) (Fact ss c ps)
 unfolding holds
 holds-decides ss (Distance a b c) ps = distance-decides (at ps a) (at ps b) (c + 1)
 holds-decides ss (Ordered a b) ps = ltb-decides (at ps a) (at ps b)
 holds-decides ss (Samepara a b) ps = together-decides ss (at ps a) (at ps b)
 holds-decides ss (Window c) ps = window-decides ps (c - 1)
+holds-decides ss (Proximity a b least most) ps = proximity-decides least most (at ps a) (at ps b)
 
 module _ (ss : List ℕ) (c : Predicate) (ps : List ℕ) where
   -- the test from what the predicate says, and back
@@ -144,6 +160,26 @@ module _ (ss ps : List ℕ) where
   pub window-needs : (c x y : ℕ) → x < length ps → y < length ps → Needs ss (Window c) ps x (at ps y - (c - 1))
   window-needs c x y h l qs n le e = omega (arith, le y, fact-of ss (Window c) qs e y x (omega arith) (omega arith))
 
+  module _ (a b least most : ℕ) where
+    pub proximity-holds : at ps a + (least + 1) ≤ at ps b → at ps b ≤ at ps a + (most + 1) → holds ss (Proximity a b least most) ps ≡ true
+    proximity-holds h l = fact-holds ss (Proximity a b least most) ps (at ps b - at ps a - 1, omega arith, (omega arith, inr (omega arith)))
+
+    pub proximity-needs-second : Needs ss (Proximity a b least most) ps b (at ps a + (least + 1))
+    proximity-needs-second qs n le e = let f = fact-of ss (Proximity a b least most) qs e in omega (arith, le a, f .1, f .2 .0)
+
+    -- where there is an upper end
+    pub proximity-needs-first : most ≢ noUpperEnd → Needs ss (Proximity a b least most) ps a (at ps b - (most + 1))
+    proximity-needs-first ends qs n le e =
+        let f = fact-of ss (Proximity a b least most) qs e in
+        ⊎-elim (λ (q : most ≡ noUpperEnd). absurd (ends q)) (λ (q : f .0 ≤ most). omega (arith, le b, f .1)) (f .2 .1)
+
+    -- of one variable it never holds
+    pub proximity-never : (bound : ℕ) → a ≡ b → Needs ss (Proximity a b least most) ps b bound
+    proximity-never bound same qs n le e =
+        let f = fact-of ss (Proximity a b least most) qs e in
+        let q : at qs a ≡ at qs b = ap (at qs) same in
+        absurd (let z : ⊥ = omega (arith, f .1) in z)
+
 -- of each variable the lesser position
 abbrev pub meet : List ℕ → List ℕ → List ℕ
 meet [] qs = []
@@ -161,6 +197,22 @@ length-meet [] qs = omega arith
 length-meet (p ∷ ps) [] = omega arith
 length-meet (p ∷ ps) (q ∷ qs) = let e = length-meet ps qs in omega arith
 
+proximal-meet : (least most p q p′ q′ : ℕ) → Proximal least most p q → Proximal least most p′ q′ → Proximal least most (min p p′) (min q q′)
+proximal-meet least most p q p′ q′ f g = (
+  between,
+  omega (arith, f .1, g .1),
+  (
+    omega (arith, f .1, f .2 .0, g .1, g .2 .0),
+    ⊎-elim
+        (λ (e : most ≡ noUpperEnd). inl e)
+        (λ (h : f .0 ≤ most). ⊎-elim (λ (e : most ≡ noUpperEnd). inl e) (λ (l : g .0 ≤ most). inr (omega (arith, f .1, g .1))) (g .2 .1))
+        (f .2 .1),
+  ),
+)
+  where
+    between : ℕ
+    between = min q q′ - min p p′ - 1
+
 fact-meet : (ss : List ℕ) (c : Predicate) (ps qs : List ℕ) → Fact ss c ps → Fact ss c qs → Fact ss c (meet ps qs)
 fact-meet ss (Distance a b c) ps qs f g = rw (meet-at ps qs a, meet-at ps qs b) (omega arith)
 fact-meet ss (Ordered a b) ps qs f g = rw (meet-at ps qs a, meet-at ps qs b) (omega arith)
@@ -169,6 +221,7 @@ fact-meet ss (Samepara a b) ps qs f g = λ s i. rw (meet-at ps qs a, meet-at ps 
   λ (h : s ≤ min (at ps b) (at qs b)). omega (arith, f s i .1 (omega arith), g s i .1 (omega arith)),
 )
 fact-meet ss (Window c) ps qs f g = λ x y h l. let n = length-meet ps qs in rw (meet-at ps qs x, meet-at ps qs y) (omega (arith, f x y (omega arith) (omega arith), g x y (omega arith) (omega arith)))
+fact-meet ss (Proximity a b least most) ps qs f g = rw (meet-at ps qs a, meet-at ps qs b) (proximal-meet least most (at ps a) (at ps b) (at qs a) (at qs b) f g)
 
 pub holds-meet : (ss : List ℕ) (c : Predicate) (ps qs : List ℕ) → holds ss c ps ≡ true → holds ss c qs ≡ true → holds ss c (meet ps qs) ≡ true
 holds-meet ss c ps qs d e = fact-holds ss c (meet ps qs) (fact-meet ss c ps qs (fact-of ss c ps d) (fact-of ss c qs e))

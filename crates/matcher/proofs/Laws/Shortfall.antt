@@ -2,10 +2,11 @@
 --     distance-first, distance-second, ordered-second, ordered-alone     the variable that a predicate leaves short
 --     samepara-first, samepara-second, samepara-other, samepara-one, samepara-same
 --                                  by the start of the later position's paragraph
+--     proximity-alone, proximity-behind, proximity-second, proximity-first
 --     Spread                       the smallest and the largest of the first positions
 --     spread-first, spread-low, spread-high, spread-within, spread-least     it is kept from turn to turn
 --     window-short, window-kept    what it tells
---     distance-asked, ordered-asked, samepara-asked, window-asked     what `falls_short` hands on
+--     distance-asked, ordered-asked, samepara-asked, window-asked, proximity-asked     what `falls_short` hands on
 -- Assumes nothing.
 use Prim.Native.Nat.{ℕ, _+_, _-_, _<_, _≤_}
 use native.Mathlib.Omega.{arith}
@@ -20,8 +21,9 @@ use borrow.Author.Tests.{ltb-true}
 use Rattle.seq.proofs.Laws.Tests.{both, below-or}
 use Rattle.volume.specs.Check.{Accepted}
 use Rattle.plan.specs.declared.row.Predicate.{Predicate}
-use Rattle.plan.specs.declared.row.Predicate.the-variants.{Distance, Ordered, Samepara, Window}
+use Rattle.plan.specs.declared.row.Predicate.the-variants.{Distance, Ordered, Samepara, Window, Proximity}
 use Rattle.plan.specs.declared.row.Kind.the-variants as kind
+use Rattle.plan.specs.Limits.{noUpperEnd}
 use Rattle.plan.specs.Rows.{InRange}
 use Rattle.plan.specs.State.{namesBelow}
 use Rattle.fulltext.specs.Positions.{limit}
@@ -31,7 +33,7 @@ use Rattle.fulltext.specs.Inner.Paragraphs.{paraStart}
 use Rattle.matcher.specs.Inner.Shortfall.{InDocument, LeftShort}
 use Rattle.matcher.specs.declared.cursor.Document.{Document}
 use Rattle.matcher.specs.Inner.Cursors.{AtDocument}
-use Rattle.fulltext.proofs.Laws.Needs.{distance-needs-first, distance-needs-second, ordered-needs, ordered-never, samepara-holds, samepara-needs-first, samepara-needs-second, window-holds, window-needs}
+use Rattle.fulltext.proofs.Laws.Needs.{distance-needs-first, distance-needs-second, ordered-needs, ordered-never, samepara-holds, samepara-needs-first, samepara-needs-second, window-holds, window-needs, proximity-needs-first, proximity-needs-second, proximity-never}
 use Rattle.matcher.proofs.Laws.Paragraphs.{para-unparted, para-in}
 
 module _ (ss ps : List ℕ) (small : InDocument ps) where
@@ -41,6 +43,26 @@ module _ (ss ps : List ℕ) (small : InDocument ps) where
 
     pub distance-second : at ps b + c + 1 < at ps a → LeftShort ss (Distance a b c) ps b (at ps a - (c + 1))
     distance-second l = let m = small a h in record { there = k; before = omega arith; most = omega arith; needs = distance-needs-second ss ps a b c }
+
+  module _ (a b least most : ℕ) (h : a < length ps) (k : b < length ps) where
+    -- nothing is left for a variable beside itself
+    pub proximity-alone : a ≡ b → LeftShort ss (Proximity a b least most) ps b limit
+    proximity-alone e = let m = small b k in record { there = k; before = omega arith; most = omega arith; needs = proximity-never ss ps a b least most limit e }
+
+    -- nor behind the last position
+    pub proximity-behind : 65535 < at ps a + least + 1 → LeftShort ss (Proximity a b least most) ps b limit
+    proximity-behind l =
+        let m = small b k in
+        record { there = k; before = omega arith; most = omega arith; needs = λ qs n le e. omega (arith, proximity-needs-second ss ps a b least most qs n le e) }
+
+    pub proximity-second : at ps b < at ps a + least + 1 → at ps a + least + 1 ≤ 65535 → LeftShort ss (Proximity a b least most) ps b (at ps a + least + 1)
+    proximity-second l g = record { there = k; before = l; most = omega arith; needs = λ qs n le e. omega (arith, proximity-needs-second ss ps a b least most qs n le e) }
+
+    -- b stands too far only where there is an upper end
+    pub proximity-first : at ps a + most + 1 < at ps b → LeftShort ss (Proximity a b least most) ps a (at ps b - (most + 1))
+    proximity-first l =
+        let m = small b k in
+        record { there = h; before = omega arith; most = omega arith; needs = proximity-needs-first ss ps a b least most (λ (e : most ≡ noUpperEnd). omega arith) }
 
   module _ (a b : ℕ) (h : a < length ps) (k : b < length ps) where
     pub ordered-second : at ps b ≤ at ps a → LeftShort ss (Ordered a b) ps b (at ps a + 1)
@@ -189,3 +211,9 @@ module _ {v : List ℕ} {doc : Document} {n : ℕ} (ps : List ℕ) (p : Predicat
 
   pub window-asked : {c : ℕ} → p ≡ Window c → InDocument (take n ps) × ((1 ≤ length (take n ps)) × ((1 ≤ c) × (c ≤ 65536)))
   window-asked {c} e = let q = size in let h = asked .1 .1 .0 in (in-document, (omega arith, range (Window c) e))
+
+  pub proximity-asked : {a b least most : ℕ} → p ≡ Proximity a b least most → InDocument (take n ps) × ((a < length (take n ps)) × ((b < length (take n ps)) × ((least ≤ 65535) × (most ≤ 65535))))
+  proximity-asked {a} {b} {least} {most} e =
+      let w = named a b (names (Proximity a b least most) e) in
+      let r = range (Proximity a b least most) e in
+      (in-document, (w .0, (w .1, (omega arith, r .1))))

@@ -20,7 +20,7 @@ use Rattle.seq.specs.Lists.{total}
 use Rattle.seq.proofs.Laws.Tests.{both, both-true, neither}
 use Rattle.seq.proofs.Laws.Decides.{eqb-decides, leb-decides, and-decides}
 use Rattle.plan.specs.declared.row.Predicate.{Predicate}
-use Rattle.plan.specs.declared.row.Predicate.the-variants.{Distance, Ordered, Samepara, Window}
+use Rattle.plan.specs.declared.row.Predicate.the-variants.{Distance, Ordered, Samepara, Window, Proximity}
 use Rattle.plan.specs.declared.row.Operator.{Operator}
 use Rattle.plan.specs.declared.row.Operator.the-variants.{Both, Either, FirstNotSecond}
 use Rattle.plan.specs.declared.row.Kind.{Kind}
@@ -122,6 +122,7 @@ namesBelow-le n m (Distance a b limit) l e = two-below n m a b l e
 namesBelow-le n m (Ordered a b) l e = two-below n m a b l e
 namesBelow-le n m (Samepara a b) l e = two-below n m a b l e
 namesBelow-le n m (Window limit) l e = refl
+namesBelow-le n m (Proximity a b least most) l e = two-below n m a b l e
 
 -- the open pattern f where the reading stands at s, over t lists: all that a pattern is held to, but that it has a variable
 pub record Fits (t : ℕ) (s : State) (f : Pattern) : Type 0 where

@@ -1,7 +1,7 @@
 -- The laws of `specs/Rows.antt`: four words and the row that they are read as. No contract cites this file.
---     each-kind                    a fact of 1, .., 9 is one of each number from 1 to the last kind
+--     each-kind                    a fact of 1, .., 10 is one of each number from 1 to the last kind
 --     Used, formed-known           what four words of the right form are
---     words-of, range-of           they are the words of their row, whose limit is in range
+--     words-of, range-of           they are the words of their row, whose limits are in range
 --     reads-row                    and such words are read as their row
 --     words-at                     row i of a plan has the words there
 --     form-below, form-above       the form of a row of unknown kind
@@ -11,7 +11,7 @@
 --     rows-slice, words-slice      in a plan that passes every test: the rows of a slice of whole rows; it is their words
 --     plan-words                   the plan is the words of its rows
 -- Assumes nothing.
-use Prim.Native.Nat.{ℕ, zero, suc, _+_, _*_, _<_, _≤_}
+use Prim.Native.Nat.{ℕ, zero, suc, _+_, _*_, _/_, _%_, _<_, _≤_}
 use native.Mathlib.Nat.{add-zero}
 use native.Mathlib.Numerals.{add-one, add-two, add-three}
 use native.Mathlib.Omega.{arith}
@@ -29,29 +29,30 @@ use Rattle.seq.proofs.Laws.Tests.{neither, contrary}
 use Rattle.seq.proofs.Laws.Decides.{Decides, not-decides, eqb-decides, ltb-decides, and-decides, or-decides}
 use Rattle.seq.proofs.Laws.Numbers.{run-append, run-ext}
 use Rattle.plan.specs.declared.kinds.Uses.{Uses}
-use Rattle.plan.specs.declared.row.Predicate.the-variants.{Distance, Ordered, Samepara, Window}
+use Rattle.plan.specs.declared.row.Predicate.the-variants.{Distance, Ordered, Samepara, Window, Proximity}
 use Rattle.plan.specs.declared.row.Operator.the-variants.{Both, Either, FirstNotSecond}
 use Rattle.plan.specs.declared.row.Kind.{Kind}
 use Rattle.plan.specs.declared.row.Kind.the-variants as kind
 use Rattle.plan.specs.declared.row.Row.{Row}
-use Rattle.plan.specs.Limits.{lastKind}
+use Rattle.plan.specs.Limits.{lastKind, leastUnit}
 use Rattle.plan.specs.Rows.{rowCount, kindAt, aAt, bAt, cAt, kindOf, rowOf, rowAt, rowsOf, usesOf, stray, misused, pairWrong, formWrong, formWrongAt, wordsOf, planOf, InRange}
 use Rattle.plan.specs.Refusals.{Stray, WrongPair, WrongForm}
 use Rattle.plan.proofs.Laws.Passed.{Passed}
 use Rattle.seq.proofs.Laws.Slices.{length-slice, getD-slice, slice-run}
 
-each-kind : (P : ℕ → Type 0) → P 1 → P 2 → P 3 → P 4 → P 5 → P 6 → P 7 → P 8 → P 9 → (k : ℕ) → 1 ≤ k → k ≤ lastKind → P k
-each-kind P p1 p2 p3 p4 p5 p6 p7 p8 p9 zero l h = absurd (let z : ⊥ = omega arith in z)
-each-kind P p1 p2 p3 p4 p5 p6 p7 p8 p9 (suc zero) l h = p1
-each-kind P p1 p2 p3 p4 p5 p6 p7 p8 p9 (suc (suc zero)) l h = p2
-each-kind P p1 p2 p3 p4 p5 p6 p7 p8 p9 (suc (suc (suc zero))) l h = p3
-each-kind P p1 p2 p3 p4 p5 p6 p7 p8 p9 (suc (suc (suc (suc zero)))) l h = p4
-each-kind P p1 p2 p3 p4 p5 p6 p7 p8 p9 (suc (suc (suc (suc (suc zero))))) l h = p5
-each-kind P p1 p2 p3 p4 p5 p6 p7 p8 p9 (suc (suc (suc (suc (suc (suc zero)))))) l h = p6
-each-kind P p1 p2 p3 p4 p5 p6 p7 p8 p9 (suc (suc (suc (suc (suc (suc (suc zero))))))) l h = p7
-each-kind P p1 p2 p3 p4 p5 p6 p7 p8 p9 (suc (suc (suc (suc (suc (suc (suc (suc zero)))))))) l h = p8
-each-kind P p1 p2 p3 p4 p5 p6 p7 p8 p9 (suc (suc (suc (suc (suc (suc (suc (suc (suc zero))))))))) l h = p9
-each-kind P p1 p2 p3 p4 p5 p6 p7 p8 p9 (suc (suc (suc (suc (suc (suc (suc (suc (suc (suc k)))))))))) l h = absurd (let z : ⊥ = omega arith in z)
+each-kind : (P : ℕ → Type 0) → P 1 → P 2 → P 3 → P 4 → P 5 → P 6 → P 7 → P 8 → P 9 → P 10 → (k : ℕ) → 1 ≤ k → k ≤ lastKind → P k
+each-kind P p1 p2 p3 p4 p5 p6 p7 p8 p9 p10 zero l h = absurd (let z : ⊥ = omega arith in z)
+each-kind P p1 p2 p3 p4 p5 p6 p7 p8 p9 p10 (suc zero) l h = p1
+each-kind P p1 p2 p3 p4 p5 p6 p7 p8 p9 p10 (suc (suc zero)) l h = p2
+each-kind P p1 p2 p3 p4 p5 p6 p7 p8 p9 p10 (suc (suc (suc zero))) l h = p3
+each-kind P p1 p2 p3 p4 p5 p6 p7 p8 p9 p10 (suc (suc (suc (suc zero)))) l h = p4
+each-kind P p1 p2 p3 p4 p5 p6 p7 p8 p9 p10 (suc (suc (suc (suc (suc zero))))) l h = p5
+each-kind P p1 p2 p3 p4 p5 p6 p7 p8 p9 p10 (suc (suc (suc (suc (suc (suc zero)))))) l h = p6
+each-kind P p1 p2 p3 p4 p5 p6 p7 p8 p9 p10 (suc (suc (suc (suc (suc (suc (suc zero))))))) l h = p7
+each-kind P p1 p2 p3 p4 p5 p6 p7 p8 p9 p10 (suc (suc (suc (suc (suc (suc (suc (suc zero)))))))) l h = p8
+each-kind P p1 p2 p3 p4 p5 p6 p7 p8 p9 p10 (suc (suc (suc (suc (suc (suc (suc (suc (suc zero))))))))) l h = p9
+each-kind P p1 p2 p3 p4 p5 p6 p7 p8 p9 p10 (suc (suc (suc (suc (suc (suc (suc (suc (suc (suc zero)))))))))) l h = p10
+each-kind P p1 p2 p3 p4 p5 p6 p7 p8 p9 p10 (suc (suc (suc (suc (suc (suc (suc (suc (suc (suc (suc k))))))))))) l h = absurd (let z : ⊥ = omega arith in z)
 
 -- words are as a kind uses them: one that is not used is 0, and c is in its range
 pub record Used (u : Uses) (a b c : ℕ) : Type 0 where
@@ -113,11 +114,13 @@ module _ (a b c : ℕ) where
       (λ u. words-are 7 0 0 0 (u .a-used refl) (u .b-used refl) (u .c-used refl))
       (λ u. words-are 8 0 0 0 (u .a-used refl) (u .b-used refl) (u .c-used refl))
       (λ u. words-are 9 0 0 0 (u .a-used refl) (u .b-used refl) (u .c-used refl))
+      (λ u. words-are 10 a b (c / leastUnit * leastUnit + c % leastUnit) refl refl (omega arith))
 
   used-range : (k : ℕ) → 1 ≤ k → k ≤ lastKind → Used (usesOf (kindOf k a b c)) a b c → pairWrong (kindOf k a b c) ≡ false → InRange (kindOf k a b c)
   used-range =
       each-kind (λ k. Used (usesOf (kindOf k a b c)) a b c → pairWrong (kindOf k a b c) ≡ false → InRange (kindOf k a b c))
       (λ u f. tt) (λ u f. u .c-most) (λ u f. tt) (λ u f. tt) (λ u f. (u .c-least, u .c-most)) (λ u f. tt) (λ u f. tt) (λ u f. tt) (λ u f. tt)
+      (λ u f. (ltb-false (c % leastUnit) (c / leastUnit) f, omega arith))
 
 words-of : (k a b c : ℕ) → formWrong k a b c ≡ false → wordsOf (kindOf k a b c) ≡ k ∷ a ∷ b ∷ c ∷ []
 words-of k a b c e = let f = formed-known k a b c e in used-words a b c k (f .0) (f .1) (f .2)
@@ -129,7 +132,16 @@ range-of k a b c e = let f = formed-known k a b c e in used-range a b c k (f .0)
 abbrev ReadAs : Kind → List ℕ → Type 0
 ReadAs r ws = (formWrong (getD ws 0 0) (getD ws 1 0) (getD ws 2 0) (getD ws 3 0) ≡ false) × (kindOf (getD ws 0 0) (getD ws 1 0) (getD ws 2 0) (getD ws 3 0) ≡ r)
 
--- the words of a row whose limit is in range are read as that row
+-- the limits of an APART row are read off its c
+read-proximity : (a b least most : ℕ) → least ≤ most → most ≤ 65535 → ReadAs (kind.Condition (Proximity a b least most)) (wordsOf (kind.Condition (Proximity a b least most)))
+unfolding formWrong misused
+read-proximity a b least most h k =
+    let c = least * leastUnit + most in
+    let l : c / leastUnit ≡ least = omega arith in
+    let m : c % leastUnit ≡ most = omega arith in
+    (rw (l, m, le-ltb c 0 (omega arith), le-ltb 4294967295 c (omega arith), le-ltb most least h), rw (l, m))
+
+-- the words of a row whose limits are in range are read as that row
 read-words : (r : Kind) → InRange r → ReadAs r (wordsOf r)
 unfolding formWrong misused
 read-words (kind.Voice list) h = (refl, refl)
@@ -137,12 +149,13 @@ read-words (kind.Condition (Distance a b limit)) h = (rw (le-ltb limit 0 (omega 
 read-words (kind.Condition (Ordered a b)) h = (refl, refl)
 read-words (kind.Condition (Samepara a b)) h = (refl, refl)
 read-words (kind.Condition (Window limit)) h = (rw (le-ltb limit 1 (h .0), le-ltb 65536 limit (h .1)), refl)
+read-words (kind.Condition (Proximity a b least most)) h = read-proximity a b least most (h .0) (h .1)
 read-words kind.End h = (refl, refl)
 read-words (kind.Operator Both) h = (refl, refl)
 read-words (kind.Operator Either) h = (refl, refl)
 read-words (kind.Operator FirstNotSecond) h = (refl, refl)
 
--- four words have the right form and are read as a row exactly if its limit is in range and they are its words
+-- four words have the right form and are read as a row exactly if its limits are in range and they are its words
 pub reads-row : (k a b c : ℕ) (r : Row) → ((formWrong k a b c ≡ false) × (rowOf k a b c ≡ r)) ↔ (InRange (r .kind) × (wordsOf (r .kind) ≡ k ∷ a ∷ b ∷ c ∷ []))
 reads-row k a b c r = (there, back)
   where
@@ -259,7 +272,11 @@ stray-decides used x = and-decides (record { yes = not-true used; no = λ e f. c
 
 pairWrong-decides : (k : Kind) → Decides (pairWrong k) (WrongPair k)
 pairWrong-decides (kind.Voice list) = never-decides
-pairWrong-decides (kind.Condition c) = never-decides
+pairWrong-decides (kind.Condition (Distance a b limit)) = never-decides
+pairWrong-decides (kind.Condition (Ordered a b)) = never-decides
+pairWrong-decides (kind.Condition (Samepara a b)) = never-decides
+pairWrong-decides (kind.Condition (Window limit)) = never-decides
+pairWrong-decides (kind.Condition (Proximity a b least most)) = ltb-decides most least
 pairWrong-decides kind.End = never-decides
 pairWrong-decides (kind.Operator o) = never-decides
 

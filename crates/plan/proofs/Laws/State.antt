@@ -23,7 +23,7 @@ use Rattle.seq.proofs.Laws.Numbers.{run-snoc}
 use Rattle.plan.specs.declared.answers.Fault.{Fault}
 use Rattle.plan.specs.declared.answers.Fault.the-variants as fault
 use Rattle.plan.specs.declared.row.Predicate.{Predicate}
-use Rattle.plan.specs.declared.row.Predicate.the-variants.{Distance, Ordered, Samepara, Window}
+use Rattle.plan.specs.declared.row.Predicate.the-variants.{Distance, Ordered, Samepara, Window, Proximity}
 use Rattle.plan.specs.declared.row.Operator.{Operator}
 use Rattle.plan.specs.declared.row.Operator.the-variants.{Both, Either, FirstNotSecond}
 use Rattle.plan.specs.declared.row.Kind.{Kind}
@@ -163,6 +163,7 @@ namesBelow-decides n (Distance a b limit) = missing n a b
 namesBelow-decides n (Ordered a b) = missing n a b
 namesBelow-decides n (Samepara a b) = missing n a b
 namesBelow-decides n (Window limit) = never-decides
+namesBelow-decides n (Proximity a b least most) = missing n a b
 
 pub orderWrong-decides : (s : State) (k : Kind) → Decides (orderWrong s k) (WrongOrder s k)
 orderWrong-decides s (kind.Voice list) = record { yes = λ e. e; no = λ e f. contrary f e }

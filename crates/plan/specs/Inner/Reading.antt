@@ -3,7 +3,7 @@ use Prim.Native.Nat.{ℕ}
 use mathlib.Core.Bool.{Bool, true, false, not}
 use mathlib.Core.List.{List}
 use lib.Dec.{ltb}
-use Rattle.plan.specs.declared.row.Predicate.the-variants.{Distance, Ordered, Samepara, Window}
+use Rattle.plan.specs.declared.row.Predicate.the-variants.{Distance, Ordered, Samepara, Window, Proximity}
 use Rattle.plan.specs.declared.row.Kind.{Kind}
 use Rattle.plan.specs.declared.row.Kind.the-variants as kind
 use Rattle.plan.specs.declared.reading.Sort.{Sort}
@@ -18,6 +18,7 @@ isSamepara (kind.Condition (Distance a b limit)) = false
 isSamepara (kind.Condition (Ordered a b)) = false
 isSamepara (kind.Condition (Samepara a b)) = true
 isSamepara (kind.Condition (Window limit)) = false
+isSamepara (kind.Condition (Proximity a b least most)) = false
 isSamepara kind.End = false
 isSamepara (kind.Operator o) = false
 

@@ -2,7 +2,7 @@
 use native.Mathlib.Omega.{arith}
 use denote.Ref.{now}
 use lib.Seq.{length-take-le}
-use Rattle.matcher.proofs.Laws.Shortfall.{distance-asked, ordered-asked, samepara-asked, window-asked}
+use Rattle.matcher.proofs.Laws.Shortfall.{distance-asked, ordered-asked, samepara-asked, window-asked, proximity-asked}
 use Rattle.matcher.proofs.predicates.falls_short.Statement.{statement}
 use Rattle.matcher.proofs.predicates.falls_short.Tie as tie
 
@@ -51,6 +51,18 @@ enum-known-predicate-4 c = omega arith
 window-requires : tie.Need-window-requires
 window-requires c κs = let s = c .before .before .before .before .before .before in window-asked (now (s .args .positions)) (s .args .predicate) (s .pre) (c .before .predicate4 .given .1)
 
+enum-known-predicate-5 : tie.Need-enum-known-predicate-5
+enum-known-predicate-5 c = omega arith
+
+cast-proximity : tie.Need-cast-proximity
+cast-proximity c = omega arith
+
+cast-proximity-2 : tie.Need-cast-proximity-2
+cast-proximity-2 c = omega arith
+
+proximity-requires : tie.Need-proximity-requires
+proximity-requires c κs = let s = c .before .before .before .before .before .before in proximity-asked (now (s .args .positions)) (s .args .predicate) (s .pre) (c .before .predicate5 .given .1)
+
 returns : tie.Need-returns
 returns c = rw (c .before .before .predicate .given .1) (c .distance .ensures _)
 
@@ -62,6 +74,9 @@ returns-3 c = rw (c .before .before .predicate3 .given .1) (c .samepara .ensures
 
 returns-4 : tie.Need-returns-4
 returns-4 c = rw (c .before .before .predicate4 .given .1) (c .window .ensures _)
+
+returns-5 : tie.Need-returns-5
+returns-5 c = rw (c .before .before .predicate5 .given .1) (c .proximity .ensures _)
 
 pub falls-short-spec : {M : Type 1} → statement M
 falls-short-spec =
@@ -82,7 +97,12 @@ falls-short-spec =
     samepara-requires
     enum-known-predicate-4
     window-requires
+    enum-known-predicate-5
+    cast-proximity
+    cast-proximity-2
+    proximity-requires
     returns
     returns-2
     returns-3
-    returns-4)
+    returns-4
+    returns-5)

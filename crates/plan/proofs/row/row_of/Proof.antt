@@ -1,4 +1,4 @@
--- `row::row_of` meets its contract: one arm for each kind; the last one is left for kind 9. Assumes nothing.
+-- `row::row_of` meets its contract: one arm for each kind; the last one is left for kind 10. Assumes nothing.
 use native.Mathlib.Omega.{arith}
 use Prim.Native.Nat.{ℕ, _+_, _≤_}
 use mathlib.Core.Path.{_≡_}
@@ -34,11 +34,14 @@ returns-8 : tie.Need-returns-8
 returns-8 c = simp (c .match .keys8)
 
 returns-9 : tie.Need-returns-9
-returns-9 c =
+returns-9 c = simp (c .match .keys9)
+
+returns-10 : tie.Need-returns-10
+returns-10 c =
     let k = c .before .args .kind in
     let r = c .match .rest in
-    let low : 9 ≤ k = up (up (up (up (up (up (up (up (c .before .pre .0) (r .0 .0 .0 .0 .0 .0 .0 .1)) (r .0 .0 .0 .0 .0 .0 .1)) (r .0 .0 .0 .0 .0 .1)) (r .0 .0 .0 .0 .1)) (r .0 .0 .0 .1)) (r .0 .0 .1)) (r .0 .1)) (r .1) in
-    let e : k ≡ 9 = omega arith in
+    let low : 10 ≤ k = up (up (up (up (up (up (up (up (up (c .before .pre .0) (r .0 .0 .0 .0 .0 .0 .0 .0 .1)) (r .0 .0 .0 .0 .0 .0 .0 .1)) (r .0 .0 .0 .0 .0 .0 .1)) (r .0 .0 .0 .0 .0 .1)) (r .0 .0 .0 .0 .1)) (r .0 .0 .0 .1)) (r .0 .0 .1)) (r .0 .1)) (r .1) in
+    let e : k ≡ 10 = omega arith in
     simp e
 
 pub row-of-spec : {M : Type 1} → statement M
@@ -53,4 +56,5 @@ row-of-spec =
     returns-6
     returns-7
     returns-8
-    returns-9)
+    returns-9
+    returns-10)

@@ -16,6 +16,9 @@ enum-known-predicate-3 c = search needs
 enum-told : tie.Need-enum-told
 enum-told c = search needs
 
+enum-known-predicate-4 : tie.Need-enum-known-predicate-4
+enum-known-predicate-4 c = search needs
+
 returns : tie.Need-returns
 returns c = rw (c .before .before .predicate .given .1) (simp (lt-ltb _ _ (c .if1 .taken)))
 
@@ -37,6 +40,12 @@ returns-6 c = rw (c .before .before .predicate3 .given .1) (simp (le-ltb _ _ (c 
 returns-7 : tie.Need-returns-7
 returns-7 c = search needs
 
+returns-8 : tie.Need-returns-8
+returns-8 c = rw (c .before .before .predicate4 .given .1) (simp (lt-ltb _ _ (c .if4 .taken)))
+
+returns-9 : tie.Need-returns-9
+returns-9 c = rw (c .before .before .predicate4 .given .1) (simp (le-ltb _ _ (c .if4 .left)))
+
 pub names-below-spec : {M : Type 1} → statement M
 names-below-spec =
     tie.close
@@ -45,10 +54,13 @@ names-below-spec =
     enum-known-predicate-2
     enum-known-predicate-3
     enum-told
+    enum-known-predicate-4
     returns
     returns-2
     returns-3
     returns-4
     returns-5
     returns-6
-    returns-7)
+    returns-7
+    returns-8
+    returns-9)
