@@ -1,7 +1,12 @@
 -- Each statement of `specs/Demands.antt`, proved. Assumes nothing.
-use Rattle.fulltext.specs.Demands.{Demand2}
+use Rattle.fulltext.specs.Demands.{Demand2, ProximityIs}
 use Rattle.fulltext.proofs.Laws.Calculus.{agrees}
+use Rattle.fulltext.proofs.Laws.Needs.{proximities}
 
 pub demand2 : Demand2
 unfolding Demand2
 demand2 = agrees
+
+pub proximity-is : ProximityIs
+unfolding ProximityIs
+proximity-is = proximities

@@ -1,17 +1,20 @@
--- Demand 2 for patterns and plans: the tests that compute and the calculus of document 000 agree. `proofs/Demands.antt` proves it in a
--- line. Assumes nothing.
-use Prim.Native.Nat.{ℕ}
+-- The statements that the crate is held to, each a named type. `proofs/Demands.antt` proves each in a line. Assumes nothing.
+--     Demand2        demand 2 for patterns and plans: the tests that compute and the calculus agree
+--     ProximityIs    what APART (02, N2) is beside BEFORE and NEAR, as a phrase, of one variable and the other way round
+use Prim.Native.Nat.{ℕ, _+_}
 use mathlib.Core.Path.{_≡_}
 use mathlib.Core.Bool.{true}
-use mathlib.Core.Logic.{_↔_}
+use mathlib.Core.Logic.{_↔_, _≢_}
 use mathlib.Core.List.{List, []}
 use lib.ListN.{length}
 use Rattle.volume.specs.Layout.{listsOf}
+use Rattle.plan.specs.declared.row.Predicate.the-variants.{Distance, Ordered, Proximity}
+use Rattle.plan.specs.Limits.{noUpperEnd}
 use Rattle.plan.specs.Rows.{rowsOf}
 use Rattle.plan.specs.Check.{Accepted}
 use Rattle.plan.specs.Accepted.{patternAt}
-use Rattle.fulltext.specs.Calculus.{True, openFormula, patternFormula, planFormula}
-use Rattle.fulltext.specs.Matches.{matchesAt}
+use Rattle.fulltext.specs.Calculus.{at, True, openFormula, patternFormula, planFormula}
+use Rattle.fulltext.specs.Matches.{holds, matchesAt}
 use Rattle.fulltext.specs.Documents.{found, matching}
 
 -- the tests and the calculus, over an accepted volume and plan; a pattern that is not there has no variables and no predicates
@@ -29,3 +32,20 @@ pub record Agrees (v p : List ℕ) : Type 0 where
 -- Demand 2, patterns and plans; the call that tests positions is in the crate `matcher`
 unfoldable pub Demand2 : Type 0
 Demand2 = (v p : List ℕ) → Accepted v p → Agrees v p
+
+-- APART of variables a and b, of any positions, in a document with any starts
+pub record Proximities (starts ps : List ℕ) (a b : ℕ) : Type 0 where
+  -- with nothing asked at either end it is BEFORE
+  pub unlimited : holds starts (Proximity a b 0 noUpperEnd) ps ≡ holds starts (Ordered a b) ps
+  -- with no word between it is a phrase: b stands right behind a
+  pub phrase : (holds starts (Proximity a b 0 0) ps ≡ true) ↔ (at ps b ≡ at ps a + 1)
+  -- it asks for more than BEFORE, and where there is an upper end for more than NEAR
+  pub before : (least most : ℕ) → holds starts (Proximity a b least most) ps ≡ true → holds starts (Ordered a b) ps ≡ true
+  pub near : (least most : ℕ) → most ≢ noUpperEnd
+      → holds starts (Proximity a b least most) ps ≡ true → holds starts (Distance a b most) ps ≡ true
+  -- it never holds both ways round, whatever the limits, and so never of one variable
+  pub oneWay : (least most least′ most′ : ℕ)
+      → holds starts (Proximity a b least most) ps ≡ true → holds starts (Proximity b a least′ most′) ps ≡ true → ⊥
+
+unfoldable pub ProximityIs : Type 0
+ProximityIs = (starts ps : List ℕ) (a b : ℕ) → Proximities starts ps a b

@@ -7,6 +7,7 @@
 --                                  what a predicate needs of a variable
 --     meet, meet-at, length-meet   of each variable the lesser of two positions
 --     holds-meet                   a predicate that holds of two tuples holds of their meet
+--     proximities                  what APART is beside the other predicates
 -- Assumes nothing.
 use Prim.Native.Nat.{ℕ, zero, suc, _+_, _-_, min, max, _<_, _≤_}
 use native.Mathlib.Omega.{arith}
@@ -18,7 +19,7 @@ use lib.ListN.{length, getD}
 use lib.Dec.{leb, ltb}
 use Rattle.seq.proofs.Laws.Tests.{below-or, contrary}
 use Rattle.seq.proofs.Laws.Decides as decides
-use Rattle.seq.proofs.Laws.Decides.{Decides, eqb-decides, leb-decides, ltb-decides, not-decides, and-decides, or-decides, same-decides}
+use Rattle.seq.proofs.Laws.Decides.{Decides, eqb-decides, leb-decides, ltb-decides, not-decides, and-decides, or-decides, same-decides, one-test}
 use Rattle.seq.proofs.Laws.Lists.{all-each}
 use Rattle.plan.specs.declared.row.Predicate.{Predicate}
 use Rattle.plan.specs.declared.row.Predicate.the-variants.{Distance, Ordered, Samepara, Window, Proximity}
@@ -26,6 +27,7 @@ use Rattle.plan.specs.Limits.{noUpperEnd}
 use Rattle.fulltext.specs.Calculus.{at, In, Within, Proximal}
 use Rattle.fulltext.specs.Matches.{difference, largest, smallestOf, smallest, separates, together, within, holds}
 use Rattle.fulltext.specs.Inner.Bounds.{Needs}
+use Rattle.fulltext.specs.Demands.{Proximities}
 
 -- what a predicate says of the variables' positions, in a document with these starts
 abbrev pub Fact : List ℕ → Predicate → List ℕ → Type 0
@@ -225,3 +227,31 @@ fact-meet ss (Proximity a b least most) ps qs f g = rw (meet-at ps qs a, meet-at
 
 pub holds-meet : (ss : List ℕ) (c : Predicate) (ps qs : List ℕ) → holds ss c ps ≡ true → holds ss c qs ≡ true → holds ss c (meet ps qs) ≡ true
 holds-meet ss c ps qs d e = fact-holds ss c (meet ps qs) (fact-meet ss c ps qs (fact-of ss c ps d) (fact-of ss c qs e))
+
+-- what APART is beside the other predicates
+pub proximities : (ss ps : List ℕ) (a b : ℕ) → Proximities ss ps a b
+proximities ss ps a b = record {
+  unlimited =
+      one-test
+      (same-decides (holds-decides ss (Proximity a b 0 noUpperEnd) ps) (ordered-of 0 noUpperEnd) (λ (h : at ps a < at ps b). (at ps b - at ps a - 1, omega arith, (omega arith, inl refl))))
+      (holds-decides ss (Ordered a b) ps);
+  phrase = (
+    λ e. phrase-of (fact-of ss (Proximity a b 0 0) ps e),
+    λ (e : at ps b ≡ at ps a + 1). fact-holds ss (Proximity a b 0 0) ps (0, omega arith, (omega arith, inr (omega arith))),
+  );
+  before = λ least most e. fact-holds ss (Ordered a b) ps (ordered-of least most (fact-of ss (Proximity a b least most) ps e));
+  near = λ least most ends e. fact-holds ss (Distance a b most) ps (distance-of least most ends (fact-of ss (Proximity a b least most) ps e));
+  oneWay = λ least most least′ most′ e f.
+      let g : at ps a < at ps b = ordered-of least most (fact-of ss (Proximity a b least most) ps e) in
+      let h = fact-of ss (Proximity b a least′ most′) ps f in
+      absurd (let z : ⊥ = omega (arith, h .1) in z);
+}
+  where
+    ordered-of : (least most : ℕ) → Proximal least most (at ps a) (at ps b) → at ps a < at ps b
+    ordered-of least most f = omega (arith, f .1)
+
+    distance-of : (least most : ℕ) → most ≢ noUpperEnd → Proximal least most (at ps a) (at ps b) → (at ps a ≤ at ps b + (most + 1)) × (at ps b ≤ at ps a + (most + 1))
+    distance-of least most ends f = ⊎-elim (λ (e : most ≡ noUpperEnd). absurd (ends e)) (λ (h : f .0 ≤ most). (omega (arith, f .1), omega (arith, f .1))) (f .2 .1)
+
+    phrase-of : Proximal 0 0 (at ps a) (at ps b) → at ps b ≡ at ps a + 1
+    phrase-of f = ⊎-elim (λ (e : 0 ≡ noUpperEnd). absurd (let z : ⊥ = omega arith in z)) (λ (h : f .0 ≤ 0). omega (arith, f .1)) (f .2 .1)

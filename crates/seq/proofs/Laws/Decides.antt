@@ -3,11 +3,12 @@
 --     holds, fails                    the test from the fact
 --     decided, stable                 the fact holds or not; a fact that cannot fail holds
 --     eqb-decides, leb-decides, ltb-decides, not-decides, and-decides, or-decides, nand-decides, same-decides
+--     one-test                        two tests that decide one fact are the same
 --     iff-decides                     a test that is true exactly if a fact holds decides it
 -- Assumes nothing.
 use Prim.Native.Nat.{ℕ, _<_, _≤_}
 use native.Mathlib.Omega.{arith}
-use mathlib.Core.Path.{_≡_}
+use mathlib.Core.Path.{_≡_, sym, _∙_}
 use mathlib.Core.Bool.{Bool, true, false, not, _&&_, _||_}
 use mathlib.Core.Logic.{_⊎_, inl, inr, ⊎-elim, _↔_}
 use lib.Dec.{ltb, leb, eqb}
@@ -71,6 +72,10 @@ module _ {P Q : Type 0} {s t : Bool} (d : Decides s P) (e : Decides t Q) where
 -- the same test decides each fact that says the same
 pub same-decides : {P Q : Type 0} {t : Bool} → Decides t P → (P → Q) → (Q → P) → Decides t Q
 same-decides d f g = record { yes = λ e. f (d .yes e); no = λ e q. d .no e (g q) }
+
+-- two tests that decide one fact are the same
+pub one-test : {P : Type 0} {s t : Bool} → Decides s P → Decides t P → s ≡ t
+one-test {s = s} d e = ⊎-elim (λ p. p ∙ sym (holds e (d .yes p))) (λ p. p ∙ sym (fails e (d .no p))) (true-or s)
 
 pub iff-decides : {P : Type 0} {t : Bool} → (t ≡ true) ↔ P → Decides t P
 iff-decides w = record { yes = w .0; no = λ e p. contrary (w .1 p) e }
