@@ -142,9 +142,9 @@ fn window(positions: &[u32], limit: u32) -> Shortfall
 }
 
 // APART: whether a stands in front of b, with at least `least` and at most `most` positions between
-// them; if not, b is left short where it is too near, and a where b is too far. Nothing is left for b
-// where it is a itself, or would have to stand behind the last position. No position is too far for
-// a `most` of 65,535.
+// them; if not, b is left short where it is too near, and a where b is too far. Where a is b, or b
+// would have to stand behind the last position, no position serves: b is left short by all of them.
+// No position is too far for a `most` of 65,535.
 fn proximity(positions: &[u32], a: usize, b: usize, least: u32, most: u32) -> Shortfall
     requires { ⌜ InDocument (now positions) ⌝ }
     requires { ⌜ a < length (now positions) ⌝ }
@@ -156,10 +156,10 @@ fn proximity(positions: &[u32], a: usize, b: usize, least: u32, most: u32) -> Sh
     let first = positions[a];
     let second = positions[b];
     let nearest = first + least + 1;
-    if a == b || Posting::LAST_POS < nearest {
-        return Shortfall::Short(b, Posting::POSITIONS);
-    }
     if second < nearest {
+        if a == b || Posting::LAST_POS < nearest {
+            return Shortfall::Short(b, Posting::POSITIONS);
+        }
         return Shortfall::Short(b, nearest);
     }
     if first + most + 1 < second {

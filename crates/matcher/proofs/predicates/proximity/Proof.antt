@@ -21,32 +21,32 @@ shared-slice-read-second : tie.Need-shared-slice-read-second
 shared-slice-read-second c = omega arith
 
 add-nearest : tie.Need-add-nearest
-add-nearest c = let s = c .before .before in let a = s .args in let p = s .pre in let m = p .0 (a .a) (p .1 .0) in let n = p .0 (a .b) (p .1 .1 .0) in omega arith
+add-nearest c = let s = c .before .before in let a = s .args in let m = s .pre .0 (a .a) (s .pre .1 .0) in omega arith
 
 add-nearest-2 : tie.Need-add-nearest-2
-add-nearest-2 c = let s = c .before .before in let a = s .args in let p = s .pre in let m = p .0 (a .a) (p .1 .0) in let n = p .0 (a .b) (p .1 .1 .0) in omega arith
+add-nearest-2 c = let s = c .before .before in let a = s .args in let m = s .pre .0 (a .a) (s .pre .1 .0) in omega arith
 
 returns : tie.Need-returns
 returns c =
-    let s = c .before .before .before in
+    let s = c .before .before .before .before in
     let a = s .args in
     λ ss.
     ⊎-elim
     (λ x. proximity-alone ss (now (a .positions)) (s .pre .0) (a .a) (a .b) (a .least) (a .most) (s .pre .1 .0) (s .pre .1 .1 .0) (x .taken))
     (λ x. proximity-behind ss (now (a .positions)) (s .pre .0) (a .a) (a .b) (a .least) (a .most) (s .pre .1 .0) (s .pre .1 .1 .0) (ltb-true _ _ (x .1 .taken)))
-    (c .if1 .came)
+    (c .if2 .came)
 
 returns-2 : tie.Need-returns-2
 returns-2 c =
     let s = c .before .before .before .before .before in
     let a = s .args in
-    λ ss. proximity-second ss (now (a .positions)) (s .pre .0) (a .a) (a .b) (a .least) (a .most) (s .pre .1 .0) (s .pre .1 .1 .0) (c .if3 .taken) (ltb-false _ _ (c .before .if2 .left))
+    λ ss. proximity-second ss (now (a .positions)) (s .pre .0) (a .a) (a .b) (a .least) (a .most) (s .pre .1 .0) (s .pre .1 .1 .0) (omega arith) (ltb-false _ _ (c .if3 .left))
 
 add-if4 : tie.Need-add-if4
-add-if4 c = let s = c .before .before .before .before .before in let a = s .args in let p = s .pre in let m = p .0 (a .a) (p .1 .0) in let n = p .0 (a .b) (p .1 .1 .0) in omega arith
+add-if4 c = let s = c .before .before .before in let a = s .args in let m = s .pre .0 (a .a) (s .pre .1 .0) in omega arith
 
 add-if4-2 : tie.Need-add-if4-2
-add-if4-2 c = let s = c .before .before .before .before .before in let a = s .args in let p = s .pre in let m = p .0 (a .a) (p .1 .0) in let n = p .0 (a .b) (p .1 .1 .0) in omega arith
+add-if4-2 c = let s = c .before .before .before in let a = s .args in let m = s .pre .0 (a .a) (s .pre .1 .0) in omega arith
 
 add-t17 : tie.Need-add-t17
 add-t17 c = omega arith
@@ -56,13 +56,13 @@ sub-t18 c = omega arith
 
 returns-3 : tie.Need-returns-3
 returns-3 c =
-    let s = c .before .before .before .before .before .before in
+    let s = c .before .before .before .before in
     let a = s .args in
-    λ ss. proximity-first ss (now (a .positions)) (s .pre .0) (a .a) (a .b) (a .least) (a .most) (s .pre .1 .0) (s .pre .1 .1 .0) (c .if4 .taken)
+    λ ss. proximity-first ss (now (a .positions)) (s .pre .0) (a .a) (a .b) (a .least) (a .most) (s .pre .1 .0) (s .pre .1 .1 .0) (omega arith)
 
 returns-4 : tie.Need-returns-4
 returns-4 c =
-    let a = c .before .before .before .before .before .before .args in
+    let a = c .before .before .before .before .args in
     λ ss. proximity-holds ss (now (a .positions)) (a .a) (a .b) (a .least) (a .most) (omega arith) (omega arith)
 
 pub proximity-spec : {M : Type 1} → statement M
