@@ -49,8 +49,8 @@ static const char *const sentences[] = {
     [LHZ_REFUSED_PLAN_LENGTH] =
         "the plan is empty, is no whole number of rows, or has over 64 rows",
     [LHZ_REFUSED_ROW_FORM] =
-        "row # of the plan has an unknown kind, a word that is not 0 where its kind uses none, or "
-        "a c out of range",
+        "row # of the plan has an unknown kind, a word that is not 0 where its kind uses none, "
+        "a c out of range, or a least that exceeds its most",
     [LHZ_REFUSED_ROW_LIST] =
         "row # of the plan names list 0, or a list that the volume does not have",
     [LHZ_REFUSED_ROW_TOO_MANY] =

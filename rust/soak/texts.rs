@@ -80,9 +80,10 @@ fn text_of(rng: &mut Rng, lists: &[Vec<Posting>]) -> String {
 /// A piece of a text: what a list or a plan is made of, and what it is not.
 fn piece(rng: &mut Rng) -> String {
     #[rustfmt::skip]
-    const PIECES: [&str; 49] = [
+    const PIECES: [&str; 52] = [
         "VOICE", "voice", "Near", "NEAR", "BEFORE", "SAME", "TITLE", "SAME TITLE", "same  title",
         "SPAN", "END", "end", "BOTH", "EITHER", "FIRST", "NOT", "SECOND", "FIRST NOT SECOND", "#",
+        "APART", "Apart", "65535",
         "#x", ":", "::", "1:2", "65535:65535", "65536:0", "0:65536", "00:000", "1:2:3", "-1", "+1",
         "1:+2", "0x1", "65536", "4294967295", "4294967296", "99999999999999999999999", "\u{661}",
         "\u{feff}", "\u{200b}", "\0", "\u{e9}", "\r", "\r\n", "\n", "\n\n", "\t", "\u{3000}",
@@ -95,7 +96,11 @@ fn piece(rng: &mut Rng) -> String {
         5 => Posting::from_word(rng.word()).to_string(),
         6 => {
             let (name, _, used) = rng.pick(&NAMES);
-            let numbers = used.iter().map(|_| format!(" {}", rng.below(9)));
+            let number = |rng: &mut Rng| match rng.below(8) {
+                0 => rng.pick(&[65_535, 65_536, u32::MAX]),
+                _ => rng.below(9) as u32,
+            };
+            let numbers = used.chars().map(|_| format!(" {}", number(rng)));
             format!("{name}{}\n", numbers.collect::<String>())
         }
         _ => {

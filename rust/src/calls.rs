@@ -126,10 +126,10 @@ pub fn write_volume(
 /// Checks a plan over a volume, every byte of the volume and every row of the plan.
 ///
 /// Refused with 1 to 8 as by [`check_volume`], then, the first that applies, with 9 (length), then
-/// row by row, all at the row, 10 (unknown kind, unused word not 0, or `c` out of range), 11 (list
-/// 0, or no list of the volume), 12 (a ninth variable of a pattern, or a ninth pattern) and 13 (out
-/// of order, or no variable of the pattern), then 14 (a pattern open, or not one answer, at the
-/// end).
+/// row by row, all at the row, 10 (unknown kind, unused word not 0, `c` out of range, or an APART
+/// whose least exceeds its most), 11 (list 0, or no list of the volume), 12 (a ninth variable of a
+/// pattern, or a ninth pattern) and 13 (out of order, or no variable of the pattern), then 14 (a
+/// pattern open, or not one answer, at the end).
 ///
 /// ```
 /// use lihambozy::calls::{check_plan, write_volume};

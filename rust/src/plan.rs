@@ -10,12 +10,14 @@ use std::str::FromStr;
 /// [`Volume::check`](crate::Volume::check).
 ///
 /// Its text has one row a line, by the name of its kind and the words that the kind uses, in the
-/// order a, b, c. A row that no name can tell, of an unknown kind or with another word that is not
-/// 0, is told by its four numbers; so each plan has its text, and the text reads as that plan.
-/// Empty lines are skipped, and so is what follows `#`.
+/// order a, b, c. The c of APART is told as two numbers, least and most, each at most 65,535. A row
+/// that no name can tell, of an unknown kind or with another word that is not 0, is told by its
+/// four numbers; so each plan has its text, and the text reads as that plan. Names tell rows that a
+/// check refuses too: `SPAN 0`, or an APART whose least exceeds its most. Empty lines are skipped,
+/// and so is what follows `#`.
 ///
 /// ```
-/// use lihambozy::row::{before, same_title, voice, END};
+/// use lihambozy::row::{apart, before, same_title, voice, END};
 /// use lihambozy::Plan;
 ///
 /// let text = "VOICE 1\nVOICE 2\nBEFORE 0 1\nSAME TITLE 0 1\nEND\n";
@@ -23,6 +25,10 @@ use std::str::FromStr;
 /// assert_eq!(plan, Plan::new([voice(1), voice(2), before(0, 1), same_title(0, 1), END]));
 /// assert_eq!(plan.to_string(), text);
 /// assert_eq!(Plan::from_bytes(&plan.to_bytes())?, plan);
+///
+/// // At least four places between the two voices, and at most nine.
+/// let returns: Plan = "VOICE 1\nVOICE 1\nAPART 0 1 4 9\nEND".parse()?;
+/// assert_eq!(returns, Plan::new([voice(1), voice(1), apart(0, 1, 4, 9), END]));
 ///
 /// let mistake = "VOICE 1\nNEAR 0 x 3".parse::<Plan>().unwrap_err();
 /// assert_eq!((mistake.line, mistake.column), (2, 8));

@@ -47,7 +47,7 @@ impl fmt::Display for Refusal {
             10 => write!(
                 f,
                 "row {at} of the plan has an unknown kind, a word that is not 0 where its kind uses \
-                 none, or a c out of range"
+                 none, a c out of range, or a least that exceeds its most"
             ),
             11 => write!(
                 f,

@@ -230,17 +230,47 @@ pub fn refused(text: &str, refusal: Refusal) -> Option<Mistake> {
     }
 }
 
-/// The kinds: name, number, and the indices in a row of the words that it uses.
-const KINDS: [(&str, u32, &[usize]); 9] = [
-    ("VOICE", kind::VOICE, &[1]),
-    ("NEAR", kind::NEAR, &[1, 2, 3]),
-    ("BEFORE", kind::BEFORE, &[1, 2]),
-    ("SAME TITLE", kind::SAME_TITLE, &[1, 2]),
-    ("SPAN", kind::SPAN, &[3]),
+/// A number in the text of a row: the word of the row that holds it, the bits of that word below
+/// it, and the greatest that it can be.
+#[derive(Clone, Copy)]
+struct Number {
+    word: usize,
+    shift: u32,
+    greatest: u32,
+}
+
+impl Number {
+    /// A whole word of a row.
+    const fn word(word: usize) -> Number {
+        Number { word, shift: 0, greatest: u32::MAX }
+    }
+
+    /// The number that a row holds.
+    fn of(self, row: PlanRow) -> u32 {
+        row[self.word] >> self.shift & self.greatest
+    }
+}
+
+const A: Number = Number::word(1);
+const B: Number = Number::word(2);
+const C: Number = Number::word(3);
+/// The upper half of c, APART's.
+const LEAST: Number = Number { word: 3, shift: 16, greatest: 65_535 };
+/// The lower half of c, APART's.
+const MOST: Number = Number { word: 3, shift: 0, greatest: 65_535 };
+
+/// The kinds: name, number, and the numbers that it uses.
+const KINDS: [(&str, u32, &[Number]); 10] = [
+    ("VOICE", kind::VOICE, &[A]),
+    ("NEAR", kind::NEAR, &[A, B, C]),
+    ("BEFORE", kind::BEFORE, &[A, B]),
+    ("SAME TITLE", kind::SAME_TITLE, &[A, B]),
+    ("SPAN", kind::SPAN, &[C]),
     ("END", kind::END, &[]),
     ("BOTH", kind::BOTH, &[]),
     ("EITHER", kind::EITHER, &[]),
     ("FIRST NOT SECOND", kind::FIRST_NOT_SECOND, &[]),
+    ("APART", kind::APART, &[A, B, LEAST, MOST]),
 ];
 
 /// A row of a plan, shown as a line of its text.
@@ -249,13 +279,14 @@ pub(crate) struct RowText(pub PlanRow);
 impl fmt::Display for RowText {
     fn fmt(&self, f: &mut fmt::Formatter<'_>) -> fmt::Result {
         let row = self.0;
-        let tells = |&&(_, kind, used): &&(&str, u32, &[usize])| {
-            row[0] == kind && (1..ROW_WORDS).all(|k| used.contains(&k) || row[k] == 0)
+        let tells = |&&(_, kind, used): &&(&str, u32, &[Number])| {
+            let is_used = |word: usize| used.iter().any(|number| number.word == word);
+            row[0] == kind && (1..ROW_WORDS).all(|word| is_used(word) || row[word] == 0)
         };
         match KINDS.iter().find(tells) {
             Some((name, _, used)) => {
                 f.write_str(name)?;
-                used.iter().try_for_each(|&k| write!(f, " {}", row[k]))
+                used.iter().try_for_each(|number| write!(f, " {}", number.of(row)))
             }
             None => write!(f, "{} {} {} {}", row[0], row[1], row[2], row[3]),
         }
@@ -275,7 +306,7 @@ pub(crate) fn plan_rows(text: &str) -> Result<Vec<PlanRow>, Mistake> {
 /// The row that a line with these words tells.
 fn row(line: &[Word<'_>]) -> Result<PlanRow, Mistake> {
     if is_number(line[0].text) {
-        return numbers(line, line, &[0, 1, 2, 3], "a row told by numbers");
+        return numbers(line, line, &[Number::word(0), A, B, C], "a row told by numbers");
     }
     for (name, kind, used) in KINDS {
         let names = name.split(' ').count();
@@ -290,11 +321,11 @@ fn row(line: &[Word<'_>]) -> Result<PlanRow, Mistake> {
     Err(line[0].mistake(format!("{} names no kind of row: {names}", line[0])))
 }
 
-/// The row with these numbers at the indices `used`, as many as there are of them.
+/// The row with these numbers, as many as are used.
 fn numbers(
     line: &[Word<'_>],
     told: &[Word<'_>],
-    used: &[usize],
+    used: &[Number],
     of: &str,
 ) -> Result<PlanRow, Mistake> {
     let takes = || match used.len() {
@@ -311,12 +342,14 @@ fn numbers(
         return Err(behind.mistake(takes()));
     }
     let mut row = [0; ROW_WORDS];
-    for (&k, word) in used.iter().zip(told) {
+    for (number, word) in used.iter().zip(told) {
         if !is_number(word.text) {
             return Err(word.mistake(format!("{word} is no number")));
         }
-        let over = |_| word.mistake(format!("{word} is over {}", u32::MAX));
-        row[k] = word.text.parse().map_err(over)?;
+        match word.text.parse::<u32>() {
+            Ok(told) if told <= number.greatest => row[number.word] |= told << number.shift,
+            _ => return Err(word.mistake(format!("{word} is over {}", number.greatest))),
+        }
     }
     Ok(row)
 }

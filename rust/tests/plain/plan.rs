@@ -1,6 +1,7 @@
 //! A plain reader of plans, straight from document 01 ("Plan", "Calls" and "Who can cause which
-//! refusal"). It shares nothing with the library or its wrappers: each row is judged by counting
-//! rows in front of it, and nothing is carried on from row to row.
+//! refusal") and from request N2 of document 02 (APART). It shares nothing with the library or its
+//! wrappers: each row is judged by counting rows in front of it, and nothing is carried on from row
+//! to row.
 
 use super::{lists, Refused};
 use std::ops::Range;
@@ -17,9 +18,10 @@ pub const END: u32 = 6;
 pub const BOTH: u32 = 7;
 pub const EITHER: u32 = 8;
 pub const FIRST_NOT_SECOND: u32 = 9;
+pub const APART: u32 = 10;
 
 /// The predicates (01: conditions).
-const PREDICATES: [u32; 4] = [NEAR, BEFORE, SAME_TITLE, SPAN];
+const PREDICATES: [u32; 5] = [NEAR, BEFORE, SAME_TITLE, SPAN, APART];
 /// The kinds that make one answer of two.
 const OPERATORS: [u32; 3] = [BOTH, EITHER, FIRST_NOT_SECOND];
 
@@ -49,7 +51,12 @@ fn answers(rows: &[Row]) -> usize {
     closed(rows) - count(rows, &OPERATORS)
 }
 
-/// 10: unknown kind, unused word not 0, or c out of range.
+/// Least and most of an APART: c = least × 65,536 + most.
+pub fn limits(c: u32) -> (u32, u32) {
+    (c / 65_536, c % 65_536)
+}
+
+/// 10: unknown kind, unused word not 0, c out of range, or an APART whose least exceeds its most.
 fn malformed([kind, a, b, c]: Row) -> bool {
     match kind {
         VOICE => b != 0 || c != 0,
@@ -57,6 +64,10 @@ fn malformed([kind, a, b, c]: Row) -> bool {
         BEFORE | SAME_TITLE => c != 0,
         SPAN => a != 0 || b != 0 || !(1..=65_536).contains(&c),
         END | BOTH | EITHER | FIRST_NOT_SECOND => a != 0 || b != 0 || c != 0,
+        APART => {
+            let (least, most) = limits(c);
+            least > most
+        }
         _ => true,
     }
 }
@@ -81,7 +92,7 @@ fn out_of_order(before: &[Row], [kind, a, b, _]: Row) -> bool {
     let is_there = |var: u32| (var as usize) < vars;
     match kind {
         VOICE => count(behind_last_end(before), &PREDICATES) > 0,
-        NEAR | BEFORE | SAME_TITLE => !is_open || !is_there(a) || !is_there(b),
+        NEAR | BEFORE | SAME_TITLE | APART => !is_open || !is_there(a) || !is_there(b),
         SPAN | END => !is_open,
         _ => is_open || answers(before) < 2,
     }

@@ -1,6 +1,7 @@
-//! A naive searcher, straight from document 01 ("Plan" and "Calls"). It shares nothing with the
-//! library or its wrappers: in each document it tries every choice of positions and keeps those
-//! that pass; it settles all documents before the first call, and reads each answer off their rows.
+//! A naive searcher, straight from document 01 ("Plan" and "Calls") and from request N2 of document
+//! 02 (APART). It shares nothing with the library or its wrappers: in each document it tries every
+//! choice of positions and keeps those that pass; it settles all documents before the first call,
+//! and reads each answer off their rows.
 
 use super::plan::{self, Row};
 use super::{lists, Refused};
@@ -65,6 +66,12 @@ fn holds([kind, a, b, c]: Row, starts: &[u32], choice: &[u32]) -> bool {
             let (smallest, largest) = (choice.iter().min().unwrap(), choice.iter().max().unwrap());
             let most = c - 1;
             largest - smallest <= most
+        }
+        plan::APART => {
+            let (least, most) = plan::limits(c);
+            let between = i64::from(pos(b)) - i64::from(pos(a)) - 1;
+            let has_upper_end = most != 65_535;
+            i64::from(least) <= between && (!has_upper_end || between <= i64::from(most))
         }
         _ => panic!("kind {kind} is no predicate"),
     }

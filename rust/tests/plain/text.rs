@@ -6,17 +6,19 @@ use super::plan::Row;
 /// A place in a text: line and column, from 1, in characters.
 pub type Place = (usize, usize);
 
-/// The names of a plan's rows, their kinds, and the indices of the words that they use.
-pub const NAMES: [(&str, u32, &[usize]); 9] = [
-    ("VOICE", 1, &[1]),
-    ("NEAR", 2, &[1, 2, 3]),
-    ("BEFORE", 3, &[1, 2]),
-    ("SAME TITLE", 4, &[1, 2]),
-    ("SPAN", 5, &[3]),
-    ("END", 6, &[]),
-    ("BOTH", 7, &[]),
-    ("EITHER", 8, &[]),
-    ("FIRST NOT SECOND", 9, &[]),
+/// The names of a plan's rows, their kinds, and what the numbers behind them are: the words a, b
+/// and c, or `<` and `>`, the least and the most of which APART's c is made.
+pub const NAMES: [(&str, u32, &str); 10] = [
+    ("VOICE", 1, "a"),
+    ("NEAR", 2, "abc"),
+    ("BEFORE", 3, "ab"),
+    ("SAME TITLE", 4, "ab"),
+    ("SPAN", 5, "c"),
+    ("END", 6, ""),
+    ("BOTH", 7, ""),
+    ("EITHER", 8, ""),
+    ("FIRST NOT SECOND", 9, ""),
+    ("APART", 10, "ab<>"),
 ];
 
 /// The lines of a text with their numbers, or the place of a carriage return that ends none.
@@ -91,21 +93,26 @@ pub fn lists(text: &str) -> Result<Vec<Vec<u32>>, Place> {
 
 /// The row that a line with these words tells: four numbers, or a name and the numbers it uses.
 fn row(words: &[String]) -> Option<Row> {
-    let numbers = |words: &[String]| -> Option<Vec<u32>> {
-        words.iter().map(|word| number(word, u32::MAX.into())).collect()
-    };
-    if let (4, Some(row)) = (words.len(), numbers(words)) {
+    let any = |word: &String| number(word, u32::MAX.into());
+    let limit = |word: &String| number(word, 65_535);
+    if let (4, Some(row)) = (words.len(), words.iter().map(any).collect::<Option<Vec<u32>>>()) {
         return row.try_into().ok();
     }
     let (_, kind, used) = NAMES.iter().find(|(name, _, used)| {
         let front = &words[..words.len().saturating_sub(used.len())];
         front.join(" ").eq_ignore_ascii_case(name)
     })?;
-    let mut row = [*kind, 0, 0, 0];
-    for (&k, number) in used.iter().zip(numbers(&words[words.len() - used.len()..])?) {
-        row[k] = number;
+    let (mut a, mut b, mut c) = (0, 0, 0);
+    for (what, word) in used.chars().zip(&words[words.len() - used.len()..]) {
+        match what {
+            'a' => a = any(word)?,
+            'b' => b = any(word)?,
+            'c' => c = any(word)?,
+            '<' => c += 65_536 * limit(word)?,
+            _ => c += limit(word)?,
+        }
     }
-    Some(row)
+    Some([*kind, a, b, c])
 }
 
 /// The rows that a text tells, or the line of its first mistake.

@@ -122,6 +122,8 @@ figure. What follows # is skipped, and so are empty lines.
   BEFORE a b           the place of voice a before that of voice b
   SAME TITLE a b       voices a and b in one title
   SPAN c               all voices of the figure within c places
+  APART a b least most voice b behind voice a, with least to most places between
+                       them; a most of 65535 sets no upper end
   END                  closes the figure: is it found?
   BOTH, EITHER, FIRST NOT SECOND    join the last two answers into one
 
