@@ -31,7 +31,7 @@
  * becomes (B + A) mod 65,535. All stored numbers are little-endian.
  *
  * A plan is a query over a volume: 1 to 64 rows of four words, kind, a, b and c. A row whose kind
- * does not use a word has 0 there. The nine kinds:
+ * does not use a word has 0 there. The ten kinds:
  *
  *    1  VOICE             a variable (01: voice) with list a, which is not list 0. Where no pattern
  *                         (01: figure) is open it opens one. Variables are numbered from 0 in each
@@ -47,6 +47,10 @@
  *    7  BOTH              takes the top two answers and stacks one: both are yes
  *    8  EITHER            the same: at least one is yes
  *    9  FIRST NOT SECOND  the same: the lower one is yes and the upper one is not
+ *   10  APART             a predicate: variable b stands behind variable a, and the position of b
+ *                         less that of a less 1 is from least to most, both counted in. c is
+ *                         least * 65,536 + most, with least not over most; a most of 65,535 sets
+ *                         no upper end.
  *
  * In a pattern all variables stand before the predicates. A pattern has 1 to 8 variables, a plan 1
  * to 8 patterns, numbered from 0 in the order in which they open. At the end no pattern is open and
@@ -128,6 +132,12 @@ extern "C" {
 #define LHZ_BOTH 7
 #define LHZ_EITHER 8
 #define LHZ_FIRST_NOT_SECOND 9
+#define LHZ_APART 10
+
+/* The c of an APART row, of two limits from 0 to 65,535: at least so many positions between the two
+ * variables, and at most so many. 0 and 0 make a phrase. */
+#define LHZ_APART_LIMITS(least, most) ((uint32_t)(least) * 65536u + (uint32_t)(most))
+#define LHZ_NO_UPPER_END 65535 /* the `most` that sets no upper end */
 
 /* The refusals. Cause and place stand at the call that is named here; a call that gives the same
  * refusal for another cause tells that cause itself.
@@ -253,8 +263,8 @@ typedef struct lhz_check_plan_answer {
  * all of them. For 10 to 13, at: the row, from 0.
  *    1 to 8                       the volume is refused as by lhz_check_volume, with the same place
  *    9  LHZ_REFUSED_PLAN_LENGTH   plan_len is 0, no multiple of 4, or over 256
- *   10  LHZ_REFUSED_ROW_FORM      the kind is not 1 to 9, an unused word is not 0, or c is out of
- *                                 range
+ *   10  LHZ_REFUSED_ROW_FORM      the kind is not 1 to 10, an unused word is not 0, c is out of
+ *                                 range, or an APART has a least over its most
  *   11  LHZ_REFUSED_ROW_LIST      a VOICE with list 0, or with a list not below T
  *   12  LHZ_REFUSED_ROW_TOO_MANY  a ninth variable of a pattern, or a VOICE that would open a ninth
  *                                 pattern

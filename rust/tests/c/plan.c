@@ -49,6 +49,12 @@ static size_t add(size_t len, uint32_t kind, uint32_t a, uint32_t b, uint32_t c)
     return len + LHZ_ROW_WORDS;
 }
 
+/* The c of an APART row with these limits, and the limits that it holds. */
+#define SHOW_LIMITS(least, most) \
+    printf("limits %u: %u %u\n", (unsigned)LHZ_APART_LIMITS(least, most), \
+           (unsigned)(LHZ_APART_LIMITS(least, most) / 65536), \
+           (unsigned)(LHZ_APART_LIMITS(least, most) % 65536))
+
 int main(void) {
     size_t len = 0, second;
     memset(&lent, 7, sizeof lent);
@@ -64,8 +70,15 @@ int main(void) {
            (unsigned)offsetof(lhz_pattern_rows_answer, len));
     printf("limits %d %d %d %d %d\n", LHZ_ROW_WORDS, LHZ_MAX_ROWS, LHZ_MAX_PLAN_WORDS,
            LHZ_MAX_PATTERNS, LHZ_MAX_VARS);
-    printf("kinds %d %d %d %d %d %d %d %d %d\n", LHZ_VOICE, LHZ_NEAR, LHZ_BEFORE, LHZ_SAME_TITLE,
-           LHZ_SPAN, LHZ_END, LHZ_BOTH, LHZ_EITHER, LHZ_FIRST_NOT_SECOND);
+    printf("kinds %d %d %d %d %d %d %d %d %d %d\n", LHZ_VOICE, LHZ_NEAR, LHZ_BEFORE,
+           LHZ_SAME_TITLE, LHZ_SPAN, LHZ_END, LHZ_BOTH, LHZ_EITHER, LHZ_FIRST_NOT_SECOND,
+           LHZ_APART);
+    SHOW_LIMITS(0, 0);
+    SHOW_LIMITS(4, 9);
+    SHOW_LIMITS(0, LHZ_NO_UPPER_END);
+    SHOW_LIMITS(LHZ_LAST_POS - 1, LHZ_NO_UPPER_END);
+    SHOW_LIMITS(65535, 65535);
+    SHOW_LIMITS(1 + 1, 1 ? 3 : 2);
 
     show_check("no row", len);
     len = add(len, LHZ_VOICE, 1, 0, 0);
@@ -104,6 +117,16 @@ int main(void) {
     show_check("variable", len);
     plan[second + 6] = 0;
     show_check("two patterns", len);
+    add(second + 4, LHZ_APART, 0, 0, LHZ_APART_LIMITS(3, 3));
+    show_check("APART", len);
+    plan[second + 7] = LHZ_APART_LIMITS(3, 2);
+    show_check("least over most", len);
+    plan[second + 7] = LHZ_APART_LIMITS(65535, LHZ_NO_UPPER_END);
+    plan[second + 5] = 1;
+    show_check("variable of APART", len);
+    add(second + 4, LHZ_APART + 1, 0, 0, 0);
+    show_check("kind 11", len);
+    add(second + 4, LHZ_NEAR, 0, 0, 0);
     add(len - 4, LHZ_BOTH, 0, 0, 0);
     show_check("BOTH", len);
     add(len - 4, LHZ_EITHER, 0, 0, 0);

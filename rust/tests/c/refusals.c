@@ -88,7 +88,10 @@ int main(void) {
     start_plan();
     add(LHZ_VOICE, 1);
     SHOW(LHZ_REFUSED_UNFINISHED, PLAN);
-    add(LHZ_FIRST_NOT_SECOND + 1, 0);
+    add(LHZ_APART + 1, 0);
+    SHOW(LHZ_REFUSED_ROW_FORM, PLAN);
+    plan[LHZ_ROW_WORDS] = LHZ_APART;
+    plan[LHZ_ROW_WORDS + 3] = LHZ_APART_LIMITS(1, 0);
     SHOW(LHZ_REFUSED_ROW_FORM, PLAN);
     start_plan();
     add(LHZ_VOICE, 2);

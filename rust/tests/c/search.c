@@ -139,8 +139,24 @@ int main(void) {
     plan[plan_len - 4] = LHZ_EITHER;
     search("EITHER", width());
     show_test(1, 1, 7, 8, 2);
-    plan[plan_len - 4] = 10;
+    plan[plan_len - 4] = LHZ_APART + 1;
     show_list(65536, 0);
+
+    plan_len = 0;
+    add(LHZ_VOICE, 1, 0, 0);
+    add(LHZ_VOICE, 2, 0, 0);
+    add(LHZ_APART, 0, 1, LHZ_APART_LIMITS(2, 4));
+    add(LHZ_END, 0, 0, 0);
+    search("APART 2 4", 2 * width());
+    show_test(0, 1, 2, 5, 2);
+    show_test(0, 1, 2, 7, 2);
+    show_test(0, 1, 8, 5, 2);
+    plan[11] = LHZ_APART_LIMITS(3, 3);
+    search("APART 3 3", 2 * width());
+    plan[11] = LHZ_APART_LIMITS(4, LHZ_NO_UPPER_END);
+    search("APART 4 and no upper end", 2 * width());
+    plan[11] = LHZ_APART_LIMITS(4, 3);
+    show_list(0, ROOM);
 
     volume[LHZ_BLOCK_BYTES - 1] ^= 1;
     show_list(65536, 0);

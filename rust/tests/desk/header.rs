@@ -38,7 +38,13 @@ fn plans() {
 check answer 16: 0 4 8 12
 rows answer 8: 0 4
 limits 4 64 256 8 8
-kinds 1 2 3 4 5 6 7 8 9
+kinds 1 2 3 4 5 6 7 8 9 10
+limits 0: 0 0
+limits 262153: 4 9
+limits 65535: 0 65535
+limits 4294901759: 65534 65535
+limits 4294967295: 65535 65535
+limits 131075: 2 3
 no row: 9 0 0 0
 open: 14 0 0 0
 rows of 0: 0 0
@@ -57,6 +63,10 @@ rows of 1: 0 0
 list: 11 5 0 0
 variable: 13 6 0 0
 two patterns: 0 0 2 3
+APART: 0 0 2 3
+least over most: 10 6 0 0
+variable of APART: 13 6 0 0
+kind 11: 10 6 0 0
 BOTH: 0 0 2 3
 EITHER: 0 0 2 3
 checksum: 3 0 0 0
@@ -112,6 +122,19 @@ list 0 0 1 4 65536: 2 1 4 9 0 0 0
 done 2 12
 test 0 0 1
 list 10 9 0 0 0
+APART 2 4, 8 words
+list 0 0 2 6 65536: 1 1 2 5: 2 1 4 9
+done 2 6
+test 0 0 1
+test 0 0 1
+test 0 0 0
+APART 3 3, 8 words
+list 0 0 0 6 65536
+done 0 6
+APART 4 and no upper end, 8 words
+list 0 0 2 6 65536: 1 1 2 7: 2 1 4 9
+done 2 6
+list 10 2 0 0 0
 list 3 0 0 0 0
 test 3 0 0
 ";
@@ -134,6 +157,7 @@ LHZ_REFUSED_PADDING 8: 8 134
 LHZ_REFUSED_PLAN_LENGTH 9: 9 0
 LHZ_REFUSED_PLAN_LENGTH 9: 9 0
 LHZ_REFUSED_UNFINISHED 14: 14 0
+LHZ_REFUSED_ROW_FORM 10: 10 1
 LHZ_REFUSED_ROW_FORM 10: 10 1
 LHZ_REFUSED_ROW_LIST 11: 11 0
 LHZ_REFUSED_ROW_TOO_MANY 12: 12 8
