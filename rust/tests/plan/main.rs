@@ -5,6 +5,7 @@ mod plain;
 #[path = "../support/mod.rs"]
 mod support;
 
+mod plan_apart;
 mod plan_document;
 mod plan_exhaustive;
 mod plan_limits;

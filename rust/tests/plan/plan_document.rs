@@ -1,12 +1,13 @@
-//! What document 01 itself says of plans: the nine kinds, the limits, the sample plan, and the
-//! plans of its table of cases.
+//! What document 01 itself says of plans: the kinds, with that of document 02, the limits, the
+//! sample plan, and the plans of its table of cases.
 
 use crate::support::plans::*;
 use crate::support::*;
 use lihambozy::{kind, MAX_PATTERNS, MAX_ROWS, MAX_VARS, ROW_WORDS};
 
+/// Document 01's nine, and APART.
 #[test]
-fn the_nine_kinds() {
+fn the_ten_kinds() {
     assert_eq!(
         [
             kind::VOICE,
@@ -18,9 +19,27 @@ fn the_nine_kinds() {
             kind::BOTH,
             kind::EITHER,
             kind::FIRST_NOT_SECOND,
+            kind::APART,
         ],
-        [1, 2, 3, 4, 5, 6, 7, 8, 9]
+        [1, 2, 3, 4, 5, 6, 7, 8, 9, 10]
     );
+}
+
+/// c = least × 65,536 + most.
+#[test]
+fn the_limits_of_apart() {
+    for (least, most, c) in [
+        (0, 0, 0),
+        (0, 1, 1),
+        (0, 65_535, 65_535),
+        (1, 0, 65_536),
+        (1, 1, 65_537),
+        (3, 7, 196_615),
+        (65_535, 65_534, 4_294_967_294),
+        (65_535, 65_535, 4_294_967_295),
+    ] {
+        assert_eq!(apart(5, 6, least, most), [10, 5, 6, c], "{least} {most}");
+    }
 }
 
 #[test]

@@ -3,10 +3,9 @@
 use crate::support::plans::*;
 use crate::support::*;
 
-/// Every plan of up to six rows, out of seven that differ in all that an order can turn on.
-#[test]
-fn every_small_plan() {
-    let choices = [voice(1), voice(0), before(0, 0), before(1, 0), span(1), END, BOTH];
+/// Every plan of up to six rows out of these: the accepted ones by their patterns, and what else was
+/// met.
+fn every_plan_of(choices: &[Row]) -> ([usize; 3], Trial) {
     let volume = sample().volume();
     let mut trial = Trial::default();
     let mut accepted = [0; 3];
@@ -27,6 +26,14 @@ fn every_small_plan() {
             }
         }
     }
+    (accepted, trial)
+}
+
+/// Every plan of up to six rows, out of seven that differ in all that an order can turn on.
+#[test]
+fn every_small_plan() {
+    let choices = [voice(1), voice(0), before(0, 0), before(1, 0), span(1), END, BOTH];
+    let (accepted, trial) = every_plan_of(&choices);
     // By the variables of a pattern, 1 to 5, and the predicates behind them: one variable leaves
     // two predicates to choose from, more of them three. Two patterns and BOTH have two rows each,
     // or two and three, or three and two; there are three patterns of three rows.
@@ -34,6 +41,20 @@ fn every_small_plan() {
     let two = 1 + 3 + 3;
     assert_eq!(accepted, [0, one, two]);
     trial.assert_met(Call::Plan, 96, &[0, 11, 13, 14]);
+}
+
+/// The same with APART for every predicate, one of them with a least over its most.
+#[test]
+fn every_small_plan_with_apart() {
+    let predicates = [apart(0, 0, 0, 0), apart(1, 0, 2, 65_535), apart(0, 0, 1, 0)];
+    let (accepted, trial) = every_plan_of(&[&[voice(1)], &predicates[..], &[END, BOTH]].concat());
+    // One variable leaves one predicate to choose from, more of them two; so there are two patterns
+    // of three rows.
+    let one = 5 + (1 + 2 + 4 + 8) + (1 + 2 + 4) + (1 + 2) + 1;
+    let two = 1 + 2 + 2;
+    assert_eq!(accepted, [0, one, two]);
+    trial.assert_met(Call::Plan, 36, &[0, 10, 13, 14]);
+    trial.assert_met_at(Call::Plan, 6, &[10, 13]);
 }
 
 /// Every kind with every edge of its words, in every state that the rows in front can leave.
@@ -55,15 +76,17 @@ fn every_row_behind_every_front() {
         ("two answers", &[&p, &p]),
         ("two answers, two variables", &[&p, &p, &[v, v]]),
         ("two answers, a predicate", &[&p, &p, &[v, same_title(0, 0)]]),
+        ("two variables, an APART", &[&[v, v, apart(0, 1, 3, 3)]]),
         ("an operator", &[&p, &p, &[EITHER]]),
         ("seven answers", &[&p.repeat(7)]),
         ("eight answers", &[&p.repeat(8)]),
         ("the eighth pattern is open", &[&p.repeat(7), &[v]]),
         ("eight patterns, one answer", &[&p.repeat(8), &[BOTH; 7]]),
     ];
-    let kinds = [0, 1, 2, 3, 4, 5, 6, 7, 8, 9, 10, 11, 257, u32::MAX];
+    let kinds = [0, 1, 2, 3, 4, 5, 6, 7, 8, 9, 10, 11, 12, 257, 266, u32::MAX];
     let edges = [0, 1, 2, 3, 6, 7, 8, 65_536, u32::MAX];
-    let limits = [0, 1, 65_535, 65_536, 65_537, u32::MAX];
+    // As limits of APART: 0 0, 0 1, 0 65535, 1 0, 1 1, 65535 65534, 65535 65535.
+    let limits = [0, 1, 65_535, 65_536, 65_537, u32::MAX - 1, u32::MAX];
     let volume = sample().volume();
     let mut trial = Trial::default();
     for (name, front) in fronts {

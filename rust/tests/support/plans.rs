@@ -55,15 +55,26 @@ pub fn makes(plan: &[u32], parts: &[&[u32]]) -> bool {
     operators(rest) == rest.len()
 }
 
+/// An APART row of any c: its least may exceed its most.
+pub fn apart_of(a: u32, b: u32, c: u32) -> Row {
+    [lihambozy::kind::APART, a, b, c]
+}
+
 /// A row of a pattern with so many variables, none of its words at fault.
 fn random_predicate(rng: &mut Rng, vars: usize) -> Row {
     let (a, b) = (rng.below(vars) as u32, rng.below(vars) as u32);
     let c = rng.word() % 65_536;
-    match rng.below(4) {
+    match rng.below(5) {
         0 => near(a, b, rng.pick(&[0, 1, 65_535, c])),
         1 => before(a, b),
         2 => same_title(a, b),
-        _ => span(rng.pick(&[1, 2, 65_536, 1 + c])),
+        3 => span(rng.pick(&[1, 2, 65_536, 1 + c])),
+        _ => {
+            let any = rng.word() as u16;
+            let least = rng.pick(&[0, 1, 65_534, 65_535, c as u16]);
+            let more = rng.pick(&[0, 1, 65_535, any]);
+            apart(a, b, least, least.saturating_add(more))
+        }
     }
 }
 
@@ -127,7 +138,7 @@ pub fn spoil(rng: &mut Rng, rows: &mut Vec<Row>, lists: usize) {
             let edges = [0, 1, 2, 7, 8, 65_535, 65_536, 65_537, t - 1, t, 1 << 31, u32::MAX];
             rows[at][1 + rng.below(3)] = rng.pick(&edges);
         }
-        2 => rows[at][0] = rng.pick(&[0, 1, 2, 3, 4, 5, 6, 7, 8, 9, 10, 257, u32::MAX]),
+        2 => rows[at][0] = rng.pick(&[0, 1, 2, 3, 4, 5, 6, 7, 8, 9, 10, 11, 257, u32::MAX]),
         3 => rows[at] = random_row(rng, lists),
         4 => {
             rows.remove(at);
@@ -162,7 +173,7 @@ pub fn spoiled_plan(rng: &mut Rng, lists: usize, changes: usize) -> Vec<u32> {
 pub fn nonsense_plan(rng: &mut Rng, lists: usize) -> Vec<u32> {
     let any = 1 + rng.below(70);
     let count = rng.pick(&[1, 2, 3, 4, 6, any]);
-    let small_row = |rng: &mut Rng| [11, 3, 3, 3].map(|end| rng.below(end) as u32);
+    let small_row = |rng: &mut Rng| [12, 3, 3, 3].map(|end| rng.below(end) as u32);
     let mixed_row = |rng: &mut Rng| match rng.below(12) {
         0 => small_row(rng),
         1 => random_row(rng, lists),

@@ -379,11 +379,17 @@ fn small_predicate(rng: &mut Rng, vars: usize) -> Row {
     let (a, b) = (a as u32, b as u32);
     let small = rng.below(5) as u32;
     let any = rng.word() % 65_536;
-    match rng.below(4) {
+    match rng.below(5) {
         0 => near(a, b, rng.pick(&[0, 0, small, small, small, any, 65_534, 65_535])),
         1 => before(a, b),
         2 => same_title(a, b),
-        _ => span(rng.pick(&[1, 1 + small, 1 + small, 3 + 3 * small, 1 + any, 65_535, 65_536])),
+        3 => span(rng.pick(&[1, 1 + small, 1 + small, 3 + 3 * small, 1 + any, 65_535, 65_536])),
+        _ => {
+            let (small, any) = (small as u16, any as u16);
+            let least = rng.pick(&[0, 0, 0, small, small, small, 3 * small, any, 65_534]);
+            let more = rng.pick(&[0, 0, small, small, 3 * small, any, 65_534, 65_535]);
+            apart(a, b, least, least.saturating_add(more))
+        }
     }
 }
 
@@ -460,7 +466,7 @@ pub fn random_run(rng: &mut Rng) -> Subject {
         }
         1 => {
             let at = rng.below(plan.len());
-            plan[at] = rng.pick(&[0, 1, 2, 7, 8, 9, 65_536]);
+            plan[at] = rng.pick(&[0, 1, 2, 7, 8, 9, 10, 65_536]);
         }
         _ => return subject,
     }
