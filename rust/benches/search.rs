@@ -1,4 +1,4 @@
-//! Times the library's listing beside the yardstick's: ten plans over each of two made-up
+//! Times the library's listing beside the yardstick's: eleven plans over each of two made-up
 //! archives, and how the time grows with the positions of one document. The results are compared
 //! before anything is timed. Run as a test, it makes one round and prints no times.
 //!
@@ -12,7 +12,7 @@ mod archives;
 mod support;
 mod yardstick;
 
-use archives::{endless_plans, one_document, repertory, season, ten_plans, Filling, Lists, Plan};
+use archives::{endless_plans, one_document, plans, repertory, season, Filling, Lists, Plan};
 use lihambozy::calls::{check_plan, check_volume, list, Next};
 use lihambozy::BLOCK_BYTES;
 use std::hint::black_box;
@@ -183,10 +183,10 @@ fn verdict(missed: bool) -> &'static str {
     }
 }
 
-/// Runs the ten plans over an archive: whether a target is missed.
+/// Runs the plans over an archive: whether a target is missed.
 fn time_plans(archive: &Archive, timed: bool) -> bool {
     let (lists, docs) = (&archive.lists, archive.lists.docs());
-    let plans = ten_plans(&archive.filling);
+    let plans = plans(&archive.filling);
     let volume = lists.volume();
     let own_volumes = plans.each_ref().map(|plan| lists.only(&plan.lists()).volume());
 

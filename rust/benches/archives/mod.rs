@@ -148,7 +148,7 @@ impl Plan {
         lists
     }
 
-    /// The rows as document 01 names them.
+    /// The rows by the names of their kinds.
     pub fn text(&self) -> String {
         let rows = self.rows.iter().map(|&[kind, a, b, c]| match kind {
             kind::VOICE => format!("VOICE {a}"),
@@ -159,6 +159,7 @@ impl Plan {
             kind::END => "END".to_string(),
             kind::BOTH => "BOTH".to_string(),
             kind::EITHER => "EITHER".to_string(),
+            kind::APART => format!("APART {a} {b} {} {}", c >> 16, c & 0xffff),
             _ => "FIRST NOT SECOND".to_string(),
         });
         rows.collect::<Vec<String>>().join(", ")
@@ -181,6 +182,10 @@ fn span(c: u32) -> Row {
     [kind::SPAN, 0, 0, c]
 }
 
+fn apart(a: u32, b: u32, least: u32, most: u32) -> Row {
+    [kind::APART, a, b, least << 16 | most]
+}
+
 const BOTH: Row = [kind::BOTH, 0, 0, 0];
 const EITHER: Row = [kind::EITHER, 0, 0, 0];
 const FIRST_NOT_SECOND: Row = [kind::FIRST_NOT_SECOND, 0, 0, 0];
@@ -191,25 +196,26 @@ fn pattern(lists: &[u32], predicates: &[Row]) -> Vec<Row> {
     voices.chain(predicates.iter().copied()).chain([[kind::END, 0, 0, 0]]).collect()
 }
 
-/// The lists and limits with which the ten plans run over an archive.
+/// The lists and limits with which the plans run over an archive.
 pub struct Filling {
     /// The lists of most plans.
     pub lists: [u32; 8],
     /// A list that is rare, where the archive has one.
     pub rare: u32,
-    /// The limit of NEAR.
+    /// The limit of NEAR, and the least of APART. Its most is four times as much.
     pub near: u32,
     /// The limit of SPAN for three variables. Eight have four times as much.
     pub span: u32,
 }
 
-/// Ten plans, from one variable to six patterns.
-pub fn ten_plans(filling: &Filling) -> [Plan; 10] {
+/// Eleven plans, from one variable to six patterns.
+pub fn plans(filling: &Filling) -> [Plan; 11] {
     let &Filling { lists: [a, b, c, d, e, f, g, h], rare, near: n, span: s } = filling;
     let plan = |name, parts: &[Vec<Row>]| Plan { name, rows: parts.concat() };
     [
         plan("one variable", &[pattern(&[a], &[])]),
         plan("NEAR", &[pattern(&[a, b], &[near(0, 1, n)])]),
+        plan("APART", &[pattern(&[a, b], &[apart(0, 1, n, 4 * n)])]),
         plan("BEFORE and SAME TITLE", &[pattern(&[a, b], &[before(0, 1), same_title(0, 1)])]),
         plan("SPAN of three", &[pattern(&[a, b, c], &[span(s)])]),
         plan(
@@ -259,17 +265,21 @@ pub fn ten_plans(filling: &Filling) -> [Plan; 10] {
 
 /// Plans that no document makes true, over `one_document`: each kind of predicate leaves variables
 /// short until one of them has passed all its positions.
-pub fn endless_plans() -> [Plan; 4] {
+pub fn endless_plans() -> [Plan; 5] {
     let plan = |name, predicates: Vec<Row>| Plan {
         name,
         rows: pattern(&[1, 2, 3, 4, 5, 6, 7, 8], &predicates),
     };
     // Two variables of which each is to stand before the other move on by turns.
     let turns = [before(0, 1), before(1, 0)];
+    // The least moves a variable that stands behind variable 0, the most one in front of it.
+    let behind = (1..4).map(|var| apart(0, var, 0, 0));
+    let in_front = (4..8).map(|var| apart(var, 0, 0, 0));
     [
         plan("NEAR", (1..8).map(|var| near(0, var, 0)).chain(turns).collect()),
         plan("BEFORE", (0..8).map(|var| before(var, (var + 1) % 8)).collect()),
         plan("SPAN", vec![span(1), before(0, 1)]),
         plan("SAME TITLE", (1..8).map(|var| same_title(0, var)).chain(turns).collect()),
+        plan("APART", behind.chain(in_front).chain([before(1, 0)]).collect()),
     ]
 }

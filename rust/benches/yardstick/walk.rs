@@ -164,6 +164,13 @@ enum Predicate {
     Window {
         most: u32,
     },
+    /// The position of b is at least `least` and at most `most` behind that of a.
+    Apart {
+        a: usize,
+        b: usize,
+        least: u32,
+        most: u32,
+    },
 }
 
 impl Predicate {
@@ -192,6 +199,14 @@ impl Predicate {
                     largest = largest.max(pos);
                 }
                 (largest - at[smallest] > most).then(|| (smallest, largest - most))
+            }
+            Predicate::Apart { a, b, least, most } => {
+                if at[b] < at[a] + least {
+                    // No position of a variable is behind itself.
+                    Some((b, if a == b { END } else { at[a] + least }))
+                } else {
+                    (at[b] - at[a] > most).then(|| (a, at[b] - most))
+                }
             }
         }
     }
@@ -318,6 +333,7 @@ impl Plan {
                 3 | 4 => c == 0,
                 5 => a == 0 && b == 0 && (1..=65_536).contains(&c),
                 6..=9 => a == 0 && b == 0 && c == 0,
+                10 => c >> 16 <= c & 0xffff,
                 _ => false,
             };
             if !in_range {
@@ -339,7 +355,7 @@ impl Plan {
                     return Err((13, row));
                 }
                 pattern.lists.push(a);
-            } else if kind <= 6 {
+            } else if kind <= 6 || kind == 10 {
                 let Some(pattern) = &mut open else {
                     return Err((13, row));
                 };
@@ -352,6 +368,12 @@ impl Plan {
                     3 => pattern.predicates.push(Predicate::Ordered { a, b }),
                     4 => pattern.predicates.push(Predicate::Samepara { a, b }),
                     5 => pattern.predicates.push(Predicate::Window { most: c - 1 }),
+                    10 => pattern.predicates.push(Predicate::Apart {
+                        a,
+                        b,
+                        least: (c >> 16) + 1,
+                        most: (c & 0xffff) + 1,
+                    }),
                     _ => {
                         plan.patterns.extend(open.take());
                         plan.steps.push(Step::Pattern);
