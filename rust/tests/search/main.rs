@@ -5,6 +5,7 @@ mod plain;
 #[path = "../support/mod.rs"]
 mod support;
 
+mod search_apart;
 mod search_document;
 mod search_edges;
 mod search_random;

@@ -7,51 +7,6 @@ use crate::support::searches::*;
 use crate::support::*;
 use lihambozy::calls::{Listing, Next};
 
-/// The documents in which a pattern is tried: the first, the last, and one between them.
-const DOCS: [u32; 3] = [0, 300, 65_535];
-
-/// A list that has these positions in each of the documents.
-fn list_in(docs: &[u32], positions: &[u32]) -> Vec<u32> {
-    docs.iter().flat_map(|doc| positions.iter().map(move |pos| doc * 65_536 + pos)).collect()
-}
-
-/// One pattern, variable i on list i + 1, over documents that all have the same positions. It is
-/// found at the least positions given, or not found.
-#[track_caller]
-fn settles(
-    trial: &mut Trial,
-    starts: &[u32],
-    lists: &[&[u32]],
-    predicates: &[Row],
-    least: Option<&[u32]>,
-) {
-    let voices: Vec<Row> = (1..=lists.len() as u32).map(voice).collect();
-    let plan = [&voices[..], predicates, &[END]].concat().concat();
-    trial.case = format!("starts {starts:?}, lists {lists:?}, {predicates:?}");
-    let of_doc = |doc: u32| least.map_or(vec![], |least| [&[doc, 1], least].concat());
-    let postings: usize = lists.iter().map(|list| list.len()).sum();
-    for docs in [&DOCS[..], &DOCS[..1], &DOCS[2..]] {
-        let all: Vec<Vec<u32>> =
-            [&[starts], lists].concat().iter().map(|positions| list_in(docs, positions)).collect();
-        let subject = Subject::new(&Lists::new(&all).volume(), &plan);
-        let rows: Vec<u32> = docs.iter().copied().flat_map(of_doc).collect();
-        let tally = (docs.len() * postings) as u32;
-        for fit in [1, 2, 5] {
-            let room = fit * (2 + lists.len());
-            let searched = trial.search(&subject, room);
-            assert_eq!(searched, (rows.clone(), tally), "{}", trial.case);
-        }
-        if let Some(least) = least {
-            assert_eq!(trial.test(&subject, 0, docs[0], least), Ok(true), "{}", trial.case);
-        }
-    }
-}
-
-/// The least positions of two variables, if their pattern is found.
-type Pair = Option<[u32; 2]>;
-/// The positions of a list in a document.
-type Of<'a> = &'a [u32];
-
 /// NEAR: positions of one variable and of the other, c, and the least ones.
 #[test]
 fn near_at_its_edges() {

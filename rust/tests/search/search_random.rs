@@ -32,7 +32,13 @@ fn count_rows(met: &mut Met, subject: &Subject) {
         let &[[kind, ..]] = &pattern.predicates[..] else { continue };
         for doc in searcher.docs() {
             if searcher.of_vars(pattern, doc).iter().all(|of_var| !of_var.is_empty()) {
-                let name = ["NEAR", "BEFORE", "SAME TITLE", "SPAN"][kind as usize - 2];
+                let name = match kind {
+                    kind::NEAR => "NEAR",
+                    kind::BEFORE => "BEFORE",
+                    kind::SAME_TITLE => "SAME TITLE",
+                    kind::SPAN => "SPAN",
+                    _ => "APART",
+                };
                 let found = searcher.earliest(pattern, doc).is_some();
                 met.count(&format!("{name} {}", if found { "found" } else { "missed" }), 1);
             }
@@ -80,6 +86,8 @@ fn whole_searches() {
         ("SAME TITLE missed", 330),
         ("SPAN found", 1_600),
         ("SPAN missed", 330),
+        ("APART found", 1_000),
+        ("APART missed", 1_000),
     ]);
     let made = trial.made(Call::List);
     assert!(made >= 100_000, "{made} comparisons");

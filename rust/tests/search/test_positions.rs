@@ -49,6 +49,18 @@ fn positions_of_the_sample() {
         (same_title(0, 1), 1, [8, 7], true),
         (same_title(0, 1), 1, [8, 5], false),
         (same_title(1, 0), 2, [4, 9], true),
+        (apart(0, 1, 2, 2), 1, [2, 5], true),
+        (apart(0, 1, 3, 9), 1, [2, 5], false), // below least
+        (apart(0, 1, 0, 1), 1, [2, 5], false), // over most
+        (apart(0, 1, 2, 4), 1, [2, 7], true),
+        (apart(0, 1, 2, 3), 1, [2, 7], false),
+        (apart(1, 0, 0, 0), 1, [8, 7], true),
+        (apart(0, 1, 0, 65_535), 1, [8, 7], false), // the other way round
+        (apart(1, 0, 0, 65_535), 1, [2, 5], false),
+        (apart(0, 1, 4, 65_535), 2, [4, 9], true),
+        (apart(0, 1, 5, 65_535), 2, [4, 9], false),
+        (apart(0, 0, 0, 65_535), 2, [4, 9], false), // from itself
+        (apart(0, 1, 2, 2), 2, [2, 5], false),      // in another document
     ] {
         let subject = over_sample(&[predicate]);
         let answer = trial.test(&subject, 0, doc, &positions);
@@ -72,6 +84,13 @@ fn every_small_choice() {
         (same_title(1, 1), 5),
         (span(1), 0),
         (span(4), 3),
+        (apart(0, 1, 0, 65_535), 3),
+        (apart(0, 1, 2, 2), 1),
+        (apart(0, 1, 3, 4), 2),
+        (apart(0, 1, 5, 65_535), 0),
+        (apart(1, 0, 0, 0), 1),
+        (apart(1, 0, 0, 2), 2),
+        (apart(1, 1, 0, 65_535), 0),
     ] {
         let subject = over_sample(&[predicate]);
         let mut passed = 0;
@@ -84,6 +103,30 @@ fn every_small_choice() {
         }
         assert_eq!(passed, passing, "{predicate:?}");
     }
+}
+
+/// APART at the ends of a document: every choice of some positions, under limits at their edges.
+#[test]
+fn apart_at_the_ends() {
+    let positions = [0, 1, 2, 32_767, 32_768, 65_533, 65_534, 65_535];
+    let list: Vec<(u32, u32)> = [4, 5].iter().flat_map(|&d| positions.map(|p| (d, p))).collect();
+    let limits = [0, 1, 32_766, 32_767, 32_768, 65_532, 65_533, 65_534, 65_535];
+    let mut trial = Trial::default();
+    let (mut passed, mut unmet) = (0, 0);
+    for (least, most) in limits.iter().flat_map(|&least| limits.map(|most| (least, most))) {
+        if least > most {
+            continue;
+        }
+        let subject = Subject::over(&[&[], &list, &list], &two(&[apart(0, 1, least, most)]));
+        for (p, q) in positions.iter().flat_map(|&p| positions.map(|q| (p, q))) {
+            // By differences in 64 bits with their sign.
+            let between = i64::from(q) - i64::from(p) - 1;
+            let passes = i64::from(least) <= between && between <= i64::from(most);
+            assert_eq!(trial.test(&subject, 0, 5, &[p, q]), Ok(passes), "{least} {most} {p} {q}");
+            *if passes { &mut passed } else { &mut unmet } += 1;
+        }
+    }
+    assert!(passed > 300 && unmet > 1_000, "{passed} {unmet}");
 }
 
 /// 17: the pattern's number, the number of positions, the document, and each position.
