@@ -13,7 +13,7 @@ const COMMANDS: [&str; 7] = ["check", "list", "read", "test", "write", "plan", "
 /// What the guide's commands that are not run start with.
 const NOT_RUN: [&str; 5] = ["make", "export", "cp", "cd", "cc"];
 /// The plans of the archive.
-const PLANS: [&str; 5] = ["1-word", "2-near", "3-order", "4-span", "5-joined"];
+const PLANS: [&str; 6] = ["1-word", "2-near", "3-order", "4-span", "5-joined", "6-apart"];
 
 /// A fresh copy of the archive.
 fn desk() -> Folder {

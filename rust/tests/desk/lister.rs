@@ -128,6 +128,22 @@ fn the_table_of_cases() {
     }
 }
 
+/// The same with APART, the condition of document 02.
+#[test]
+fn words_at_a_set_remove() {
+    let volume = sample().volume();
+    for (rows, output) in [
+        (two(&[apart(0, 1, 2, 4)]), "scene 1 1 2 5\nscene 2 1 4 9\ndone 6\n"),
+        (two(&[apart(0, 1, 3, 3)]), "done 6\n"),
+        (two(&[apart(0, 1, 3, 65_535)]), "scene 1 1 2 7\nscene 2 1 4 9\ndone 6\n"),
+        (two(&[apart(1, 0, 0, 0)]), "scene 1 1 8 7\ndone 6\n"),
+        (two(&[apart(0, 0, 0, 65_535)]), "done 6\n"),
+        (two(&[apart(0, 1, 4, 3)]), "refused 10 2\n"),
+    ] {
+        prints(&format!("{rows:?}"), File(&volume), File(&plan_bytes(&rows)), output);
+    }
+}
+
 /// An absent file is empty, and so is a folder in its place.
 #[test]
 fn absent_files() {

@@ -106,11 +106,24 @@ fn standard_input_by_name() {
     }
 }
 
-/// Document 01's other conditions on the sample volume, from the text of a plan to the listing.
+/// Plans over the sample volume, each with its voices and its listing, from the text of the plan to
+/// the listing.
+#[track_caller]
+fn list_as(cases: &[(&str, usize, &str)]) {
+    let folder = Folder::with_sample();
+    for (rows, voices, listing) in cases {
+        let written = folder.lhz_given("plan - case.plan", rows.as_bytes());
+        assert_eq!(written.answer(), format!("rows {}\n", rows.lines().count()));
+        let checked = format!("lists 3 postings 8\nfigures 1 voices {voices}\n");
+        assert_eq!(folder.lhz("check titles.vol case.plan").answer(), checked, "{rows}");
+        assert_eq!(folder.lhz("list titles.vol case.plan").answer(), *listing, "{rows}");
+    }
+}
+
+/// Document 01's other conditions.
 #[test]
 fn the_table_of_cases() {
-    let folder = Folder::with_sample();
-    for (rows, voices, listing) in [
+    list_as(&[
         ("VOICE 1\nVOICE 2\nNEAR 0 1 0\nEND", 2, "scene 1 1 8 7\ndone 6\n"),
         ("VOICE 1\nVOICE 2\nNEAR 0 1 3\nEND", 2, "scene 1 1 2 5\ndone 6\n"),
         ("VOICE 1\nVOICE 2\nNEAR 0 1 4\nEND", 2, "scene 1 1 2 5\nscene 2 1 4 9\ndone 6\n"),
@@ -119,13 +132,21 @@ fn the_table_of_cases() {
         ("VOICE 1\nVOICE 2\nBEFORE 1 0\nSAME TITLE 0 1\nEND", 2, "scene 1 1 8 7\ndone 6\n"),
         ("VOICE 1\nVOICE 1\nEND", 2, "scene 1 1 2 2\nscene 2 1 4 4\ndone 6\n"),
         ("VOICE 1\nBEFORE 0 0\nEND", 1, "done 3\n"),
-    ] {
-        let written = folder.lhz_given("plan - case.plan", rows.as_bytes());
-        assert_eq!(written.answer(), format!("rows {}\n", rows.lines().count()));
-        let checked = format!("lists 3 postings 8\nfigures 1 voices {voices}\n");
-        assert_eq!(folder.lhz("check titles.vol case.plan").answer(), checked, "{rows}");
-        assert_eq!(folder.lhz("list titles.vol case.plan").answer(), listing, "{rows}");
-    }
+    ]);
+}
+
+/// APART, the condition of document 02.
+#[test]
+fn words_at_a_set_remove() {
+    list_as(&[
+        ("VOICE 1\nVOICE 2\nAPART 0 1 2 4\nEND", 2, "scene 1 1 2 5\nscene 2 1 4 9\ndone 6\n"),
+        ("VOICE 1\nVOICE 2\nAPART 0 1 0 2\nEND", 2, "scene 1 1 2 5\ndone 6\n"),
+        ("VOICE 1\nVOICE 2\nAPART 0 1 3 3\nEND", 2, "done 6\n"),
+        ("VOICE 1\nVOICE 2\nAPART 0 1 3 65535\nEND", 2, "scene 1 1 2 7\nscene 2 1 4 9\ndone 6\n"),
+        ("VOICE 1\nVOICE 2\nAPART 1 0 0 0\nEND", 2, "scene 1 1 8 7\ndone 6\n"),
+        ("VOICE 1\nVOICE 1\nAPART 0 1 5 5\nEND", 2, "scene 1 1 2 8\ndone 6\n"),
+        ("VOICE 1\nAPART 0 0 0 65535\nEND", 1, "done 3\n"),
+    ]);
 }
 
 /// Figures by their numbers: the rows and the places of each are its own.

@@ -21,6 +21,7 @@ fn texts_of_rows() {
         ("BOTH", BOTH, "BOTH"),
         ("EITHER", EITHER, "EITHER"),
         ("FIRST NOT SECOND", FIRST_NOT_SECOND, "FIRST NOT SECOND"),
+        ("APART 0 1 4 9", apart(0, 1, 4, 9), "APART 0 1 4 9"),
         // Letters of any case, blanks, comments.
         ("voice 1", voice(1), "VOICE 1"),
         ("Near 7 6 5", near(7, 6, 5), "NEAR 7 6 5"),
@@ -28,6 +29,7 @@ fn texts_of_rows() {
         ("Same title 2 3", same_title(2, 3), "SAME TITLE 2 3"),
         ("first Not second", FIRST_NOT_SECOND, "FIRST NOT SECOND"),
         ("\t same \t TITLE\t0  1 ", same_title(0, 1), "SAME TITLE 0 1"),
+        ("Apart\t1 0  2 03# 4", apart(1, 0, 2, 3), "APART 1 0 2 3"),
         ("VOICE 1 # 2", voice(1), "VOICE 1"),
         ("VOICE 1#2", voice(1), "VOICE 1"),
         ("END# \u{fc}", END, "END"),
@@ -39,6 +41,10 @@ fn texts_of_rows() {
         ("SPAN 0", span(0), "SPAN 0"),
         ("SPAN 65537", span(65_537), "SPAN 65537"),
         ("SPAN 000000000000000000004", span(4), "SPAN 4"),
+        ("APART 4294967295 8 0 0", apart(most, 8, 0, 0), "APART 4294967295 8 0 0"),
+        ("APART 0 1 0 65535", apart(0, 1, 0, 65_535), "APART 0 1 0 65535"),
+        ("APART 0 1 65535 0", apart(0, 1, 65_535, 0), "APART 0 1 65535 0"),
+        ("APART 0 1 000000000065535 65534", [10, 0, 1, most - 1], "APART 0 1 65535 65534"),
         // Four numbers, as a name if one can tell them.
         ("1 1 0 0", voice(1), "VOICE 1"),
         ("2 0 1 3", near(0, 1, 3), "NEAR 0 1 3"),
@@ -50,8 +56,17 @@ fn texts_of_rows() {
         ("08 00 0 0", EITHER, "EITHER"),
         ("9 0 0 0 # c", FIRST_NOT_SECOND, "FIRST NOT SECOND"),
         ("0 0 0 0", [0; 4], "0 0 0 0"),
+        ("10 1 2 3", apart(1, 2, 0, 3), "APART 1 2 0 3"),
+        ("10 0 1 262153", apart(0, 1, 4, 9), "APART 0 1 4 9"),
+        ("10 0 0 65536", apart(0, 0, 1, 0), "APART 0 0 1 0"),
+        (
+            "10 4294967295 4294967295 4294967295",
+            [10, most, most, most],
+            "APART 4294967295 4294967295 65535 65535",
+        ),
         ("12 0 0 7", [12, 0, 0, 7], "12 0 0 7"),
-        ("10 1 2 3", [10, 1, 2, 3], "10 1 2 3"),
+        ("11 1 2 3", [11, 1, 2, 3], "11 1 2 3"),
+        ("266 0 1 262153", [266, 0, 1, 262_153], "266 0 1 262153"),
         (
             "4294967295 4294967295 4294967295 4294967295",
             [most; 4],
@@ -98,7 +113,7 @@ fn lines_of_texts() {
 #[test]
 fn mistakes() {
     let folder = Folder::new();
-    let kinds = "VOICE, NEAR, BEFORE, SAME TITLE, SPAN, END, BOTH, EITHER, FIRST NOT SECOND";
+    let kinds = "VOICE, NEAR, BEFORE, SAME TITLE, SPAN, END, BOTH, EITHER, FIRST NOT SECOND, APART";
     let no_kind = |at: &str, word: &str| format!("{at}: `{word}` names no kind of row: {kinds}");
     let rows: Vec<(&[u8], String)> = [
         // Numbers that are missing, behind the last word, and numbers too many.
@@ -117,6 +132,9 @@ fn mistakes() {
         ("SAME TITLE 0 1 2", "1:16: SAME TITLE takes 2 numbers"),
         ("SPAN", "1:5: SPAN takes one number"),
         ("SPAN 0 0 4", "1:8: SPAN takes one number"),
+        ("APART", "1:6: APART takes 4 numbers"),
+        ("APART 0 1 4", "1:12: APART takes 4 numbers"),
+        ("APART 0 1 4 9 65535", "1:15: APART takes 4 numbers"),
         ("END 0", "1:5: END takes no number"),
         ("BOTH 0 0 0", "1:6: BOTH takes no number"),
         ("EITHER OR", "1:8: EITHER takes no number"),
@@ -146,6 +164,16 @@ fn mistakes() {
             "SPAN 123456789012345678901234567890",
             "1:6: `123456789012345678901234567890` is over 4294967295",
         ),
+        // Limits over 16 bits.
+        ("APART 0 1 65536 65535", "1:11: `65536` is over 65535"),
+        ("APART 0 1 0 65536", "1:13: `65536` is over 65535"),
+        ("APART 0 1\t\t065536 0", "1:12: `065536` is over 65535"),
+        ("APART 0 1 65536 x", "1:11: `65536` is over 65535"),
+        ("APART 0 1 0 4294967295", "1:13: `4294967295` is over 65535"),
+        ("APART 0 1 0 4294967296", "1:13: `4294967296` is over 65535"),
+        ("APART 4294967296 1 65536 0", "1:7: `4294967296` is over 4294967295"),
+        ("APART 0 1 -1 9", "1:11: `-1` is no number"),
+        ("APART 0 1 4 x", "1:13: `x` is no number"),
         // Lines.
         ("VOICE 1\n\n# c\n END x", "4:6: END takes no number"),
         ("VOICE 1\r\nEND\r\nSPAN\r\n", "3:5: SPAN takes one number"),
@@ -215,6 +243,8 @@ fn plans_out_of_order_are_written() {
         ("VOICE 1", "refused 14 0\n"),
         ("VOICE 9\nEND", "refused 11 0\n"),
         ("VOICE 1\nSPAN 0\nEND", "refused 10 1\n"),
+        ("VOICE 1\nVOICE 2\nAPART 0 1 5 4\nEND", "refused 10 2\n"),
+        ("VOICE 1\nAPART 0 1 4 5\nEND", "refused 13 1\n"),
     ] {
         folder.lhz_given("plan - some.plan", text.as_bytes()).answer();
         folder.lhz("check titles.vol some.plan").failure(1, refused);
