@@ -92,6 +92,12 @@ mod tests {
             (7, 0, "list 0 does not rise strictly (refused 7 0)"),
             (8, 125, "word 125 of the stream, behind the lists, is not 0 (refused 8 125)"),
             (
+                10,
+                2,
+                "row 2 of the plan has an unknown kind, a word that is not 0 where its kind uses \
+                 none, a c out of range, or a least that exceeds its most (refused 10 2)",
+            ),
+            (
                 11,
                 3,
                 "row 3 of the plan names list 0, or a list that the volume does not have \

@@ -3,8 +3,8 @@
 use crate::support::plans::*;
 use crate::support::*;
 
-/// Every plan of up to six rows out of these: the accepted ones by their patterns, and what else was
-/// met.
+/// Every plan of up to six rows out of these: how many are accepted by the number of patterns, and
+/// what else was met.
 fn every_plan_of(choices: &[Row]) -> ([usize; 3], Trial) {
     let volume = sample().volume();
     let mut trial = Trial::default();

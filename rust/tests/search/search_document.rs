@@ -117,7 +117,9 @@ fn listing(lists: &[&[(u32, u32)]], rows: &[Row]) -> (Vec<u32>, u32) {
 /// Trap: 1:65,535 and 2:0 are neighbours as numbers and not in any document.
 #[test]
 fn neighbours_across_a_documents_edge() {
-    for predicate in [near(0, 1, 0), near(0, 1, 65_535), span(2), span(65_536), before(0, 1)] {
+    let near_and_span = [near(0, 1, 0), near(0, 1, 65_535), span(2), span(65_536)];
+    let in_order = [before(0, 1), apart(0, 1, 0, 0), apart(0, 1, 0, 65_535)];
+    for predicate in near_and_span.into_iter().chain(in_order) {
         let (words, tally) = listing(&[&[], &[(1, 65_535)], &[(2, 0)]], &two(&[predicate]));
         assert_eq!((words, tally), (vec![], 2), "{predicate:?}");
         let both = [&[(1, 65_535), (3, 7)][..], &[(2, 0), (3, 8)]];

@@ -705,6 +705,20 @@ fn every_position() {
             None,
             104_864,
         ),
+        (
+            "APART",
+            vec![voice(1), voice(4), apart(0, 1, 9, 99), END],
+            Some(vec![65_435, last]),
+            131_074,
+        ),
+        (
+            "APART, tens and odd",
+            vec![voice(2), voice(3), apart(0, 1, 30_000, 30_000), END],
+            Some(vec![0, 30_001]),
+            78_644,
+        ),
+        ("APART, never", vec![voice(3), voice(3), apart(0, 1, 30_000, 30_000), END], None, 131_072),
+        ("APART, itself", vec![voice(1), apart(0, 0, 0, 65_535), END], None, 131_072),
         ("an empty list", vec![voice(1), voice(5), near(0, 1, 65_535), END], None, 131_072),
     ] {
         let mut out = vec![9; 40];
