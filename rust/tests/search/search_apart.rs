@@ -307,74 +307,65 @@ fn under_each_operator() {
     }
 }
 
-/// What a least asks for may lie behind the end of the document: at 65,536 or further on, which is
-/// where the next document has its postings. None of them is taken, and each document is settled by
-/// its own.
+/// Postings told by document and position, rising and each once.
+fn rising(mut list: Vec<(u32, u32)>) -> Vec<(u32, u32)> {
+    list.sort_unstable();
+    list.dedup();
+    list
+}
+
+/// What a least asks for may lie behind the end of the document: at 65,536 or further on, where, as
+/// numbers, the next document has its postings. None of these is taken, and each document is
+/// settled by its own.
 #[test]
 fn needs_beyond_a_document() {
+    let positions = [0, 1, 255, 32_767, 32_768, 65_000, 65_533, 65_534, 65_535];
+    let limits = [0, 1, 254, 535, 32_767, 32_768, 65_280, 65_533, 65_534, 65_535];
     let mut trial = Trial::default();
-    let (mut beyond, mut found) = (0, 0);
-    for doc in [0, 1, 300, 65_533, 65_534] {
-        for pos in [0, 1, 255, 32_767, 32_768, 65_000, 65_533, 65_534, 65_535] {
-            for least in [0, 1, 254, 535, 32_767, 32_768, 65_280, 65_533, 65_534, 65_535] {
-                let needed = pos + u32::from(least) + 1;
-                // The posting needed, taken as a number, is in the next document.
-                let over = needed.saturating_sub(65_536);
-                let near_over = [over.saturating_sub(1), over, (over + 1).min(65_535), 65_535];
-                let mut next: Vec<(u32, u32)> = near_over.map(|pos| (doc + 1, pos)).to_vec();
-                next.sort_unstable();
-                next.dedup();
-                let mut own = vec![(doc, pos.saturating_sub(1)), (doc, pos)];
-                own.extend((pos < 65_535).then_some((doc, needed.min(65_536) - 1)));
-                own.sort_unstable();
-                own.dedup();
-                let first = [(doc, pos), (doc + 1, 0)];
-                let second = [own, next].concat();
-                for most in [least, 65_534.max(least), 65_535] {
-                    for rows in [
-                        vec![voice(1), voice(2), apart(0, 1, least, most), END],
-                        vec![voice(2), voice(1), apart(1, 0, least, most), END],
-                        vec![
-                            voice(1),
-                            voice(2),
-                            apart(0, 1, least, most),
-                            END,
-                            voice(2),
-                            END,
-                            BOTH,
-                        ],
-                        vec![voice(1), voice(2), span(65_536), apart(0, 1, least, most), END],
-                    ] {
-                        trial.case = format!("{doc}:{pos}, {rows:?}");
-                        let subject = Subject::over(&[&[], &first, &second], &rows);
-                        let (words, _) = trial.listing(&subject);
-                        found += words.len() / subject.width();
-                        beyond += usize::from(needed > 65_535);
-                        assert!(needed <= 65_535 || words.first() != Some(&doc), "{}", trial.case);
-                        for pos_b in near_over {
-                            let choice =
-                                if rows[0] == voice(1) { [pos, pos_b] } else { [pos_b, pos] };
-                            let _ = trial.test(&subject, 0, doc, &choice);
-                        }
-                    }
-                }
+    let [mut within, mut beyond] = [0; 2];
+    for (pos, least) in positions.iter().flat_map(|&pos| limits.map(|least| (pos, least))) {
+        let needed = pos + u32::from(least) + 1;
+        // The second word stands right in front of what is needed and, if that is in the document,
+        // there. In the next document it stands about where the need, as a number, would be.
+        let own = [pos.saturating_sub(1), pos, needed - 1, needed];
+        let over = needed.saturating_sub(65_536);
+        let next = [over.saturating_sub(1), over, over + 1, 65_535];
+        let inside = |doc: u32, of: [u32; 4]| {
+            of.into_iter().filter(|&pos| pos < 65_536).map(move |pos| (doc, pos))
+        };
+        for (doc, most) in [0, 1, 300, 65_533, 65_534]
+            .iter()
+            .flat_map(|&doc| [least, 65_535].map(|most| (doc, most)))
+        {
+            let first = [(doc, pos), (doc + 1, 0)];
+            let second = rising(inside(doc, own).chain(inside(doc + 1, next)).collect());
+            let alone = two(&[apart(0, 1, least, most)]);
+            let joined = [&alone[..], &[voice(2), END, BOTH]].concat();
+            let turned = vec![voice(2), voice(1), span(65_536), apart(1, 0, least, most), END];
+            for (rows, found) in
+                [(alone, [1, pos, needed]), (joined, [1, pos, needed]), (turned, [1, needed, pos])]
+            {
+                trial.case = format!("{doc}:{pos}, {rows:?}");
+                let subject = Subject::over(&[&[], &first, &second], &rows);
+                let (words, _) = trial.listing(&subject);
+                let row = words.get(..4).filter(|row| row[0] == doc).map(|row| &row[1..]);
+                let expected = (needed < 65_536).then_some(&found[..]);
+                assert_eq!(row, expected, "{}", trial.case);
+                *if needed < 65_536 { &mut within } else { &mut beyond } += 1;
             }
         }
     }
-    assert!(beyond > 2_000 && found > 2_000, "{beyond} {found}");
+    assert!(within > 1_000 && beyond > 1_000, "{within} {beyond}");
 
-    // The last document of all, behind which no posting lies, and the first positions of others.
+    // The last document of all: what is needed is no number of 32 bits.
     for least in [0, 1, 535, 65_000, 65_534, 65_535] {
         let first = [(0, 65_535), (65_535, 65_535)];
         let second = [(0, 0), (0, 535), (1, 0), (1, least), (65_535, 0), (65_535, 65_535)];
-        let mut second = second.to_vec();
-        second.sort_unstable();
-        second.dedup();
-        for rows in [two(&[apart(0, 1, least as u16, 65_535)]), two(&[apart(0, 1, 0, 0)])] {
-            trial.case = format!("the last document, {rows:?}");
-            let subject = Subject::over(&[&[], &first, &second], &rows);
-            assert_eq!(trial.listing(&subject).0, [], "{}", trial.case);
-        }
+        let second = rising(second.to_vec());
+        let rows = two(&[apart(0, 1, least as u16, 65_535)]);
+        trial.case = format!("the last document, {rows:?}");
+        let subject = Subject::over(&[&[], &first, &second], &rows);
+        assert_eq!(trial.listing(&subject), (vec![], 2 + second.len() as u32), "{}", trial.case);
     }
 }
 
