@@ -69,8 +69,9 @@ NoStart lists d p q = (s : ℕ) → Starts lists d s → p < s → s ≤ q → �
 abbrev pub Within : ℕ → ℕ → ℕ → Type 0
 Within least most n = (least ≤ n) × ((most ≡ noUpperEnd) ⊎ (n ≤ most))
 
--- document 004, Definition 3, case 2, of two neighbours p and q of a proximity word pattern: q − p − 1 is in the interval. The difference
--- has its sign: there is such an n only where p stands before q
+-- document 004, Definition 3, case 2: a text satisfies a proximity word pattern exactly if there are p_1, .., p_n "such that, for all
+-- j = 2, .., n we have s(p_j) = w_j and p_j − p_(j−1) − 1 ∈ i_(j−1)". This is the last of it for two words, at p and q: n is q − p − 1.
+-- The difference has its sign: there is such an n only where p stands before q
 abbrev pub Proximal : ℕ → ℕ → ℕ → ℕ → Type 0
 Proximal least most p q = (n : ℕ) × (q ≡ p + 1 + n) × Within least most n
 
