@@ -50,7 +50,7 @@
  *   10  APART             a predicate: variable b stands behind variable a, and the position of b
  *                         less that of a less 1 is from least to most, both counted in. c is
  *                         least * 65,536 + most, with least not over most; a most of 65,535 sets
- *                         no upper end.
+ *                         no upper end. It never holds where a is b.
  *
  * In a pattern all variables stand before the predicates. A pattern has 1 to 8 variables, a plan 1
  * to 8 patterns, numbered from 0 in the order in which they open. At the end no pattern is open and
@@ -134,8 +134,9 @@ extern "C" {
 #define LHZ_FIRST_NOT_SECOND 9
 #define LHZ_APART 10
 
-/* The c of an APART row, of two limits from 0 to 65,535: at least so many positions between the two
- * variables, and at most so many. 0 and 0 make a phrase. */
+/* The c of an APART row, of two limits: at least so many positions between the two variables, and at
+ * most so many. 0 and 0 make a phrase. Each limit must be from 0 to 65,535: a larger one changes the
+ * other, and no check can tell. */
 #define LHZ_APART_LIMITS(least, most) ((uint32_t)(least) * 65536u + (uint32_t)(most))
 #define LHZ_NO_UPPER_END 65535 /* the `most` that sets no upper end */
 

@@ -23,5 +23,6 @@ pub const EITHER: u32 = 8;
 pub const FIRST_NOT_SECOND: u32 = 9;
 /// Variable `b` stands behind variable `a`, at a set remove: the position of `b` less that of `a`
 /// less 1, the number of positions between them, is from a least to a most, both counted in. `c` is
-/// least * 65,536 + most, and least is not over most. A most of 65,535 sets no upper end.
+/// least * 65,536 + most, and least is not over most. A most of 65,535 sets no upper end. It never
+/// holds where `a` is `b`.
 pub const APART: u32 = 10;

@@ -30,13 +30,17 @@ pub const fn span(c: u32) -> PlanRow {
     [kind::SPAN, 0, 0, c]
 }
 
+/// The `most` of [`apart`] that sets no upper end.
+pub const NO_UPPER_END: u16 = 65_535;
+
 /// One variable behind another, with at least so many positions between them and at most so many:
-/// see [`kind::APART`]. 65,535 as `most` sets no upper end, 0 and 0 make a phrase.
+/// see [`kind::APART`]. 0 and 0 make a phrase, and [`NO_UPPER_END`] as `most` sets no upper end.
 ///
 /// ```
 /// use lihambozy::{kind, row};
 ///
 /// assert_eq!(row::apart(0, 1, 4, 9), [kind::APART, 0, 1, 4 * 65_536 + 9]);
+/// assert_eq!(row::apart(0, 1, 4, row::NO_UPPER_END), [kind::APART, 0, 1, 4 * 65_536 + 65_535]);
 /// ```
 pub const fn apart(a: u32, b: u32, least: u16, most: u16) -> PlanRow {
     [kind::APART, a, b, least as u32 * 65_536 + most as u32]

@@ -2,7 +2,7 @@
 --     Positions    the positions of a document in a list, and membership
 --     Needs        what each predicate says and needs
 --     Least        the first match of a pattern is its least match
---     Calculus     the tests that compute and the calculus of document 000 agree
+--     Calculus     the tests that compute and the calculus agree
 --     Skips        documents in which nothing is found
 --     Counts       the words of a row, and the postings of a stretch of documents
 --     Docs         the true documents of a stretch, and their rows

@@ -35,7 +35,7 @@ pub data Formula : Type 0 where
   samepara : ℕ → ℕ → Formula
   -- the first n variables stand within c positions
   window : ℕ → ℕ → Formula
-  -- variable x stands before variable y, with a number of words between them that is in the interval from least to most
+  -- variable x stands before variable y, and the number of positions between them is in the interval from least to most
   proximity : ℕ → ℕ → ℕ → ℕ → Formula
   -- the ∧ of nothing
   truth : Formula
@@ -69,9 +69,9 @@ NoStart lists d p q = (s : ℕ) → Starts lists d s → p < s → s ≤ q → �
 abbrev pub Within : ℕ → ℕ → ℕ → Type 0
 Within least most n = (least ≤ n) × ((most ≡ noUpperEnd) ⊎ (n ≤ most))
 
--- document 004, Definition 3, case 2: a text satisfies a proximity word pattern exactly if there are p_1, .., p_n "such that, for all
--- j = 2, .., n we have s(p_j) = w_j and p_j − p_(j−1) − 1 ∈ i_(j−1)". This is the last of it for two words, at p and q: n is q − p − 1.
--- The difference has its sign: there is such an n only where p stands before q
+-- document 004, Definition 3, case 2: a text s satisfies a proximity word pattern exactly if there exist p_1, .., p_n ∈ {1, .., |s|} such
+-- that, for all j = 2, .., n, s(p_j) = w_j and p_j − p_(j−1) − 1 ∈ i_(j−1). This is the difference of two neighbours, at p and q: n is
+-- q − p − 1. It has its sign: there is such an n only where p stands before q
 abbrev pub Proximal : ℕ → ℕ → ℕ → ℕ → Type 0
 Proximal least most p q = (n : ℕ) × (q ≡ p + 1 + n) × Within least most n
 

@@ -1,9 +1,9 @@
 -- The statements that the crate is held to, each a named type. `proofs/Demands.antt` proves each in a line. Assumes nothing.
 --     Demand2        demand 2 for patterns and plans: the tests that compute and the calculus agree
 --     ProximityIs    what APART (02, N2) is beside BEFORE and NEAR, as a phrase, of one variable and the other way round
-use Prim.Native.Nat.{ℕ, _+_}
+use Prim.Native.Nat.{ℕ, _+_, _≤_}
 use mathlib.Core.Path.{_≡_}
-use mathlib.Core.Bool.{true}
+use mathlib.Core.Bool.{true, false}
 use mathlib.Core.Logic.{_↔_, _≢_}
 use mathlib.Core.List.{List, []}
 use lib.ListN.{length}
@@ -39,13 +39,17 @@ pub record Proximities (starts ps : List ℕ) (a b : ℕ) : Type 0 where
   pub unlimited : holds starts (Proximity a b 0 noUpperEnd) ps ≡ holds starts (Ordered a b) ps
   -- with no word between it is a phrase: b stands right behind a
   pub phrase : (holds starts (Proximity a b 0 0) ps ≡ true) ↔ (at ps b ≡ at ps a + 1)
-  -- it asks for more than BEFORE, and where there is an upper end for more than NEAR
+  -- where it holds, BEFORE holds, and where there is an upper end NEAR with that limit
   pub before : (least most : ℕ) → holds starts (Proximity a b least most) ps ≡ true → holds starts (Ordered a b) ps ≡ true
   pub near : (least most : ℕ) → most ≢ noUpperEnd
       → holds starts (Proximity a b least most) ps ≡ true → holds starts (Distance a b most) ps ≡ true
-  -- it never holds both ways round, whatever the limits, and so never of one variable
+  -- it never holds both ways round, whatever the limits, and never of one variable
   pub oneWay : (least most least′ most′ : ℕ)
       → holds starts (Proximity a b least most) ps ≡ true → holds starts (Proximity b a least′ most′) ps ≡ true → ⊥
+  pub itself : (least most : ℕ) → holds starts (Proximity a a least most) ps ≡ false
+  -- at positions of a document a most of 65,534 is no upper end either
+  pub farthest : (least : ℕ) → at ps b ≤ 65535
+      → holds starts (Proximity a b least 65534) ps ≡ holds starts (Proximity a b least noUpperEnd) ps
 
 unfoldable pub ProximityIs : Type 0
 ProximityIs = (starts ps : List ℕ) (a b : ℕ) → Proximities starts ps a b

@@ -1,6 +1,6 @@
 -- What a plan finds, in reading order.
 --     Positions    what a list of postings holds of a document
---     Calculus     the calculus of document 000, and the formula of a pattern and of a plan
+--     Calculus     the calculus of documents 000 and 004, and the formula of a pattern and of a plan
 --     Matches      the tuples of positions that match a pattern in a document, and the least of them
 --     Documents    which documents are true of a plan, and their rows
 --     Demands      the statements that the crate is held to

@@ -9,7 +9,7 @@
 --     Settled       a pattern that stands in a document, from its cursors to what is shown of it
 --     Testing       what testing positions finds
 --     TestFirst     testing answers the first refusal that applies
---     Tests         testing and the calculus of document 000
+--     Tests         testing and the calculus
 --     Stages        the refusals of a volume and a plan, by their numbers
 --     Answers       an answer is known from its number and values
 pub mod Volume

@@ -1,6 +1,6 @@
 -- The statements that the crate is held to. `proofs/Demands.antt` proves each in a line. Assumes nothing.
 --     TestRefuses    demand 1 for testing positions
---     Demand2        demand 2 for testing positions: the call says yes exactly if the calculus of document 000 does
+--     Demand2        demand 2 for testing positions: the call says yes exactly if the calculus does
 --     OneToOne       no two answers are told alike
 use Prim.Native.Nat.{ℕ, _<_}
 use mathlib.Core.Path.{_≡_}

@@ -66,8 +66,8 @@ fn distance(positions: &[u32], a: usize, b: usize, limit: u32) -> Shortfall
     Shortfall::Holds
 }
 
-// BEFORE: whether a stands in front of b; if not, b is left short. Where a is b no position serves:
-// b is left short by all of them.
+// BEFORE: whether a stands in front of b; if not, b is left short. Where a is b, it needs 65,536: no
+// position is left.
 fn ordered(positions: &[u32], a: usize, b: usize) -> Shortfall
     requires { ⌜ InDocument (now positions) ⌝ }
     requires { ⌜ a < length (now positions) ⌝ }
@@ -143,8 +143,8 @@ fn window(positions: &[u32], limit: u32) -> Shortfall
 
 // APART: whether a stands in front of b, with at least `least` and at most `most` positions between
 // them; if not, b is left short where it is too near, and a where b is too far. Where a is b, or b
-// would have to stand behind the last position, no position serves: b is left short by all of them.
-// No position is too far for a `most` of 65,535.
+// would have to stand behind the last position, b needs 65,536: no position is left. No position is
+// too far for a `most` of 65,535.
 fn proximity(positions: &[u32], a: usize, b: usize, least: u32, most: u32) -> Shortfall
     requires { ⌜ InDocument (now positions) ⌝ }
     requires { ⌜ a < length (now positions) ⌝ }

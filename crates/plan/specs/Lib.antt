@@ -1,5 +1,5 @@
 -- What a plan is and what the calls on it answer, in reading order.
---     Limits      document 01's limits of a plan, and the words of a row of a listing
+--     Limits      the limits of a plan, and the words of a row of a listing
 --     Rows        the rows of a plan, and the kinds that they are read as
 --     State       the reading of a plan, row by row
 --     Patterns    what a plan means: its patterns, and its answer by a stack

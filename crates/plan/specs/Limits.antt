@@ -1,5 +1,5 @@
--- Document 01's limits of a plan, and the words of a row of a listing, each in one place. `src/limits.rt` has the same numbers for the
--- code. Assumes nothing.
+-- The limits of a plan (01; 02, N2), and the words of a row of a listing, each in one place. `src/limits.rt` has the numbers that the code
+-- uses. Assumes nothing.
 use Prim.Native.Nat.{ℕ, _+_, _*_}
 
 -- the last kind of a row; the first is 1

@@ -28,7 +28,8 @@ pub enum Predicate {
     Window {
         limit: u32,
     },
-    // APART: a stands in front of b, with at least `least` and at most `most` positions between them.
+    // APART: a stands in front of b, with `least` to `most` positions between them, both counted in;
+    // a `most` of 65,535 sets no upper end.
     Proximity {
         a: u32,
         b: u32,

@@ -24,7 +24,7 @@ const LABELS: [&str; 4] = ["said by: ", "proved by: ", "edit: ", "test: "];
 /// The libraries of the Rattle kit that the page names functions of.
 const KIT: [&str; 3] = ["io", "libc", "os"];
 
-/// A sentence of document 01: its id, its words, and what the lines under it say.
+/// A sentence of document 01 or 02: its id, its words, and what the lines under it say.
 #[derive(Default)]
 struct Sentence {
     id: String,

@@ -1,4 +1,4 @@
--- Demand 2: the tests that compute and the calculus of document 000 agree. No contract cites this file.
+-- Demand 2: the tests that compute and the calculus agree. No contract cites this file.
 --     predicate-decides, predicates-decide     the test of a predicate, and of several, decides the formula
 --     tokens-iff                   the variables' formulas are true exactly if their lists hold their positions
 --     tuple-iff                    a tuple matches a pattern exactly if the open formula is true of it

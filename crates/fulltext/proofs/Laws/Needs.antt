@@ -177,10 +177,7 @@ module _ (ss ps : List ℕ) where
 
     -- of one variable it never holds
     pub proximity-never : (bound : ℕ) → a ≡ b → Needs ss (Proximity a b least most) ps b bound
-    proximity-never bound same qs n le e =
-        let f = fact-of ss (Proximity a b least most) qs e in
-        let q : at qs a ≡ at qs b = ap (at qs) same in
-        absurd (let z : ⊥ = omega (arith, f .1) in z)
+    proximity-never bound same qs n le e = omega (arith, ap (at qs) same, fact-of ss (Proximity a b least most) qs e .1)
 
 -- of each variable the lesser position
 abbrev pub meet : List ℕ → List ℕ → List ℕ
@@ -245,6 +242,11 @@ proximities ss ps a b = record {
       let g : at ps a < at ps b = ordered-of least most (fact-of ss (Proximity a b least most) ps e) in
       let h = fact-of ss (Proximity b a least′ most′) ps f in
       absurd (let z : ⊥ = omega (arith, h .1) in z);
+  itself = λ least most. decides.fails (holds-decides ss (Proximity a a least most) ps) (λ (f : Proximal least most (at ps a) (at ps a)). omega (arith, f .1));
+  farthest = λ least h.
+      one-test
+      (same-decides (holds-decides ss (Proximity a b least 65534) ps) (λ (f : Proximal least 65534 (at ps a) (at ps b)). (f .0, f .1, (f .2 .0, inl refl))) (no-farther least h))
+      (holds-decides ss (Proximity a b least noUpperEnd) ps);
 }
   where
     ordered-of : (least most : ℕ) → Proximal least most (at ps a) (at ps b) → at ps a < at ps b
@@ -252,6 +254,9 @@ proximities ss ps a b = record {
 
     distance-of : (least most : ℕ) → most ≢ noUpperEnd → Proximal least most (at ps a) (at ps b) → (at ps a ≤ at ps b + (most + 1)) × (at ps b ≤ at ps a + (most + 1))
     distance-of least most ends f = ⊎-elim (λ (e : most ≡ noUpperEnd). absurd (ends e)) (λ (h : f .0 ≤ most). (omega (arith, f .1), omega (arith, f .1))) (f .2 .1)
+
+    no-farther : (least : ℕ) → at ps b ≤ 65535 → Proximal least noUpperEnd (at ps a) (at ps b) → Proximal least 65534 (at ps a) (at ps b)
+    no-farther least h f = (f .0, f .1, (f .2 .0, inr (omega (arith, f .1))))
 
     phrase-of : Proximal 0 0 (at ps a) (at ps b) → at ps b ≡ at ps a + 1
     phrase-of f = ⊎-elim (λ (e : 0 ≡ noUpperEnd). absurd (let z : ⊥ = omega arith in z)) (λ (h : f .0 ≤ 0). omega (arith, f .1)) (f .2 .1)

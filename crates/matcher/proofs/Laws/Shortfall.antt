@@ -2,7 +2,7 @@
 --     distance-first, distance-second, ordered-second, ordered-alone     the variable that a predicate leaves short
 --     samepara-first, samepara-second, samepara-other, samepara-one, samepara-same
 --                                  by the start of the later position's paragraph
---     proximity-alone, proximity-behind, proximity-second, proximity-first
+--     proximity-alone, proximity-behind, proximity-second, proximity-first     by how far b stands behind a
 --     Spread                       the smallest and the largest of the first positions
 --     spread-first, spread-low, spread-high, spread-within, spread-least     it is kept from turn to turn
 --     window-short, window-kept    what it tells
@@ -29,6 +29,7 @@ use Rattle.plan.specs.State.{namesBelow}
 use Rattle.fulltext.specs.Positions.{limit}
 use Rattle.fulltext.specs.Calculus.{at}
 use Rattle.fulltext.specs.Matches.{holds}
+use Rattle.fulltext.specs.Inner.Bounds.{Needs}
 use Rattle.fulltext.specs.Inner.Paragraphs.{paraStart}
 use Rattle.matcher.specs.Inner.Shortfall.{InDocument, LeftShort}
 use Rattle.matcher.specs.declared.cursor.Document.{Document}
@@ -37,6 +38,10 @@ use Rattle.fulltext.proofs.Laws.Needs.{distance-needs-first, distance-needs-sec
 use Rattle.matcher.proofs.Laws.Paragraphs.{para-unparted, para-in}
 
 module _ (ss ps : List ℕ) (small : InDocument ps) where
+  -- a variable that needs 65,536 has no position left
+  none-left : (c : Predicate) (x : ℕ) → x < length ps → Needs ss c ps x limit → LeftShort ss c ps x limit
+  none-left c x h n = let m = small x h in record { there = h; before = omega arith; most = omega arith; needs = n }
+
   module _ (a b c : ℕ) (h : a < length ps) (k : b < length ps) where
     pub distance-first : at ps a + c + 1 < at ps b → LeftShort ss (Distance a b c) ps a (at ps b - (c + 1))
     distance-first l = let m = small b k in record { there = h; before = omega arith; most = omega arith; needs = distance-needs-first ss ps a b c }
@@ -47,13 +52,11 @@ module _ (ss ps : List ℕ) (small : InDocument ps) where
   module _ (a b least most : ℕ) (h : a < length ps) (k : b < length ps) where
     -- nothing is left for a variable beside itself
     pub proximity-alone : a ≡ b → LeftShort ss (Proximity a b least most) ps b limit
-    proximity-alone e = let m = small b k in record { there = k; before = omega arith; most = omega arith; needs = proximity-never ss ps a b least most limit e }
+    proximity-alone same = none-left (Proximity a b least most) b k (proximity-never ss ps a b least most limit same)
 
     -- nor behind the last position
     pub proximity-behind : 65535 < at ps a + least + 1 → LeftShort ss (Proximity a b least most) ps b limit
-    proximity-behind l =
-        let m = small b k in
-        record { there = k; before = omega arith; most = omega arith; needs = λ qs n le e. omega (arith, proximity-needs-second ss ps a b least most qs n le e) }
+    proximity-behind l = none-left (Proximity a b least most) b k (λ qs n le e. omega (arith, proximity-needs-second ss ps a b least most qs n le e))
 
     pub proximity-second : at ps b < at ps a + least + 1 → at ps a + least + 1 ≤ 65535 → LeftShort ss (Proximity a b least most) ps b (at ps a + least + 1)
     proximity-second l g = record { there = k; before = l; most = omega arith; needs = λ qs n le e. omega (arith, proximity-needs-second ss ps a b least most qs n le e) }
@@ -69,7 +72,7 @@ module _ (ss ps : List ℕ) (small : InDocument ps) where
     ordered-second l = let m = small a h in record { there = k; before = omega arith; most = omega arith; needs = ordered-needs ss ps a b }
 
     pub ordered-alone : a ≡ b → LeftShort ss (Ordered a b) ps b limit
-    ordered-alone same = let m = small b k in record { there = k; before = omega arith; most = omega arith; needs = ordered-never ss ps a b limit same }
+    ordered-alone same = none-left (Ordered a b) b k (ordered-never ss ps a b limit same)
 
     -- a stands in front of b, whose paragraph starts at r
     module _ (l : at ps a < at ps b) (r : ℕ) (e : r ≡ paraStart ss (at ps b)) where

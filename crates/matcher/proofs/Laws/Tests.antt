@@ -1,4 +1,4 @@
--- The call that tests positions and the calculus of document 000. No contract cites this file.
+-- The call that tests positions and the calculus. No contract cites this file.
 --     in-range     a position of which the formula is true is at most 65,535
 --     test-iff     the call says yes exactly if the pattern is true of the positions
 -- Assumes nothing.
