@@ -66,8 +66,7 @@ fn distance(positions: &[u32], a: usize, b: usize, limit: u32) -> Shortfall
     Shortfall::Holds
 }
 
-// BEFORE: whether a stands in front of b; if not, b is left short. Where a is b, it needs 65,536: no
-// position is left.
+// BEFORE: whether a stands in front of b; if not, b is left short.
 fn ordered(positions: &[u32], a: usize, b: usize) -> Shortfall
     requires { ⌜ InDocument (now positions) ⌝ }
     requires { ⌜ a < length (now positions) ⌝ }
@@ -77,9 +76,6 @@ fn ordered(positions: &[u32], a: usize, b: usize) -> Shortfall
     let first = positions[a];
     if first < positions[b] {
         return Shortfall::Holds;
-    }
-    if a == b {
-        return Shortfall::Short(b, Posting::POSITIONS);
     }
     Shortfall::Short(b, first + 1)
 }

@@ -2,7 +2,7 @@
 --     Fact, holds-decides          what a predicate says of positions; its test decides it
 --     distance-holds, ordered-holds, samepara-holds, window-holds, proximity-holds
 --                                  the test is true where this is so
---     distance-needs-first, distance-needs-second, ordered-needs, ordered-never, samepara-needs-first, samepara-needs-second, window-needs,
+--     distance-needs-first, distance-needs-second, ordered-needs, samepara-needs-first, samepara-needs-second, window-needs,
 --     proximity-needs-first, proximity-needs-second, proximity-never
 --                                  what a predicate needs of a variable
 --     meet, meet-at, length-meet   of each variable the lesser of two positions
@@ -142,10 +142,6 @@ module _ (ss ps : List ℕ) where
 
   pub ordered-needs : (a b : ℕ) → Needs ss (Ordered a b) ps b (at ps a + 1)
   ordered-needs a b qs n le e = omega (arith, le a, fact-of ss (Ordered a b) qs e)
-
-  -- no position stands in front of itself, so that any bound is needed
-  pub ordered-never : (a b p : ℕ) → a ≡ b → Needs ss (Ordered a b) ps b p
-  ordered-never a b p same qs n le e = omega (arith, ap (at qs) same, fact-of ss (Ordered a b) qs e)
 
   pub samepara-holds : (a b : ℕ) → ((s : ℕ) → In s ss → min (at ps a) (at ps b) < s → s ≤ max (at ps a) (at ps b) → ⊥) → holds ss (Samepara a b) ps ≡ true
   samepara-holds a b none = fact-holds ss (Samepara a b) ps (λ s i. alike (at ps a) (at ps b) s (λ w. none s i (w .0) (w .1)))

@@ -1,5 +1,5 @@
 -- What `src/predicates.rt` tells of each predicate, over plain positions. No contract cites this file.
---     distance-first, distance-second, ordered-second, ordered-alone     the variable that a predicate leaves short
+--     distance-first, distance-second, ordered-second     the variable that a predicate leaves short
 --     samepara-first, samepara-second, samepara-other, samepara-one, samepara-same
 --                                  by the start of the later position's paragraph
 --     proximity-alone, proximity-behind, proximity-second, proximity-first     by how far b stands behind a
@@ -34,7 +34,7 @@ use Rattle.fulltext.specs.Inner.Paragraphs.{paraStart}
 use Rattle.matcher.specs.Inner.Shortfall.{InDocument, LeftShort}
 use Rattle.matcher.specs.declared.cursor.Document.{Document}
 use Rattle.matcher.specs.Inner.Cursors.{AtDocument}
-use Rattle.fulltext.proofs.Laws.Needs.{distance-needs-first, distance-needs-second, ordered-needs, ordered-never, samepara-holds, samepara-needs-first, samepara-needs-second, window-holds, window-needs, proximity-needs-first, proximity-needs-second, proximity-never}
+use Rattle.fulltext.proofs.Laws.Needs.{distance-needs-first, distance-needs-second, ordered-needs, samepara-holds, samepara-needs-first, samepara-needs-second, window-holds, window-needs, proximity-needs-first, proximity-needs-second, proximity-never}
 use Rattle.matcher.proofs.Laws.Paragraphs.{para-unparted, para-in}
 
 module _ (ss ps : List ℕ) (small : InDocument ps) where
@@ -70,9 +70,6 @@ module _ (ss ps : List ℕ) (small : InDocument ps) where
   module _ (a b : ℕ) (h : a < length ps) (k : b < length ps) where
     pub ordered-second : at ps b ≤ at ps a → LeftShort ss (Ordered a b) ps b (at ps a + 1)
     ordered-second l = let m = small a h in record { there = k; before = omega arith; most = omega arith; needs = ordered-needs ss ps a b }
-
-    pub ordered-alone : a ≡ b → LeftShort ss (Ordered a b) ps b limit
-    ordered-alone same = none-left (Ordered a b) b k (ordered-never ss ps a b limit same)
 
     -- a stands in front of b, whose paragraph starts at r
     module _ (l : at ps a < at ps b) (r : ℕ) (e : r ≡ paraStart ss (at ps b)) where

@@ -2,7 +2,7 @@
 use native.Mathlib.Omega.{arith}
 use denote.Ref.{now}
 use Rattle.fulltext.proofs.Laws.Needs.{ordered-holds}
-use Rattle.matcher.proofs.Laws.Shortfall.{ordered-second, ordered-alone}
+use Rattle.matcher.proofs.Laws.Shortfall.{ordered-second}
 use Rattle.matcher.proofs.predicates.ordered.Statement.{statement}
 use Rattle.matcher.proofs.predicates.ordered.Tie as tie
 
@@ -21,17 +21,11 @@ shared-slice-read-if1 c = omega arith
 returns : tie.Need-returns
 returns c = let s = c .before .before .before in let a = s .args in λ ss. ordered-holds ss (now (a .positions)) (a .a) (a .b) (c .if1 .taken)
 
-returns-2 : tie.Need-returns-2
-returns-2 c = let s = c .before .before .before .before in let a = s .args in λ ss. ordered-alone ss (now (a .positions)) (s .pre .0) (a .a) (a .b) (s .pre .1 .0) (s .pre .1 .1) (c .if2 .taken)
-
 add-t7 : tie.Need-add-t7
-add-t7 c = let s = c .before .before .before .before in let a = s .args in let m = s .pre .0 (a .a) (s .pre .1 .0) in omega arith
+add-t7 c = let s = c .before .before .before in let a = s .args in let m = s .pre .0 (a .a) (s .pre .1 .0) in omega arith
 
-returns-3 : tie.Need-returns-3
-returns-3 c =
-    let s = c .before .before .before .before in
-    let a = s .args in
-    λ ss. ordered-second ss (now (a .positions)) (s .pre .0) (a .a) (a .b) (s .pre .1 .0) (s .pre .1 .1) (c .before .if1 .left)
+returns-2 : tie.Need-returns-2
+returns-2 c = let s = c .before .before .before in let a = s .args in λ ss. ordered-second ss (now (a .positions)) (s .pre .0) (a .a) (a .b) (s .pre .1 .0) (s .pre .1 .1) (c .if1 .left)
 
 pub ordered-spec : {M : Type 1} → statement M
 ordered-spec =
@@ -42,6 +36,5 @@ ordered-spec =
     mul-if1
     shared-slice-read-if1
     returns
-    returns-2
     add-t7
-    returns-3)
+    returns-2)
