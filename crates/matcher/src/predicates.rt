@@ -141,25 +141,23 @@ fn window(positions: &[u32], limit: u32) -> Shortfall
 // them; if not, b is left short where it is too near, and a where b is too far. Where a is b, or b
 // would have to stand behind the last position, b needs 65,536: no position is left. No position is
 // too far for a `most` of 65,535.
-fn proximity(positions: &[u32], a: usize, b: usize, least: u32, most: u32) -> Shortfall
+fn proximity(positions: &[u32], a: usize, b: usize, least: u16, most: u16) -> Shortfall
     requires { ⌜ InDocument (now positions) ⌝ }
     requires { ⌜ a < length (now positions) ⌝ }
     requires { ⌜ b < length (now positions) ⌝ }
-    requires { ⌜ least ≤ 65535 ⌝ }
-    requires { ⌜ most ≤ 65535 ⌝ }
     ensures { λ r. ⌜ ((ss : List ℕ) → Told ss (Proximity a b least most) (now (positions .entry)) r) ⌝ }
 {
     let first = positions[a];
     let second = positions[b];
-    let nearest = first + least + 1;
+    let nearest = first + least as u32 + 1;
     if second < nearest {
         if a == b || Posting::LAST_POS < nearest {
             return Shortfall::Short(b, Posting::POSITIONS);
         }
         return Shortfall::Short(b, nearest);
     }
-    if first + most + 1 < second {
-        return Shortfall::Short(a, second - (most + 1));
+    if first + most as u32 + 1 < second {
+        return Shortfall::Short(a, second - (most as u32 + 1));
     }
     Shortfall::Holds
 }

@@ -33,8 +33,8 @@ pub enum Predicate {
     Proximity {
         a: u32,
         b: u32,
-        least: u32,
-        most: u32,
+        least: u16,
+        most: u16,
     },
 }
 
@@ -94,8 +94,8 @@ pub fn row_of(kind: u32, a: u32, b: u32, c: u32) -> Row
             kind: Kind::Condition(Predicate::Proximity {
                 a,
                 b,
-                least: c / LEAST_UNIT,
-                most: c % LEAST_UNIT,
+                least: (c / LEAST_UNIT) as u16,
+                most: (c % LEAST_UNIT) as u16,
             }),
         },
     }

@@ -212,8 +212,5 @@ module _ {v : List ℕ} {doc : Document} {n : ℕ} (ps : List ℕ) (p : Predicat
   pub window-asked : {c : ℕ} → p ≡ Window c → InDocument (take n ps) × ((1 ≤ length (take n ps)) × ((1 ≤ c) × (c ≤ 65536)))
   window-asked {c} e = let q = size in let h = asked .1 .1 .0 in (in-document, (omega arith, range (Window c) e))
 
-  pub proximity-asked : {a b least most : ℕ} → p ≡ Proximity a b least most → InDocument (take n ps) × ((a < length (take n ps)) × ((b < length (take n ps)) × ((least ≤ 65535) × (most ≤ 65535))))
-  proximity-asked {a} {b} {least} {most} e =
-      let w = named a b (names (Proximity a b least most) e) in
-      let r = range (Proximity a b least most) e in
-      (in-document, (w .0, (w .1, (omega arith, r .1))))
+  pub proximity-asked : {a b least most : ℕ} → p ≡ Proximity a b least most → InDocument (take n ps) × ((a < length (take n ps)) × (b < length (take n ps)))
+  proximity-asked {a} {b} {least} {most} e = let w = named a b (names (Proximity a b least most) e) in (in-document, (w .0, w .1))

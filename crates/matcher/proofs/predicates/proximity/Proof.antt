@@ -32,15 +32,15 @@ returns c =
     let a = s .args in
     λ ss.
     ⊎-elim
-    (λ x. proximity-alone ss (now (a .positions)) (s .pre .0) (a .a) (a .b) (a .least) (a .most) (s .pre .1 .0) (s .pre .1 .1 .0) (x .taken))
-    (λ x. proximity-behind ss (now (a .positions)) (s .pre .0) (a .a) (a .b) (a .least) (a .most) (s .pre .1 .0) (s .pre .1 .1 .0) (ltb-true _ _ (x .1 .taken)))
+    (λ x. proximity-alone ss (now (a .positions)) (s .pre .0) (a .a) (a .b) (a .least) (a .most) (s .pre .1 .0) (s .pre .1 .1) (x .taken))
+    (λ x. proximity-behind ss (now (a .positions)) (s .pre .0) (a .a) (a .b) (a .least) (a .most) (s .pre .1 .0) (s .pre .1 .1) (ltb-true _ _ (x .1 .taken)))
     (c .if2 .came)
 
 returns-2 : tie.Need-returns-2
 returns-2 c =
     let s = c .before .before .before .before .before in
     let a = s .args in
-    λ ss. proximity-second ss (now (a .positions)) (s .pre .0) (a .a) (a .b) (a .least) (a .most) (s .pre .1 .0) (s .pre .1 .1 .0) (omega arith) (ltb-false _ _ (c .if3 .left))
+    λ ss. proximity-second ss (now (a .positions)) (s .pre .0) (a .a) (a .b) (a .least) (a .most) (s .pre .1 .0) (s .pre .1 .1) (omega arith) (ltb-false _ _ (c .if3 .left))
 
 add-if4 : tie.Need-add-if4
 add-if4 c = let s = c .before .before .before in let a = s .args in let m = s .pre .0 (a .a) (s .pre .1 .0) in omega arith
@@ -48,17 +48,17 @@ add-if4 c = let s = c .before .before .before in let a = s .args in let m = s .p
 add-if4-2 : tie.Need-add-if4-2
 add-if4-2 c = let s = c .before .before .before in let a = s .args in let m = s .pre .0 (a .a) (s .pre .1 .0) in omega arith
 
-add-t17 : tie.Need-add-t17
-add-t17 c = omega arith
+add-t19 : tie.Need-add-t19
+add-t19 c = omega arith
 
-sub-t18 : tie.Need-sub-t18
-sub-t18 c = omega arith
+sub-t20 : tie.Need-sub-t20
+sub-t20 c = omega arith
 
 returns-3 : tie.Need-returns-3
 returns-3 c =
     let s = c .before .before .before .before in
     let a = s .args in
-    λ ss. proximity-first ss (now (a .positions)) (s .pre .0) (a .a) (a .b) (a .least) (a .most) (s .pre .1 .0) (s .pre .1 .1 .0) (omega arith)
+    λ ss. proximity-first ss (now (a .positions)) (s .pre .0) (a .a) (a .b) (a .least) (a .most) (s .pre .1 .0) (s .pre .1 .1) (omega arith)
 
 returns-4 : tie.Need-returns-4
 returns-4 c =
@@ -79,7 +79,7 @@ proximity-spec =
     returns-2
     add-if4
     add-if4-2
-    add-t17
-    sub-t18
+    add-t19
+    sub-t20
     returns-3
     returns-4)

@@ -1,4 +1,5 @@
 -- `row::row_of` meets its contract: one arm for each kind; the last one is left for kind 10. Assumes nothing.
+use borrow.Author.Needs.{needs}
 use native.Mathlib.Omega.{arith}
 use Prim.Native.Nat.{ℕ, _+_, _≤_}
 use mathlib.Core.Path.{_≡_}
@@ -8,6 +9,12 @@ use Rattle.plan.proofs.row.row_of.Tie as tie
 -- a bound and a number that it does not reach
 up : {n k : ℕ} → n ≤ k → (k ≡ n → ⊥) → n + 1 ≤ k
 up h e = omega arith
+
+cast-t23 : tie.Need-cast-t23
+cast-t23 c = search needs
+
+cast-t25 : tie.Need-cast-t25
+cast-t25 c = search needs
 
 returns : tie.Need-returns
 returns c = simp (c .match .keys1)
@@ -48,6 +55,8 @@ pub row-of-spec : {M : Type 1} → statement M
 row-of-spec =
     tie.close
     (tie.spec
+    cast-t23
+    cast-t25
     returns
     returns-2
     returns-3
