@@ -134,9 +134,9 @@ extern "C" {
 #define LHZ_FIRST_NOT_SECOND 9
 #define LHZ_APART 10
 
-/* The c of an APART row, of two limits: at least so many positions between the two variables, and at
- * most so many. 0 and 0 make a phrase. Each limit must be from 0 to 65,535: a larger one changes the
- * other, and no check can tell. */
+/* The c of an APART row, of two limits: at least so many positions between the two variables, and
+ * at most so many. 0 and 0 make a phrase. Each limit must be from 0 to 65,535: a larger one makes
+ * the c of other limits, which may be in order. */
 #define LHZ_APART_LIMITS(least, most) ((uint32_t)(least) * 65536u + (uint32_t)(most))
 #define LHZ_NO_UPPER_END 65535 /* the `most` that sets no upper end */
 
