@@ -3,7 +3,7 @@
 -- Where 000 gives a position one token, here two lists may hold one position. ∃ ranges over all numbers: `hasPos` stands inside it and
 -- says that the number is a position of the document. Left out of 000: ∀, which is ¬ ∃ ¬, and SearchContext, since a formula here is about
 -- one document. Assumes nothing.
-use Prim.Native.Nat.{ℕ, zero, suc, _+_, _-_, _*_, _<_, _≤_}
+use Prim.Native.Nat.{ℕ, zero, suc, _+_, _-_, _<_, _≤_}
 use mathlib.Core.Path.{_≡_}
 use mathlib.Core.Logic.{_⊎_}
 use mathlib.Core.List.{List, [], _∷_, _++_}
@@ -31,7 +31,7 @@ pub data Formula : Type 0 where
   distance : ℕ → ℕ → ℕ → Formula
   -- variable x stands before variable y
   ordered : ℕ → ℕ → Formula
-  -- variables x and y stand in one paragraph
+  -- variables x and y stand in one paragraph (01: title)
   samepara : ℕ → ℕ → Formula
   -- the first n variables stand within c positions
   window : ℕ → ℕ → Formula
@@ -57,13 +57,21 @@ Holds d p l = (p < limit) × In (postingOf d p .bits) l
 abbrev pub HasPos : List (List ℕ) → ℕ → ℕ → Type 0
 HasPos lists d p = (l : ℕ) × (1 ≤ l) × (l < length lists) × Holds d p (listOf lists l)
 
--- a paragraph (01: title) starts at position s of document d
+-- a paragraph starts at position s of document d
 abbrev pub Starts : List (List ℕ) → ℕ → ℕ → Type 0
 Starts lists d s = Holds d s (listOf lists 0)
+
+-- a position stands in a paragraph: one starts at it or in front of it. Before the document's first start there is none (02, N3)
+abbrev pub InPara : List (List ℕ) → ℕ → ℕ → Type 0
+InPara lists d p = (s : ℕ) × Starts lists d s × (s ≤ p)
 
 -- no start s lies between two positions: p < s ≤ q
 abbrev pub NoStart : List (List ℕ) → ℕ → ℕ → ℕ → Type 0
 NoStart lists d p q = (s : ℕ) → Starts lists d s → p < s → s ≤ q → ⊥
+
+-- two positions stand in one paragraph: each stands in a paragraph, and no start parts them, whichever is the smaller
+abbrev pub OnePara : List (List ℕ) → ℕ → ℕ → ℕ → Type 0
+OnePara lists d p q = (InPara lists d p × InPara lists d q) × (NoStart lists d p q × NoStart lists d q p)
 
 -- n is in the interval from least to most; a most of 65,535 sets no upper end, as ∞ does in document 004
 abbrev pub Within : ℕ → ℕ → ℕ → Type 0
@@ -81,7 +89,7 @@ True lists d (hasPos x) ps = HasPos lists d (at ps x)
 True lists d (hasAsToken x l) ps = Holds d (at ps x) (listOf lists l)
 True lists d (distance x y c) ps = (at ps x ≤ at ps y + (c + 1)) × (at ps y ≤ at ps x + (c + 1))
 True lists d (ordered x y) ps = at ps x < at ps y
-True lists d (samepara x y) ps = NoStart lists d (at ps x) (at ps y) × NoStart lists d (at ps y) (at ps x)
+True lists d (samepara x y) ps = OnePara lists d (at ps x) (at ps y)
 True lists d (window n c) ps = (x y : ℕ) → x < n → y < n → at ps x ≤ at ps y + (c - 1)
 True lists d (proximity x y least most) ps = Proximal least most (at ps x) (at ps y)
 True lists d truth ps = Unit

@@ -1,19 +1,20 @@
 -- The statements that the crate is held to, each a named type. `proofs/Demands.antt` proves each in a line. Assumes nothing.
 --     Demand2        demand 2 for patterns and plans: the tests that compute and the calculus agree
+--     SameparaIs     what SAME TITLE is before a document's first start (02, N3), and behind it
 --     ProximityIs    what APART (02, N2) is beside BEFORE and NEAR, as a phrase, of one variable and the other way round
-use Prim.Native.Nat.{ℕ, _+_, _≤_}
+use Prim.Native.Nat.{ℕ, _+_, min, max, _<_, _≤_}
 use mathlib.Core.Path.{_≡_}
 use mathlib.Core.Bool.{true, false}
 use mathlib.Core.Logic.{_↔_, _≢_}
 use mathlib.Core.List.{List, []}
 use lib.ListN.{length}
 use Rattle.volume.specs.Layout.{listsOf}
-use Rattle.plan.specs.declared.row.Predicate.the-variants.{Distance, Ordered, Proximity}
+use Rattle.plan.specs.declared.row.Predicate.the-variants.{Distance, Ordered, Samepara, Proximity}
 use Rattle.plan.specs.Limits.{noUpperEnd}
 use Rattle.plan.specs.Rows.{rowsOf}
 use Rattle.plan.specs.Check.{Accepted}
 use Rattle.plan.specs.Accepted.{patternAt}
-use Rattle.fulltext.specs.Calculus.{at, True, openFormula, patternFormula, planFormula}
+use Rattle.fulltext.specs.Calculus.{at, In, True, openFormula, patternFormula, planFormula}
 use Rattle.fulltext.specs.Matches.{holds, matchesAt}
 use Rattle.fulltext.specs.Documents.{found, matching}
 
@@ -32,6 +33,27 @@ pub record Agrees (v p : List ℕ) : Type 0 where
 -- Demand 2, patterns and plans; the call that tests positions is in the crate `matcher`
 unfoldable pub Demand2 : Type 0
 Demand2 = (v p : List ℕ) → Accepted v p → Agrees v p
+
+-- SAME TITLE of variables a and b, of any positions, in a document with any starts
+pub record Sameparas (starts ps : List ℕ) (a b : ℕ) : Type 0 where
+  -- it is false if either stands before every start
+  pub beforeFirst : ((s : ℕ) → In s starts → at ps a < s) → holds starts (Samepara a b) ps ≡ false
+  pub beforeSecond : ((s : ℕ) → In s starts → at ps b < s) → holds starts (Samepara a b) ps ≡ false
+  -- in a document without starts it is false
+  pub noStarts : holds [] (Samepara a b) ps ≡ false
+  -- at one position, so also where a is b, it asks for a start that is not above it, and for nothing else
+  pub onePosition : at ps a ≡ at ps b → (holds starts (Samepara a b) ps ≡ true) ↔ ((s : ℕ) × In s starts × (s ≤ at ps a))
+  -- where a start is not above either, it is document 01's sentence: no start s has smaller < s ≤ larger
+  pub begun : (s : ℕ) → In s starts → s ≤ at ps a → s ≤ at ps b
+      → (holds starts (Samepara a b) ps ≡ true)
+      ↔ ((t : ℕ) → In t starts → min (at ps a) (at ps b) < t → t ≤ max (at ps a) (at ps b) → ⊥)
+  -- whichever is named first; and where it holds of a and b and of b and c, it holds of a and c
+  pub turned : holds starts (Samepara a b) ps ≡ holds starts (Samepara b a) ps
+  pub onward : (c : ℕ)
+      → holds starts (Samepara a b) ps ≡ true → holds starts (Samepara b c) ps ≡ true → holds starts (Samepara a c) ps ≡ true
+
+unfoldable pub SameparaIs : Type 0
+SameparaIs = (starts ps : List ℕ) (a b : ℕ) → Sameparas starts ps a b
 
 -- APART of variables a and b, of any positions, in a document with any starts
 pub record Proximities (starts ps : List ℕ) (a b : ℕ) : Type 0 where

@@ -6,7 +6,7 @@ use mathlib.Core.Bool.{Bool, true, false, not, _&&_, _||_}
 use mathlib.Core.List.{List, [], _∷_, _++_, map}
 use mathlib.Core.Option.{Option}
 use lib.Dec.{eqb, leb, ltb}
-use Rattle.seq.specs.Lists.{keep, all, elem, first}
+use Rattle.seq.specs.Lists.{keep, all, any, elem, first}
 use Rattle.plan.specs.declared.row.Predicate.{Predicate}
 use Rattle.plan.specs.declared.row.Predicate.the-variants.{Distance, Ordered, Samepara, Window, Proximity}
 use Rattle.plan.specs.Limits.{noUpperEnd}
@@ -34,9 +34,13 @@ smallest (p ∷ ps) = smallestOf p ps
 abbrev pub separates : ℕ → ℕ → ℕ → Bool
 separates p q s = ltb (min p q) s && leb s (max p q)
 
--- no start separates them
+-- a position stands in a paragraph: some start is not above it
+abbrev pub inPara : List ℕ → ℕ → Bool
+inPara starts p = any (λ s. leb s p) starts
+
+-- two positions stand in one paragraph: both stand in a paragraph, and no start separates them
 abbrev pub together : List ℕ → ℕ → ℕ → Bool
-together starts p q = all (λ s. not (separates p q s)) starts
+together starts p q = (inPara starts p && inPara starts q) && all (λ s. not (separates p q s)) starts
 
 -- a number is between least and most, both counted in; a most of 65,535 sets no upper end
 abbrev pub within : ℕ → ℕ → ℕ → Bool
@@ -44,7 +48,7 @@ within least most n = leb least n && (eqb most noUpperEnd || leb n most)
 
 -- a predicate (01: condition) holds of the variables' positions, in a document with these starts
 unfoldable pub holds : List ℕ → Predicate → List ℕ → Bool
-unfolding all
+unfolding any all
 holds starts (Distance a b c) ps = leb (difference (at ps a) (at ps b)) (c + 1)
 holds starts (Ordered a b) ps = ltb (at ps a) (at ps b)
 holds starts (Samepara a b) ps = together starts (at ps a) (at ps b)

@@ -1,7 +1,8 @@
 -- The laws of `specs/`. No contract cites these files.
 --     Volume        the lists of an accepted volume as stretches of its stream
 --     Cursors       where cursors stand, and how they move
---     Paragraphs    the start of a position's paragraph
+--     Paragraphs    the start of a position's paragraph, the first start, and the start that SAME TITLE needs
+--     Starts        the first two, by a cursor on list 0
 --     Shortfall     what each predicate tells of the positions
 --     Placed        the list of each variable of a plan, and a cursor for each
 --     Settling      how a pattern's variables come to its least match
@@ -15,6 +16,7 @@
 pub mod Volume
 pub mod Cursors
 pub mod Paragraphs
+pub mod Starts
 pub mod Shortfall
 pub mod Placed
 pub mod Settling

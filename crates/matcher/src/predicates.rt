@@ -11,7 +11,7 @@ ghost use Rattle.plan.specs.Rows.{InRange};
 ghost use Rattle.plan.specs.declared.row.Predicate.the-variants.{Distance, Ordered, Samepara, Window, Proximity};
 ghost use Rattle.plan.specs.declared.row.Kind.the-variants as kind;
 ghost use Rattle.fulltext.specs.Matches.{startsIn};
-ghost use Rattle.fulltext.specs.Inner.Paragraphs.{paraStart};
+ghost use Rattle.fulltext.specs.Inner.Paragraphs.{paraStart, firstStart, neededStart};
 ghost use Rattle.matcher.specs.Inner.Shortfall.{InDocument, Told};
 ghost use Rattle.matcher.specs.Inner.Cursors.{AtDocument};
 use super::cursor::Document;
@@ -47,6 +47,42 @@ fn para_start(volume: &[u8], document: Document, pos: u32) -> u32
     last.pos()
 }
 
+// The first start in the document; 65,536 where there is none.
+fn first_start(volume: &[u8], document: Document) -> u32
+    requires { ⌜ Accepted (now volume) ⌝ }
+    requires { ⌜ AtDocument (now volume) document ⌝ }
+    ensures { λ r. ⌜ r ≡ firstStart (startsIn (listsOf (now (volume .entry))) (document .doc)) ⌝ }
+{
+    let doc = document.doc;
+    let starts = document.starts;
+    let first = starts.seek(volume, doc);
+    let at = first.at;
+    if at == starts.end {
+        return Posting::POSITIONS;
+    }
+    let posting = volume::posting_at(volume, at);
+    if posting.doc() != doc {
+        return Posting::POSITIONS;
+    }
+    posting.pos()
+}
+
+// The start that a position needs at least to stand in one paragraph with `pos`, which is larger:
+// that of the paragraph of `pos`; where `pos` stands in none, the first start in the document;
+// 65,536 where there is none.
+fn needed_start(volume: &[u8], document: Document, pos: u32) -> u32
+    requires { ⌜ Accepted (now volume) ⌝ }
+    requires { ⌜ AtDocument (now volume) document ⌝ }
+    requires { ⌜ pos ≤ 65535 ⌝ }
+    ensures { λ r. ⌜ r ≡ neededStart (startsIn (listsOf (now (volume .entry))) (document .doc)) pos ⌝ }
+{
+    let start = para_start(volume, document, pos);
+    if start == Posting::POSITIONS {
+        return first_start(volume, document);
+    }
+    start
+}
+
 // NEAR: whether at most `limit` positions lie between a and b; if not, the earlier one is left short.
 fn distance(positions: &[u32], a: usize, b: usize, limit: u32) -> Shortfall
     requires { ⌜ InDocument (now positions) ⌝ }
@@ -80,7 +116,10 @@ fn ordered(positions: &[u32], a: usize, b: usize) -> Shortfall
     Shortfall::Short(b, first + 1)
 }
 
-// SAME TITLE: whether a and b stand in one paragraph; if not, the earlier one is left short.
+// SAME TITLE: whether a and b stand in one paragraph; if not, the earlier one is left short, or b
+// where both stand at one position. Before the document's first start no position stands in a
+// paragraph, so that it can fail also at one position, and where a is b. There the first start is
+// asked for, and no paragraph.
 fn samepara(volume: &[u8], document: Document, positions: &[u32], a: usize, b: usize) -> Shortfall
     requires { ⌜ Accepted (now volume) ⌝ }
     requires { ⌜ AtDocument (now volume) document ⌝ }
@@ -92,17 +131,22 @@ fn samepara(volume: &[u8], document: Document, positions: &[u32], a: usize, b: u
     let first = positions[a];
     let second = positions[b];
     if first < second {
-        let start = para_start(volume, document, second);
-        if first < start && start <= second {
+        let start = needed_start(volume, document, second);
+        if first < start {
             return Shortfall::Short(a, start);
         }
         return Shortfall::Holds;
     }
     if second < first {
-        let start = para_start(volume, document, first);
-        if second < start && start <= first {
+        let start = needed_start(volume, document, first);
+        if second < start {
             return Shortfall::Short(b, start);
         }
+        return Shortfall::Holds;
+    }
+    let begin = first_start(volume, document);
+    if first < begin {
+        return Shortfall::Short(b, begin);
     }
     Shortfall::Holds
 }

@@ -1,4 +1,4 @@
--- Words for lists: the elements that pass a test, whether all do, sums and joins over a list, its elements, and lists that rise.
+-- Words for lists: the elements that pass a test, whether all or some do, sums and joins over a list, its elements, and lists that rise.
 -- Assumes nothing.
 use Prim.Native.Nat.{ℕ, _+_, _<_, _≤_}
 use mathlib.Core.Bool.{Bool, true, false, _&&_, _||_}
@@ -22,6 +22,11 @@ module _ {A : Type 0} where
   unfoldable pub all : (A → Bool) → List A → Bool
   all test [] = true
   all test (x ∷ xs) = test x && all test xs
+
+  -- some element passes
+  unfoldable pub any : (A → Bool) → List A → Bool
+  any test [] = false
+  any test (x ∷ xs) = test x || any test xs
 
   -- f's numbers, added up
   unfoldable pub total : (A → ℕ) → List A → ℕ

@@ -35,39 +35,51 @@ use Rattle.plan.specs.Check as plan
 use Rattle.plan.specs.Accepted.{patternAt}
 use Rattle.plan.proofs.Laws.Accepted.{given}
 use Rattle.fulltext.specs.Positions.{listOf}
-use Rattle.fulltext.specs.Calculus.{Formula, truth, conj, disj, neg, at, In, Holds, HasPos, Starts, NoStart, True, each, tokens, predicateOf, predicatesOf, openFormula, bound, patternFormula, joinTwo, join, formulasAfter, formulasFrom, planFormula}
+use Rattle.fulltext.specs.Calculus.{Formula, truth, conj, disj, neg, at, In, Holds, HasPos, Starts, InPara, OnePara, True, each, tokens, predicateOf, predicatesOf, openFormula, bound, patternFormula, joinTwo, join, formulasAfter, formulasFrom, planFormula}
 use Rattle.fulltext.specs.Matches.{holds, allHold, fits, startsIn, varsIn, matchesAt}
 use Rattle.fulltext.specs.Documents.{found, matching}
 use Rattle.fulltext.specs.Demands.{Agrees}
-use Rattle.fulltext.proofs.Laws.Positions.{in-none, elem-decides, positions-hold, lists-rise}
-use Rattle.fulltext.proofs.Laws.Needs.{holds-decides}
+use Rattle.fulltext.proofs.Laws.Positions.{in-none, in-positions, positions-in, lists-rise}
+use Rattle.fulltext.proofs.Laws.Needs.{Begun, Together, holds-decides}
 use Rattle.fulltext.proofs.Laws.Least.{fits-iff, found-iff}
 
 module _ (lists : List (List ℕ)) (d : ℕ) where
   -- a start of the document, in its list of starts
   starts-in : (s : ℕ) → Starts lists d s → In s (startsIn lists d)
-  starts-in s h = elem-decides s (startsIn lists d) .yes (decides.holds (positions-hold d s (listOf lists 0)) h)
+  starts-in s = in-positions d s (listOf lists 0)
 
   in-starts : (s : ℕ) → In s (startsIn lists d) → Starts lists d s
-  in-starts s h = positions-hold d s (listOf lists 0) .yes (decides.holds (elem-decides s (startsIn lists d)) h)
+  in-starts s = positions-in d s (listOf lists 0)
 
-  -- no start stands between two positions, either way round: each stands at or in front of both or of neither
-  unparted : (p q : ℕ) → ((s : ℕ) → In s (startsIn lists d) → (s ≤ p) ↔ (s ≤ q)) → NoStart lists d p q × NoStart lists d q p
-  unparted p q h = (
-    λ s i l k. omega (arith, h s (starts-in s i) .1 k),
-    λ s i l k. omega (arith, h s (starts-in s i) .0 k),
+  begun : (p : ℕ) → Begun (startsIn lists d) p → InPara lists d p
+  begun p w = (w .0, in-starts (w .0) (w .1), w .2)
+
+  in-para : (p : ℕ) → InPara lists d p → Begun (startsIn lists d) p
+  in-para p w = (w .0, starts-in (w .0) (w .1), w .2)
+
+  -- two positions in one paragraph, by the starts of the volume's list 0 and by those of the document
+  same-para : (p q : ℕ) → Together (startsIn lists d) p q → OnePara lists d p q
+  same-para p q h = (
+    (begun p (h .0 .0), begun q (h .0 .1)),
+    (
+      λ s i l k. omega (arith, h .1 s (starts-in s i) .1 k),
+      λ s i l k. omega (arith, h .1 s (starts-in s i) .0 k),
+    ),
   )
 
-  alike : (p q : ℕ) → NoStart lists d p q × NoStart lists d q p → (s : ℕ) → In s (startsIn lists d) → (s ≤ p) ↔ (s ≤ q)
-  alike p q n s i = (
-    λ h. ⊎-elim (λ (l : q < s). absurd (n .1 s (in-starts s i) l h)) (λ l. l) (below-or q s),
-    λ h. ⊎-elim (λ (l : p < s). absurd (n .0 s (in-starts s i) l h)) (λ l. l) (below-or p s),
+  together : (p q : ℕ) → OnePara lists d p q → Together (startsIn lists d) p q
+  together p q h = (
+    (in-para p (h .0 .0), in-para q (h .0 .1)),
+    λ s i. (
+      λ k. ⊎-elim (λ (l : q < s). absurd (h .1 .1 s (in-starts s i) l k)) (λ l. l) (below-or q s),
+      λ k. ⊎-elim (λ (l : p < s). absurd (h .1 .0 s (in-starts s i) l k)) (λ l. l) (below-or p s),
+    ),
   )
 
   predicate-decides : (c : Predicate) (ps : List ℕ) → Decides (holds (startsIn lists d) c ps) (True lists d (predicateOf (length ps) c) ps)
   predicate-decides (Distance a b c) ps = holds-decides (startsIn lists d) (Distance a b c) ps
   predicate-decides (Ordered a b) ps = holds-decides (startsIn lists d) (Ordered a b) ps
-  predicate-decides (Samepara a b) ps = same-decides (holds-decides (startsIn lists d) (Samepara a b) ps) (unparted (at ps a) (at ps b)) (alike (at ps a) (at ps b))
+  predicate-decides (Samepara a b) ps = same-decides (holds-decides (startsIn lists d) (Samepara a b) ps) (same-para (at ps a) (at ps b)) (together (at ps a) (at ps b))
   predicate-decides (Window c) ps = holds-decides (startsIn lists d) (Window c) ps
   predicate-decides (Proximity a b least most) ps = holds-decides (startsIn lists d) (Proximity a b least most) ps
 

@@ -1,22 +1,27 @@
 -- What each predicate says and needs. No other law knows the predicates' tests, and no contract cites this file.
+--     Begun, Together              a position that stands in a paragraph, and two that stand in one
 --     Fact, holds-decides          what a predicate says of positions; its test decides it
+--     at-largest, smallest-at      positions lie between the smallest and the largest
 --     distance-holds, ordered-holds, samepara-holds, window-holds, proximity-holds
 --                                  the test is true where this is so
---     distance-needs-first, distance-needs-second, ordered-needs, samepara-needs-first, samepara-needs-second, window-needs,
+--     distance-needs-first, distance-needs-second, ordered-needs, samepara-needs, samepara-needs-start, window-needs,
 --     proximity-needs-first, proximity-needs-second, proximity-never
 --                                  what a predicate needs of a variable
+--     samepara-turned              SAME TITLE of a and b is that of b and a
 --     meet, meet-at, length-meet   of each variable the lesser of two positions
 --     holds-meet                   a predicate that holds of two tuples holds of their meet
+--     sameparas                    what SAME TITLE is before the first start, and behind it
 --     proximities                  what APART is beside the other predicates
 -- Assumes nothing.
 use Prim.Native.Nat.{ℕ, zero, suc, _+_, _-_, min, max, _<_, _≤_}
 use native.Mathlib.Omega.{arith}
 use mathlib.Core.Path.{_≡_, refl, ap, subst}
 use mathlib.Core.Bool.{true, not, _&&_}
-use mathlib.Core.Logic.{_⊎_, inl, inr, ⊎-elim, _↔_, _≢_}
+use mathlib.Core.Logic.{inl, inr, ⊎-elim, _↔_, _≢_}
 use mathlib.Core.List.{List, [], _∷_}
 use lib.ListN.{length, getD}
 use lib.Dec.{leb, ltb}
+use Rattle.seq.specs.Lists.{all}
 use Rattle.seq.proofs.Laws.Tests.{below-or, contrary}
 use Rattle.seq.proofs.Laws.Decides as decides
 use Rattle.seq.proofs.Laws.Decides.{Decides, eqb-decides, leb-decides, ltb-decides, not-decides, and-decides, or-decides, same-decides, one-test}
@@ -25,15 +30,28 @@ use Rattle.plan.specs.declared.row.Predicate.{Predicate}
 use Rattle.plan.specs.declared.row.Predicate.the-variants.{Distance, Ordered, Samepara, Window, Proximity}
 use Rattle.plan.specs.Limits.{noUpperEnd}
 use Rattle.fulltext.specs.Calculus.{at, In, Within, Proximal}
-use Rattle.fulltext.specs.Matches.{difference, largest, smallestOf, smallest, separates, together, within, holds}
+use Rattle.fulltext.specs.Matches.{difference, largest, smallestOf, smallest, separates, inPara, together, within, holds}
 use Rattle.fulltext.specs.Inner.Bounds.{Needs}
-use Rattle.fulltext.specs.Demands.{Proximities}
+use Rattle.fulltext.specs.Demands.{Sameparas, Proximities}
+use Rattle.fulltext.proofs.Laws.Positions.{in-none, any-decides}
+
+-- a position stands in a paragraph: some start is not above it
+abbrev pub Begun : List ℕ → ℕ → Type 0
+Begun ss p = (s : ℕ) × In s ss × (s ≤ p)
+
+-- each start stands at or in front of both positions or of neither
+abbrev Unparted : List ℕ → ℕ → ℕ → Type 0
+Unparted ss p q = (s : ℕ) → In s ss → (s ≤ p) ↔ (s ≤ q)
+
+-- two positions stand in one paragraph
+abbrev pub Together : List ℕ → ℕ → ℕ → Type 0
+Together ss p q = (Begun ss p × Begun ss q) × Unparted ss p q
 
 -- what a predicate says of the variables' positions, in a document with these starts
 abbrev pub Fact : List ℕ → Predicate → List ℕ → Type 0
 Fact ss (Distance a b c) ps = (at ps a ≤ at ps b + (c + 1)) × (at ps b ≤ at ps a + (c + 1))
 Fact ss (Ordered a b) ps = at ps a < at ps b
-Fact ss (Samepara a b) ps = (s : ℕ) → In s ss → (s ≤ at ps a) ↔ (s ≤ at ps b)
+Fact ss (Samepara a b) ps = Together ss (at ps a) (at ps b)
 Fact ss (Window c) ps = (x y : ℕ) → x < length ps → y < length ps → at ps x ≤ at ps y + (c - 1)
 Fact ss (Proximity a b least most) ps = Proximal least most (at ps a) (at ps b)
 
@@ -54,14 +72,20 @@ module _ (p q s : ℕ) where
   separates-decides : Decides (not (separates p q s)) ((s ≤ p) ↔ (s ≤ q))
   separates-decides = same-decides (not-decides (and-decides (ltb-decides (min p q) s) (leb-decides s (max p q)))) alike unparted
 
-together-decides : (ss : List ℕ) (p q : ℕ) → Decides (together ss p q) ((s : ℕ) → In s ss → (s ≤ p) ↔ (s ≤ q))
-together-decides ss p q = record {
+unparted-decides : (ss : List ℕ) (p q : ℕ) → Decides (all (λ s. not (separates p q s)) ss) (Unparted ss p q)
+unparted-decides ss p q = record {
   yes = λ e s i. rw (i .2) at (separates-decides p q (getD ss (i .0) 0) .yes (each .0 e (i .0) (i .1)));
   no = λ e h. contrary (each .1 (λ i l. decides.holds (separates-decides p q (getD ss i 0)) (h (getD ss i 0) (i, l, refl)))) e;
 }
   where
-    each : (together ss p q ≡ true) ↔ ((i : ℕ) → i < length ss → not (separates p q (getD ss i 0)) ≡ true)
+    each : (all (λ s. not (separates p q s)) ss ≡ true) ↔ ((i : ℕ) → i < length ss → not (separates p q (getD ss i 0)) ≡ true)
     each = all-each (λ s. not (separates p q s)) 0 ss
+
+begun-decides : (ss : List ℕ) (p : ℕ) → Decides (inPara ss p) (Begun ss p)
+begun-decides ss p = any-decides (λ s. leb s p) (λ s. s ≤ p) (λ s. leb-decides s p) ss
+
+together-decides : (ss : List ℕ) (p q : ℕ) → Decides (together ss p q) (Together ss p q)
+together-decides ss p q = and-decides (and-decides (begun-decides ss p) (begun-decides ss q)) (unparted-decides ss p q)
 
 -- positions lie between the smallest and the largest, and so do the bounds of all positions
 pub at-largest : (ps : List ℕ) (x : ℕ) → at ps x ≤ largest ps
@@ -69,7 +93,7 @@ at-largest [] x = omega arith
 at-largest (p ∷ ps) zero = omega arith
 at-largest (p ∷ ps) (suc x) = let h : at ps x ≤ largest ps = at-largest ps x in omega arith
 
-smallest-at : (p : ℕ) (ps : List ℕ) (x : ℕ) → x < suc (length ps) → smallestOf p ps ≤ at (p ∷ ps) x
+pub smallest-at : (p : ℕ) (ps : List ℕ) (x : ℕ) → x < suc (length ps) → smallestOf p ps ≤ at (p ∷ ps) x
 smallest-at p [] zero h = omega arith
 smallest-at p [] (suc x) h = absurd (omega arith)
 smallest-at p (q ∷ ps) zero h = omega arith
@@ -143,14 +167,23 @@ module _ (ss ps : List ℕ) where
   pub ordered-needs : (a b : ℕ) → Needs ss (Ordered a b) ps b (at ps a + 1)
   ordered-needs a b qs n le e = omega (arith, le a, fact-of ss (Ordered a b) qs e)
 
-  pub samepara-holds : (a b : ℕ) → ((s : ℕ) → In s ss → min (at ps a) (at ps b) < s → s ≤ max (at ps a) (at ps b) → ⊥) → holds ss (Samepara a b) ps ≡ true
-  samepara-holds a b none = fact-holds ss (Samepara a b) ps (λ s i. alike (at ps a) (at ps b) s (λ w. none s i (w .0) (w .1)))
+  module _ (a b : ℕ) where
+    -- a start is not above either position, and none stands between them
+    pub samepara-holds : (s : ℕ) → In s ss → s ≤ at ps a → s ≤ at ps b → ((t : ℕ) → In t ss → min (at ps a) (at ps b) < t → t ≤ max (at ps a) (at ps b) → ⊥) → holds ss (Samepara a b) ps ≡ true
+    samepara-holds s i h k none = fact-holds ss (Samepara a b) ps (((s, i, h), (s, i, k)), λ t j. alike (at ps a) (at ps b) t (λ w. none t j (w .0) (w .1)))
 
-  pub samepara-needs-first : (a b s : ℕ) → In s ss → s ≤ at ps b → Needs ss (Samepara a b) ps a s
-  samepara-needs-first a b s i h qs n le e = fact-of ss (Samepara a b) qs e s i .1 (omega (arith, le b))
+    pub samepara-turned : holds ss (Samepara a b) ps ≡ holds ss (Samepara b a) ps
+    samepara-turned = one-test (same-decides (holds-decides ss (Samepara a b) ps) (turned (at ps a) (at ps b)) (turned (at ps b) (at ps a))) (holds-decides ss (Samepara b a) ps)
+      where
+        turned : (p q : ℕ) → Together ss p q → Together ss q p
+        turned p q f = ((f .0 .1, f .0 .0), λ s i. (f .1 s i .1, f .1 s i .0))
 
-  pub samepara-needs-second : (a b s : ℕ) → In s ss → s ≤ at ps a → Needs ss (Samepara a b) ps b s
-  samepara-needs-second a b s i h qs n le e = fact-of ss (Samepara a b) qs e s i .0 (omega (arith, le a))
+    pub samepara-needs : (s : ℕ) → In s ss → s ≤ at ps b → Needs ss (Samepara a b) ps a s
+    samepara-needs s i h qs n le e = fact-of ss (Samepara a b) qs e .1 s i .1 (omega (arith, le b))
+
+    -- where no start is in front of s
+    pub samepara-needs-start : (s : ℕ) → ((t : ℕ) → In t ss → s ≤ t) → Needs ss (Samepara a b) ps a s
+    samepara-needs-start s least qs n le e = let w = fact-of ss (Samepara a b) qs e .0 .0 in omega (arith, least (w .0) (w .1), w .2)
 
   pub window-holds : (c : ℕ) → ((x y : ℕ) → x < length ps → y < length ps → at ps x ≤ at ps y + (c - 1)) → holds ss (Window c) ps ≡ true
   window-holds c h = fact-holds ss (Window c) ps h
@@ -208,18 +241,51 @@ proximal-meet least most p q p′ q′ f g = (
     between : ℕ
     between = min q q′ - min p p′ - 1
 
+begun-meet : (ss : List ℕ) (p q : ℕ) → Begun ss p → Begun ss q → Begun ss (min p q)
+begun-meet ss p q f g = ⊎-elim (λ (h : p < q). (f .0, f .1, omega (arith, f .2))) (λ (h : q ≤ p). (g .0, g .1, omega (arith, g .2))) (below-or p q)
+
+together-meet : (ss : List ℕ) (p q p′ q′ : ℕ) → Together ss p q → Together ss p′ q′ → Together ss (min p p′) (min q q′)
+together-meet ss p q p′ q′ f g = (
+  (begun-meet ss p p′ (f .0 .0) (g .0 .0), begun-meet ss q q′ (f .0 .1) (g .0 .1)),
+  λ s i. (
+    λ (h : s ≤ min p p′). omega (arith, f .1 s i .0 (omega arith), g .1 s i .0 (omega arith)),
+    λ (h : s ≤ min q q′). omega (arith, f .1 s i .1 (omega arith), g .1 s i .1 (omega arith)),
+  ),
+)
+
 fact-meet : (ss : List ℕ) (c : Predicate) (ps qs : List ℕ) → Fact ss c ps → Fact ss c qs → Fact ss c (meet ps qs)
 fact-meet ss (Distance a b c) ps qs f g = rw (meet-at ps qs a, meet-at ps qs b) (omega arith)
 fact-meet ss (Ordered a b) ps qs f g = rw (meet-at ps qs a, meet-at ps qs b) (omega arith)
-fact-meet ss (Samepara a b) ps qs f g = λ s i. rw (meet-at ps qs a, meet-at ps qs b) (
-  λ (h : s ≤ min (at ps a) (at qs a)). omega (arith, f s i .0 (omega arith), g s i .0 (omega arith)),
-  λ (h : s ≤ min (at ps b) (at qs b)). omega (arith, f s i .1 (omega arith), g s i .1 (omega arith)),
-)
+fact-meet ss (Samepara a b) ps qs f g = rw (meet-at ps qs a, meet-at ps qs b) (together-meet ss (at ps a) (at ps b) (at qs a) (at qs b) f g)
 fact-meet ss (Window c) ps qs f g = λ x y h l. let n = length-meet ps qs in rw (meet-at ps qs x, meet-at ps qs y) (omega (arith, f x y (omega arith) (omega arith), g x y (omega arith) (omega arith)))
 fact-meet ss (Proximity a b least most) ps qs f g = rw (meet-at ps qs a, meet-at ps qs b) (proximal-meet least most (at ps a) (at ps b) (at qs a) (at qs b) f g)
 
 pub holds-meet : (ss : List ℕ) (c : Predicate) (ps qs : List ℕ) → holds ss c ps ≡ true → holds ss c qs ≡ true → holds ss c (meet ps qs) ≡ true
 holds-meet ss c ps qs d e = fact-holds ss c (meet ps qs) (fact-meet ss c ps qs (fact-of ss c ps d) (fact-of ss c qs e))
+
+-- what SAME TITLE is before the first start, and behind it
+pub sameparas : (ss ps : List ℕ) (a b : ℕ) → Sameparas ss ps a b
+sameparas ss ps a b = record {
+  beforeFirst = λ before. decides.fails (holds-decides ss (Samepara a b) ps) (λ f. not-begun ss (at ps a) before (f .0 .0));
+  beforeSecond = λ before. decides.fails (holds-decides ss (Samepara a b) ps) (λ f. not-begun ss (at ps b) before (f .0 .1));
+  noStarts = decides.fails (holds-decides [] (Samepara a b) ps) (λ f. not-begun [] (at ps a) (λ s i. absurd (in-none s i)) (f .0 .0));
+  onePosition = λ one. (
+    λ e. fact-of ss (Samepara a b) ps e .0 .0,
+    λ w. fact-holds ss (Samepara a b) ps ((w, rw one at w), λ s i. (λ (h : s ≤ at ps a). omega arith, λ (h : s ≤ at ps b). omega arith)),
+  );
+  begun = λ s i h k. (
+    λ e t j. let f = fact-of ss (Samepara a b) ps e .1 t j in λ l m. unparted (at ps a) (at ps b) t f (l, m),
+    samepara-holds ss ps a b s i h k,
+  );
+  turned = samepara-turned ss ps a b;
+  onward = λ c e f. fact-holds ss (Samepara a c) ps (together-onward ss (at ps a) (at ps b) (at ps c) (fact-of ss (Samepara a b) ps e) (fact-of ss (Samepara b c) ps f));
+}
+  where
+    not-begun : (ss : List ℕ) (p : ℕ) → ((s : ℕ) → In s ss → p < s) → Begun ss p → ⊥
+    not-begun ss p before w = omega (arith, before (w .0) (w .1), w .2)
+
+    together-onward : (ss : List ℕ) (p q r : ℕ) → Together ss p q → Together ss q r → Together ss p r
+    together-onward ss p q r f g = ((f .0 .0, g .0 .1), λ s i. (λ h. g .1 s i .0 (f .1 s i .0 h), λ h. f .1 s i .1 (g .1 s i .1 h)))
 
 -- what APART is beside the other predicates
 pub proximities : (ss ps : List ℕ) (a b : ℕ) → Proximities ss ps a b

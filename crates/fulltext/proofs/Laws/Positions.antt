@@ -1,22 +1,23 @@
 -- The laws of `specs/Positions.antt`, and of membership. No contract cites this file.
 --     in-none, in-here, in-later, in-cons     membership in a list, and in one with one more in front
---     elem-decides                            `elem` decides membership
---     positions-hold                          the positions of a document are those that its list holds there
+--     elem-decides, any-decides               `elem` decides membership, `any` that an element is so
+--     positions-hold, in-positions, positions-in     the positions of a document are those that its list holds there
 --     positions-rise                          they rise where the list does
 --     rises-least                             the first element of a list that rises is its least
 --     lists-rise                              the lists of an accepted volume rise
 -- Assumes nothing.
 use Prim.Native.Nat.{ℕ, zero, suc, _+_, _*_, _<_, _≤_}
 use native.Mathlib.Omega.{arith}
-use mathlib.Core.Path.{_≡_, refl, sym, ap, _∙_}
+use mathlib.Core.Path.{_≡_, refl, sym, ap, subst, _∙_}
 use mathlib.Core.Bool.{Bool, true, false, true≢false}
 use mathlib.Core.Logic.{_⊎_, inl, inr, ⊎-elim}
 use mathlib.Core.List.{List, [], _∷_, map}
 use lib.ListN.{length, getD, List·getD-eq-default}
 use lib.Dec.{eqb, ltb}
 use borrow.Author.Tests.{eqb-true, eqb-false, ltb-true, lt-ltb}
-use Rattle.seq.specs.Lists.{consIf, keep, elem, above, rises}
+use Rattle.seq.specs.Lists.{consIf, keep, elem, any, above, rises}
 use Rattle.seq.proofs.Laws.Tests.{both, both-true, below-or}
+use Rattle.seq.proofs.Laws.Decides as decides
 use Rattle.seq.proofs.Laws.Decides.{Decides, eqb-decides, or-decides, same-decides}
 use Rattle.seq.proofs.Laws.Rising.{above-le, above-elem, rises-tail}
 use Rattle.volume.specs.Posting.{docOf, posOf}
@@ -52,6 +53,14 @@ elem-decides n (x ∷ xs) =
     (⊎-elim (λ (e : n ≡ x). in-here n x xs (sym e)) (in-later n x xs))
     (λ h. ⊎-elim (λ (e : x ≡ n). inl (sym e)) (λ (k : In n xs). inr k) (in-cons n x xs h))
 
+pub any-decides : (test : ℕ → Bool) (P : ℕ → Type 0) → ((n : ℕ) → Decides (test n) (P n)) → (xs : List ℕ) → Decides (any test xs) ((n : ℕ) × In n xs × P n)
+unfolding any
+any-decides test P d [] = record { yes = λ e. absurd (true≢false (sym e)); no = λ e w. in-none (w .0) (w .1) }
+any-decides test P d (x ∷ xs) =
+    same-decides (or-decides (d x) (any-decides test P d xs))
+    (⊎-elim (λ (p : P x). (x, in-here x x xs refl, p)) (λ w. (w .0, in-later (w .0) x xs (w .1), w .2)))
+    (λ w. ⊎-elim (λ (e : x ≡ w .0). inl (subst P (sym e) (w .2))) (λ k. inr (w .0, k, w .2)) (in-cons (w .0) x xs (w .1)))
+
 -- one posting in front, where the test of its document comes to b
 positions-cons : (d x : ℕ) (l : List ℕ) (b : Bool) → eqb (docOf x) d ≡ b → positionsIn d (x ∷ l) ≡ consIf b (posOf x) (positionsIn d l)
 unfolding positionsIn keep
@@ -85,6 +94,12 @@ module _ (d p : ℕ) where
           let own = holds-own x l (eqb-true (docOf x) d e) in
           rw (positions-cons d x l true e) (same-decides (or-decides (eqb-decides p (posOf x)) rest) (⊎-elim (own .0) (holds-later x l)) (own .1))
       go false e rest = rw (positions-cons d x l false e) (same-decides rest (holds-later x l) (holds-other x l (eqb-false (docOf x) d e)))
+
+  pub in-positions : (l : List ℕ) → Holds d p l → In p (positionsIn d l)
+  in-positions l h = elem-decides p (positionsIn d l) .yes (decides.holds (positions-hold l) h)
+
+  pub positions-in : (l : List ℕ) → In p (positionsIn d l) → Holds d p l
+  positions-in l i = positions-hold l .yes (decides.holds (elem-decides p (positionsIn d l)) i)
 
 module _ (d : ℕ) where
   -- behind a posting of the document

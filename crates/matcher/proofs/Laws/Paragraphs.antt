@@ -1,15 +1,13 @@
--- The start of a position's paragraph. No contract cites this file.
---     ParaAt                       r is the greatest start not above p, or 65,536 where there is none
---     para-told, para-is           `paraStart` is so, and nothing else is
---     para-unparted                no start separates two positions where the later one's paragraph starts at or in front of the other
---     para-in                      a paragraph that starts at or in front of the position starts at a start
---     stands-stretch               the postings of list 0 from a cursor on
---     past-from, past-within       the first of them behind position p of document d
---     para-first, para-other, para-last     the start, by the posting in front of that one
+-- The start of a position's paragraph, the first start, and the start that SAME TITLE needs, over plain starts. No contract cites this file.
+--     ParaAt, para-told, para-is        the greatest start not above p, or 65,536 where there is none: `paraStart` is so, and nothing else is
+--     FirstAt, first-told, first-is     the least start, or 65,536 where there is none: `firstStart` is so, and nothing else is
+--     first-most, first-in, first-least     it is at most 65,536, it is a start where it is below that, and no start is in front of it
+--     needed-bare, needed-para          `neededStart` is the first start where p stands in no paragraph, else that of its paragraph
+--     Needed, needed-told               where it is not above p it is a start, and none follows up to p; else no start is in front of it
 -- Assumes nothing.
-use Prim.Native.Nat.{ℕ, _+_, _-_, _*_, _/_, _%_, _<_, _≤_, max}
+use Prim.Native.Nat.{ℕ, _<_, _≤_, min, max}
 use native.Mathlib.Omega.{arith}
-use mathlib.Core.Path.{_≡_, refl, sym, ap, _∙_}
+use mathlib.Core.Path.{_≡_, refl, sym, _∙_}
 use mathlib.Core.Bool.{Bool, true, false}
 use mathlib.Core.Logic.{_⊎_, inl, inr, ⊎-elim, _≢_}
 use mathlib.Core.List.{List, [], _∷_}
@@ -18,20 +16,13 @@ use borrow.Author.Tests.{leb-true, le-leb}
 use Rattle.seq.specs.Lists.{consIf, keep}
 use Rattle.seq.proofs.Laws.Tests.{below-or, contrary}
 use Rattle.seq.proofs.Laws.Decides as decides
-use Rattle.volume.specs.Layout.{streamLength, word, start, listCount, listsOf}
-use Rattle.volume.specs.Check.{Accepted}
-use Rattle.volume.proofs.Laws.Check.{good}
-use Rattle.fulltext.specs.Positions.{limit, listOf, positionsIn}
-use Rattle.fulltext.specs.Calculus.{at, In, Holds}
-use Rattle.fulltext.specs.Matches.{largest, startsIn}
-use Rattle.fulltext.specs.Inner.Paragraphs.{greatest, paraStart}
-use Rattle.matcher.specs.declared.cursor.Cursor.{Cursor}
-use Rattle.matcher.specs.declared.cursor.Document.{Document}
-use Rattle.matcher.specs.Inner.Cursors.{seekFrom, Stretch, sought, listEnd, Stands, AtDocument}
-use Rattle.fulltext.proofs.Laws.Positions.{in-none, in-here, in-later, in-cons, elem-decides, positions-hold}
-use Rattle.fulltext.proofs.Laws.Needs.{at-largest}
-use Rattle.matcher.proofs.Laws.Cursors.{seek-ge, seek-le, seek-at, seek-below, stretch-within}
-use Rattle.matcher.proofs.Laws.Volume.{list-stretch, held, holds-at}
+use Rattle.seq.proofs.Laws.Decides.{eqb-decides}
+use Rattle.fulltext.specs.Positions.{limit}
+use Rattle.fulltext.specs.Calculus.{In}
+use Rattle.fulltext.specs.Matches.{largest, smallestOf}
+use Rattle.fulltext.specs.Inner.Paragraphs.{greatest, paraStart, firstStart, neededStart}
+use Rattle.fulltext.proofs.Laws.Positions.{in-none, in-here, in-later, in-cons}
+use Rattle.fulltext.proofs.Laws.Needs.{at-largest, smallest-at}
 
 -- the elements that pass a test are elements, and pass it
 keep-in : (test : ℕ → Bool) (xs : List ℕ) (n : ℕ) → In n (keep test xs) → In n xs × (test n ≡ true)
@@ -77,164 +68,88 @@ module _ (ss : List ℕ) (p : ℕ) where
           inr (w .0, (leb-true (largest (x ∷ xs)) p (w .1), λ s i h. let k = back s i h in let l = at-largest (x ∷ xs) (k .0) in omega (arith, k .2)))
 
   -- there is one such number
-  para-is : (r : ℕ) → ParaAt ss p r → r ≡ paraStart ss p
+  pub para-is : (r : ℕ) → ParaAt ss p r → r ≡ paraStart ss p
   para-is r a =
       ⊎-elim
       (λ x. ⊎-elim (λ y. x .0 ∙ sym (y .0)) (λ y. absurd (x .1 (paraStart ss p) (y .0) (y .1 .0))) para-told)
       (λ x. ⊎-elim (λ y. absurd (y .1 r (x .0) (x .1 .0))) (λ y. let h = x .1 .1 (paraStart ss p) (y .0) (y .1 .0) in let k = y .1 .1 r (x .0) (x .1 .0) in omega arith) para-told)
       a
 
-  -- a position x in front of p, where the paragraph of p does not start between them
-  pub para-unparted : (x : ℕ) → p < limit → (x < paraStart ss p → paraStart ss p ≤ p → ⊥) → (s : ℕ) → In s ss → x < s → s ≤ p → ⊥
-  para-unparted x small n s i h l = ⊎-elim (λ y. y .1 s i l) (λ y. let k = y .1 .1 s i l in n (omega arith) (y .1 .0)) para-told
+-- r is the least of some starts, or 65,536 where there is none
+abbrev FirstAt : List ℕ → ℕ → Type 0
+FirstAt ss r = ((r ≡ limit) × ((s : ℕ) → In s ss → ⊥)) ⊎ (In r ss × ((s : ℕ) → In s ss → r ≤ s))
 
-  -- a paragraph starts at a start
-  pub para-in : p < limit → paraStart ss p ≤ p → In (paraStart ss p) ss
-  para-in small h = ⊎-elim (λ y. let e : paraStart ss p ≡ limit = y .0 in absurd (let z : ⊥ = omega arith in z)) (λ y. y .0) para-told
+-- the smallest is an element
+smallest-in : (x : ℕ) (xs : List ℕ) → In (smallestOf x xs) (x ∷ xs)
+smallest-in x [] = in-here x x [] refl
+smallest-in x (y ∷ ys) =
+    ⊎-elim
+    (λ (h : smallestOf y ys < x). let e : min x (smallestOf y ys) ≡ smallestOf y ys = omega arith in rw e (in-later (smallestOf y ys) x (y ∷ ys) (smallest-in y ys)))
+    (λ (h : x ≤ smallestOf y ys). in-here (min x (smallestOf y ys)) x (y ∷ ys) (omega arith))
+    (below-or (smallestOf y ys) x)
 
-module _ (d s : ℕ) (l : List ℕ) where
-  in-positions : Holds d s l → In s (positionsIn d l)
-  in-positions h = elem-decides s (positionsIn d l) .yes (decides.holds (positions-hold d s l) h)
-
-  positions-in : In s (positionsIn d l) → Holds d s l
-  positions-in i = positions-hold d s l .yes (decides.holds (elem-decides s (positionsIn d l)) i)
-
--- what `para_start` requires
-abbrev Asked : List ℕ → Document → ℕ → Type 0
-Asked v doc p = Accepted v × (AtDocument v doc × (p ≤ 65535))
-
-module _ {v : List ℕ} {doc : Document} {p : ℕ} (asked : Asked v doc p) where
-  ok : Accepted v
-  ok = asked .0
-
-  abbrev d : ℕ
-  d = doc .doc
-
-  abbrev i : ℕ
-  i = doc .starts .at
-
-  abbrev end : ℕ
-  end = doc .starts .end
-
-  st : Stands v 0 (doc .doc) (doc .starts .at)
-  st = asked .1 .0 .starts-at
-
-  small : p ≤ 65535
-  small = asked .1 .1
-
-  some : 0 < listCount v
-  some = good v ok .lists-some
-
-  whole : Stretch v (start v 0) (listEnd v 0)
-  whole = list-stretch v ok 0 some
-
-  rest : Stretch v i (listEnd v 0)
-  rest = stretch-within v (start v 0) (listEnd v 0) i (listEnd v 0) whole (st .from) (st .to) (omega arith)
-
-  pub stands-stretch : Stretch v i end
-  stands-stretch = rw (asked .1 .0 .starts-end) rest
-
-  -- the first index behind position p of the document
-  abbrev past : ℕ
-  past = seekFrom v (d * 65536 + p + 1) i (listEnd v 0)
-
-  past-ge : i ≤ past
-  past-ge = seek-ge v (d * 65536 + p + 1) i (listEnd v 0)
-
-  past-le : past ≤ listEnd v 0
-  past-le = seek-le v (d * 65536 + p + 1) i (listEnd v 0) (st .to)
-
-  -- a start that is not above p stands between the cursor and that index
-  passed : (s : ℕ) → In s (startsIn (listsOf v) d) → s ≤ p → (j : ℕ) × ((i ≤ j) × ((j < past) × (word v j ≡ d * 65536 + s)))
-  passed s m h = (j, (after, (before, same)))
+module _ (ss : List ℕ) where
+  first-told : FirstAt ss (firstStart ss)
+  unfolding firstStart
+  first-told = go ss
     where
-      here : (s < limit) × ((j : ℕ) × ((start v 0 ≤ j) × ((j < listEnd v 0) × (word v j ≡ d * 65536 + s))))
-      here = held v ok 0 some d s (positions-in d s (listOf (listsOf v) 0) m)
+      go : (xs : List ℕ) → FirstAt xs (firstStart xs)
+      go [] = inl (refl, λ s i. in-none s i)
+      go (x ∷ xs) = inr (smallest-in x xs, λ s i. let l = smallest-at x xs (i .0) (i .1) in omega (arith, i .2))
 
-      j : ℕ
-      j = here .1 .0
+  pub first-is : (r : ℕ) → FirstAt ss r → r ≡ firstStart ss
+  first-is r a =
+      ⊎-elim
+      (λ x. ⊎-elim (λ y. x .0 ∙ sym (y .0)) (λ y. absurd (x .1 (firstStart ss) (y .0))) first-told)
+      (λ x. ⊎-elim (λ y. absurd (y .1 r (x .0))) (λ y. let h = x .1 (firstStart ss) (y .0) in let k = y .1 r (x .0) in omega arith) first-told)
+      a
 
-      from : start v 0 ≤ j
-      from = here .1 .1 .0
+  -- where starts are positions it is at most 65,536
+  pub first-most : ((s : ℕ) → In s ss → s < limit) → firstStart ss ≤ limit
+  first-most below = ⊎-elim (λ x. let e : firstStart ss ≡ limit = x .0 in omega arith) (λ x. let l = below (firstStart ss) (x .0) in omega arith) first-told
 
-      to : j < listEnd v 0
-      to = here .1 .1 .1 .0
+  -- below that it is a start
+  pub first-in : firstStart ss < limit → In (firstStart ss) ss
+  first-in h = ⊎-elim (λ x. let e : firstStart ss ≡ limit = x .0 in absurd (let z : ⊥ = omega arith in z)) (λ x. x .0) first-told
 
-      same : word v j ≡ d * 65536 + s
-      same = here .1 .1 .1 .1
+  -- no start is in front of it
+  pub first-least : (s : ℕ) → In s ss → firstStart ss ≤ s
+  first-least s i = ⊎-elim (λ x. absurd (x .1 s i)) (λ x. x .1 s i) first-told
 
-      after : i ≤ j
-      after = ⊎-elim (λ (k : j < i). let b = st .behind j from k in let e = same in absurd (let z : ⊥ = omega arith in z)) (λ k. k) (below-or j i)
+-- what is needed beside p, which is r: where r is not above p, it is a start and none follows up to p; else no start is in front of r
+pub record Needed (ss : List ℕ) (p r : ℕ) : Type 0 where
+  pub most : r ≤ limit
+  pub start : r ≤ p → In r ss
+  pub last : (s : ℕ) → In s ss → s ≤ p → s ≤ r
+  pub none-before : p < r → (s : ℕ) → In s ss → r ≤ s
 
-      beyond : past ≤ j → past < listEnd v 0 → ⊥
-      beyond k l =
-          let a = seek-at v (d * 65536 + p + 1) i (listEnd v 0) (st .to) l in
-          let e = same in
-          ⊎-elim (λ (q : past < j). let r = rest .rising past j past-ge q to in omega arith) (λ (q : j ≤ past). let f : past ≡ j = omega arith in let g = ap (word v) f in omega arith) (below-or past j)
+module _ (ss : List ℕ) (p : ℕ) where
+  pub needed-bare : paraStart ss p ≡ limit → firstStart ss ≡ neededStart ss p
+  unfolding neededStart
+  needed-bare e = rw e refl
 
-      before : j < past
-      before = ⊎-elim (λ k. k) (λ (k : past ≤ j). absurd (beyond k (let t = to in omega arith))) (below-or j past)
+  pub needed-para : paraStart ss p ≢ limit → paraStart ss p ≡ neededStart ss p
+  unfolding neededStart
+  needed-para n = rw (decides.fails (eqb-decides (paraStart ss p) limit) n) refl
 
-  -- that index, as a cursor is advanced to it
-  module _ {moved : Cursor} (found : moved ≡ sought v (d * 65536 + p + 1) (doc .starts)) where
-    abbrev stop : ℕ
-    stop = moved .at
+  pub needed-told : ((s : ℕ) → In s ss → s < limit) → p < limit → Needed ss p (neededStart ss p)
+  needed-told below small = ⊎-elim bare there (para-told ss p)
+    where
+      first : ((s : ℕ) → In s ss → s ≤ p → ⊥) → Needed ss p (firstStart ss)
+      first none = record {
+        most = first-most ss below;
+        start = λ h. first-in ss (omega arith);
+        last = λ s i h. absurd (none s i h);
+        none-before = λ h. first-least ss;
+      }
 
-    at-past : stop ≡ past
-    at-past = ap (λ (r : Cursor). r .at) found ∙ ap (seekFrom v (d * 65536 + p + 1) i) (asked .1 .0 .starts-end)
+      bare : (paraStart ss p ≡ limit) × ((s : ℕ) → In s ss → s ≤ p → ⊥) → Needed ss p (neededStart ss p)
+      bare x = rw (← needed-bare (x .0)) (first (x .1))
 
-    pub past-from : i ≤ stop
-    past-from = let q = at-past in let g = past-ge in omega arith
-
-    pub past-within : stop ≤ streamLength v
-    past-within = let q = at-past in let a = past-le in let b = whole .within in omega arith
-
-    -- nothing stands between
-    pub para-first : stop ≡ i → 65536 ≡ paraStart (startsIn (listsOf v) d) p
-    para-first h = let q = at-past in para-is (startsIn (listsOf v) d) p 65536 (inl (refl, λ s m l. let k = passed s m l in let a : i ≤ k .0 = k .1 .0 in let b : k .0 < past = k .1 .1 .0 in omega arith))
-
-    -- w is the last word that was passed
-    module _ {w : ℕ} (more : stop ≢ i) (x : w ≡ word v (stop - 1)) where
-      last : w ≡ word v (past - 1)
-      last = x ∙ ap (λ (n : ℕ). word v (n - 1)) at-past
-
-      last-below : w < d * 65536 + p + 1
-      last-below =
-          let g = past-ge in
-          let q = at-past in
-          let b = seek-below v (d * 65536 + p + 1) i (listEnd v 0) (past - 1) (omega arith) (omega arith) in
-          let l = last in
-          omega arith
-
-      -- a start that is not above p is not behind it
-      up-to-last : (s : ℕ) → In s (startsIn (listsOf v) d) → s ≤ p → d * 65536 + s ≤ w
-      up-to-last s m h =
-          let k = passed s m h in
-          let a : i ≤ k .0 = k .1 .0 in
-          let b : k .0 < past = k .1 .1 .0 in
-          let e : word v (k .0) ≡ d * 65536 + s = k .1 .1 .1 in
-          let t = past-le in
-          let l = last in
-          ⊎-elim
-          (λ (c : k .0 < past - 1). let r = rest .rising (k .0) (past - 1) a c (omega arith) in omega arith)
-          (λ (c : past - 1 ≤ k .0). let f : k .0 ≡ past - 1 = omega arith in let g = ap (word v) f in omega arith)
-          (below-or (k .0) (past - 1))
-
-      -- it is of another document
-      pub para-other : w / 65536 ≢ d → 65536 ≡ paraStart (startsIn (listsOf v) d) p
-      para-other n = para-is (startsIn (listsOf v) d) p 65536 (inl (refl, λ s m h. let u = up-to-last s m h in let b = last-below in n (omega arith)))
-
-      -- it is of this document
-      pub para-last : w / 65536 ≡ d → w % 65536 ≡ paraStart (startsIn (listsOf v) d) p
-      para-last e =
-          let b = last-below in
-          let g = past-ge in
-          let q = at-past in
-          let t = past-le in
-          let f = st .from in
-          let l = last in
-          para-is (startsIn (listsOf v) d) p (w % 65536)
-          (inr (
-            in-positions d (w % 65536) (listOf (listsOf v) 0) (holds-at v ok 0 some d (w % 65536) (past - 1) (omega arith) (omega arith) (omega arith) (omega arith)),
-            (omega arith, λ s m h. let u = up-to-last s m h in omega arith),
-          ))
+      there : In (paraStart ss p) ss × ((paraStart ss p ≤ p) × ((s : ℕ) → In s ss → s ≤ p → s ≤ paraStart ss p)) → Needed ss p (neededStart ss p)
+      there x = let h : paraStart ss p ≤ p = x .1 .0 in rw (← needed-para (λ e. omega arith)) (record {
+        most = omega arith;
+        start = λ k. x .0;
+        last = x .1 .1;
+        none-before = λ k s i. absurd (let z : ⊥ = omega arith in z);
+      })

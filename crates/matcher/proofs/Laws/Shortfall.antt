@@ -1,7 +1,8 @@
 -- What `src/predicates.rt` tells of each predicate, over plain positions. No contract cites this file.
 --     distance-first, distance-second, ordered-second     the variable that a predicate leaves short
---     samepara-first, samepara-second, samepara-other, samepara-one, samepara-same
---                                  by the start of the later position's paragraph
+--     samepara-first, samepara-behind     by the start that is needed beside the later position
+--     samepara-unbegun, samepara-begun     at one position, by the first start
+--     samepara-second              whichever of a and b is named first
 --     proximity-alone, proximity-behind, proximity-second, proximity-first     by how far b stands behind a
 --     Spread                       the smallest and the largest of the first positions
 --     spread-first, spread-low, spread-high, spread-within, spread-least     it is kept from turn to turn
@@ -10,7 +11,7 @@
 -- Assumes nothing.
 use Prim.Native.Nat.{ℕ, _+_, _-_, _<_, _≤_}
 use native.Mathlib.Omega.{arith}
-use mathlib.Core.Path.{_≡_, refl}
+use mathlib.Core.Path.{_≡_, refl, _∙_}
 use mathlib.Core.Bool.{true, _&&_}
 use mathlib.Core.Logic.{⊎-elim}
 use mathlib.Core.List.{List}
@@ -27,15 +28,15 @@ use Rattle.plan.specs.Limits.{noUpperEnd}
 use Rattle.plan.specs.Rows.{InRange}
 use Rattle.plan.specs.State.{namesBelow}
 use Rattle.fulltext.specs.Positions.{limit}
-use Rattle.fulltext.specs.Calculus.{at}
+use Rattle.fulltext.specs.Calculus.{at, In}
 use Rattle.fulltext.specs.Matches.{holds}
 use Rattle.fulltext.specs.Inner.Bounds.{Needs}
-use Rattle.fulltext.specs.Inner.Paragraphs.{paraStart}
+use Rattle.fulltext.specs.Inner.Paragraphs.{firstStart, neededStart}
 use Rattle.matcher.specs.Inner.Shortfall.{InDocument, LeftShort}
 use Rattle.matcher.specs.declared.cursor.Document.{Document}
 use Rattle.matcher.specs.Inner.Cursors.{AtDocument}
-use Rattle.fulltext.proofs.Laws.Needs.{distance-needs-first, distance-needs-second, ordered-needs, samepara-holds, samepara-needs-first, samepara-needs-second, window-holds, window-needs, proximity-needs-first, proximity-needs-second, proximity-never}
-use Rattle.matcher.proofs.Laws.Paragraphs.{para-unparted, para-in}
+use Rattle.fulltext.proofs.Laws.Needs.{distance-needs-first, distance-needs-second, ordered-needs, samepara-holds, samepara-turned, samepara-needs, samepara-needs-start, window-holds, window-needs, proximity-needs-first, proximity-needs-second, proximity-never}
+use Rattle.matcher.proofs.Laws.Paragraphs.{first-most, first-in, first-least, Needed, needed-told}
 
 module _ (ss ps : List ℕ) (small : InDocument ps) where
   -- a variable that needs 65,536 has no position left
@@ -71,33 +72,37 @@ module _ (ss ps : List ℕ) (small : InDocument ps) where
     pub ordered-second : at ps b ≤ at ps a → LeftShort ss (Ordered a b) ps b (at ps a + 1)
     ordered-second l = let m = small a h in record { there = k; before = omega arith; most = omega arith; needs = ordered-needs ss ps a b }
 
-    -- a stands in front of b, whose paragraph starts at r
-    module _ (l : at ps a < at ps b) (r : ℕ) (e : r ≡ paraStart ss (at ps b)) where
-      pub samepara-first : at ps a < r → r ≤ at ps b → LeftShort ss (Samepara a b) ps a r
-      samepara-first f g =
-          let m = small b k in
-          record { there = h; before = f; most = omega arith; needs = samepara-needs-first ss ps a b r (rw e (para-in ss (at ps b) (omega arith) (omega arith))) g }
+    -- no start is behind the last position
+    module _ (below : (s : ℕ) → In s ss → s < limit) where
+      -- a stands in front of b, beside which r is needed
+      module _ (l : at ps a < at ps b) (r : ℕ) (e : r ≡ neededStart ss (at ps b)) where
+        asked : Needed ss (at ps b) r
+        asked = let m = small b k in rw e (needed-told ss (at ps b) below (omega arith))
 
-      pub samepara-other : (at ps a < r → r ≤ at ps b → ⊥) → holds ss (Samepara a b) ps ≡ true
-      samepara-other n =
-          let m = small b k in
-          samepara-holds ss ps a b (λ s i f g. para-unparted ss (at ps b) (at ps a) (omega arith) (λ x y. n (omega arith) (omega arith)) s i (omega arith) (omega arith))
+        pub samepara-first : at ps a < r → LeftShort ss (Samepara a b) ps a r
+        samepara-first f = record { there = h; before = f; most = asked .most; needs = needs }
+          where
+            needs : Needs ss (Samepara a b) ps a r
+            needs =
+                ⊎-elim
+                (λ (g : at ps b < r). samepara-needs-start ss ps a b r (asked .none-before g))
+                (λ (g : r ≤ at ps b). samepara-needs ss ps a b r (asked .start g) g)
+                (below-or (at ps b) r)
 
-    -- b stands in front of a, whose paragraph starts at r
-    module _ (l : at ps b < at ps a) (r : ℕ) (e : r ≡ paraStart ss (at ps a)) where
-      pub samepara-second : at ps b < r → r ≤ at ps a → LeftShort ss (Samepara a b) ps b r
-      samepara-second f g =
-          let m = small a h in
-          record { there = k; before = f; most = omega arith; needs = samepara-needs-second ss ps a b r (rw e (para-in ss (at ps a) (omega arith) (omega arith))) g }
+        pub samepara-behind : r ≤ at ps a → holds ss (Samepara a b) ps ≡ true
+        samepara-behind f = samepara-holds ss ps a b r (asked .start (omega arith)) f (omega arith) (λ t i g m. omega (arith, asked .last t i (omega arith)))
 
-      pub samepara-one : (at ps b < r → r ≤ at ps a → ⊥) → holds ss (Samepara a b) ps ≡ true
-      samepara-one n =
-          let m = small a h in
-          samepara-holds ss ps a b (λ s i f g. para-unparted ss (at ps a) (at ps b) (omega arith) (λ x y. n (omega arith) (omega arith)) s i (omega arith) (omega arith))
+      -- both stand at one position, and the first start is r
+      module _ (l : at ps a ≡ at ps b) (r : ℕ) (e : r ≡ firstStart ss) where
+        pub samepara-unbegun : at ps a < r → LeftShort ss (Samepara a b) ps a r
+        samepara-unbegun f = record { there = h; before = f; most = rw e (first-most ss below); needs = samepara-needs-start ss ps a b r (λ s i. rw e (first-least ss s i)) }
 
--- a and b stand at one position
-pub samepara-same : (ss ps : List ℕ) (a b : ℕ) → at ps b ≤ at ps a → at ps a ≤ at ps b → holds ss (Samepara a b) ps ≡ true
-samepara-same ss ps a b h l = samepara-holds ss ps a b (λ s i f g. omega arith)
+        pub samepara-begun : r ≤ at ps a → holds ss (Samepara a b) ps ≡ true
+        samepara-begun f = let m = small a h in samepara-holds ss ps a b r (rw e (first-in ss (omega arith))) f (omega arith) (λ t i g k. omega arith)
+
+-- whichever of a and b is named first
+pub samepara-second : {ss ps : List ℕ} {a b x r : ℕ} → LeftShort ss (Samepara b a) ps x r → LeftShort ss (Samepara a b) ps x r
+samepara-second {ss} {ps} {a} {b} h = record { there = h .there; before = h .before; most = h .most; needs = λ qs n le e. h .needs qs n le (samepara-turned ss qs b a ∙ e) }
 
 -- of the first x positions the smallest, which is variable var's, and the largest
 pub record Spread (ps : List ℕ) (var least most x : ℕ) : Type 0 where
