@@ -39,8 +39,12 @@
  *    2  NEAR              a predicate (01: condition): the positions of variables a and b differ by
  *                         at most c + 1; c is 0 to 65,535
  *    3  BEFORE            a predicate: the position of variable a is less than that of variable b
- *    4  SAME TITLE        a predicate: variables a and b stand in one title, that is, no start s of
- *                         the document has smaller position < s <= larger position
+ *    4  SAME TITLE        a predicate: variables a and b stand in one title, that is, some start of
+ *                         the document is at or before both positions, and no start s of it has
+ *                         smaller position < s <= larger position. Positions before the first start
+ *                         of a document, and all positions of a document without starts, are in no
+ *                         title. So it may fail also where a is b: it asks that the variable stands
+ *                         in a title.
  *    5  SPAN              a predicate: the largest and smallest position of the pattern's variables
  *                         differ by at most c - 1; c is 1 to 65,536
  *    6  END               closes the pattern; its answer is stacked

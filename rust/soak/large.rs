@@ -35,7 +35,9 @@ fn lists_and_plan(rng: &mut Rng) -> (Lists, Vec<Row>) {
     let is_few = rng.below(2) == 0;
     let count = if is_few { 1 + rng.below(12) } else { 300 + rng.below(1_500) };
     let docs = random_docs(rng, count);
-    let mut lists = vec![spread(rng, &docs, 4 * count)];
+    // One document in eight has no title. In most others words stand before the first one.
+    let titled: Vec<u32> = docs.iter().copied().filter(|_| rng.below(8) > 0).collect();
+    let mut lists = vec![spread(rng, &titled, 4 * count)];
     // The lists that a first variable may take, and those that the others may take.
     let (mut firsts, mut others) = (vec![], vec![]);
     for _ in 0..4 {

@@ -197,7 +197,8 @@ pub fn pattern_rows<'a>(volume: &[u8], plan: &'a [u32], pattern: u32) -> &'a [u3
 ///
 /// let plan = [voice(1), voice(1), same_title(0, 1), END].concat();
 /// assert!(test_positions(&volume, &plan, 0, 1, &[8, 8])?);
-/// assert!(!test_positions(&volume, &plan, 0, 1, &[2, 8])?, "two titles");
+/// assert!(!test_positions(&volume, &plan, 0, 1, &[2, 2])?, "before the first title");
+/// assert!(!test_positions(&volume, &plan, 0, 1, &[2, 8])?, "one of them before it");
 /// assert!(!test_positions(&volume, &plan, 0, 1, &[2, 3])?, "the word is not at 3");
 /// assert!(!test_positions(&volume, &plan, 0, 2, &[8, 8])?, "nor in document 2");
 ///

@@ -7,8 +7,10 @@ pub const VOICE: u32 = 1;
 pub const NEAR: u32 = 2;
 /// The position of variable `a` is less than that of variable `b`.
 pub const BEFORE: u32 = 3;
-/// Variables `a` and `b` stand in one title: no title starts behind the smaller position and at
-/// or before the larger.
+/// Variables `a` and `b` stand in one title: some title starts at or before both positions, and
+/// none starts behind the smaller and at or before the larger. Positions before the first title of
+/// a document are in no title, so that it may fail also where `a` is `b`: it asks that the variable
+/// stands in a title.
 pub const SAME_TITLE: u32 = 4;
 /// The largest and smallest position of the pattern's variables differ by at most `c` - 1; `c`
 /// is 1 to 65,536.

@@ -33,12 +33,14 @@
 //! let plan: Plan = "VOICE 1\nVOICE 2\nBEFORE 0 1\nSAME TITLE 0 1\nEND".parse()?;
 //! let mut search = volume.search(&plan)?;
 //! let rows: Vec<String> = search.by_ref().map(|row| row.to_string()).collect();
-//! assert_eq!(rows, ["scene 1 1 2 5", "scene 2 1 4 9"]);
+//! assert_eq!(rows, ["scene 1 1 2 5"]);
 //! assert_eq!(search.tally(), 6);
 //!
-//! // In scene 1 the places 2 and 5 pass, and 2 and 7 do not: a title starts between them.
+//! // In scene 1 the places 2 and 5 pass, and 2 and 7 do not: a title starts between them. In scene
+//! // 2 no title starts at all.
 //! assert!(volume.test(&plan, 0, 1, &[2, 5])?);
 //! assert!(!volume.test(&plan, 0, 1, &[2, 7])?);
+//! assert!(!volume.test(&plan, 0, 2, &[4, 9])?);
 //! # Ok::<(), Box<dyn std::error::Error>>(())
 //! ```
 //!

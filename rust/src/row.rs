@@ -20,7 +20,7 @@ pub const fn before(a: u32, b: u32) -> PlanRow {
     [kind::BEFORE, a, b, 0]
 }
 
-/// Two variables in one title: see [`kind::SAME_TITLE`].
+/// Two variables in one title, or one variable in a title at all: see [`kind::SAME_TITLE`].
 pub const fn same_title(a: u32, b: u32) -> PlanRow {
     [kind::SAME_TITLE, a, b, 0]
 }

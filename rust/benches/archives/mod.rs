@@ -55,7 +55,8 @@ impl Lists {
 }
 
 /// A made-up season: each posting lies 1 to 4,096 behind the one before it. The state grows by
-/// 2,654,435,769 for each, wrapping, and the gap is 1 + state / 1,048,576.
+/// 2,654,435,769 for each, wrapping, and the gap is 1 + state / 1,048,576. List 0 is made like the
+/// others, so that in most documents words stand before the first start.
 pub fn season(seed: u32, list_count: usize, length: usize) -> Lists {
     let mut state = seed;
     let mut list = || {
@@ -72,10 +73,10 @@ pub fn season(seed: u32, list_count: usize, length: usize) -> Lists {
 }
 
 /// An archive like one of real titles. Documents lie one to five apart; each has 2 to 10 titles,
-/// one in forty ten times as many, of 2 to 9 words each. Two words out of three are drawn from all
-/// lists, the n-th of them with a weight of 1 / (n + 1); the third is drawn from four neighbouring
-/// lists, the same throughout the document. One word in fifty stands in a second list too, and one
-/// in eight is followed by a position that no list has.
+/// one in forty ten times as many, of 2 to 9 words each; its first word starts its first title. Two
+/// words out of three are drawn from all lists, the n-th of them with a weight of 1 / (n + 1); the
+/// third is drawn from four neighbouring lists, the same throughout the document. One word in fifty
+/// stands in a second list too, and one in eight is followed by a position that no list has.
 pub fn repertory(seed: u64, list_count: usize, posting_count: usize) -> Lists {
     let mut rng = Rng::new(seed);
     let words = list_count as u64 - 1;

@@ -187,7 +187,7 @@ impl Predicate {
             Predicate::Ordered { a, b } => (at[a] >= at[b]).then(|| (b, at[a] + 1)),
             Predicate::Samepara { a, b } => {
                 let (earlier, later) = if at[a] < at[b] { (a, b) } else { (b, a) };
-                let start = para_start(doc, at[later], starts)?;
+                let start = needed_start(doc, at[later], starts);
                 (at[earlier] < start).then_some((earlier, start))
             }
             Predicate::Window { most } => {
@@ -212,12 +212,15 @@ impl Predicate {
     }
 }
 
-/// The greatest start of the document that is not above the position.
-fn para_start(doc: u32, pos: u32, starts: &[u32]) -> Option<u32> {
+/// The greatest start of the document that is not above the position. A position that has none is
+/// in no title, and needs the document's first start instead, or `END` where the document has none.
+fn needed_start(doc: u32, pos: u32, starts: &[u32]) -> u32 {
     let posting = doc << 16 | pos;
     let behind = posting.checked_add(1).map_or(0, |bound| seek(starts, bound).len());
-    let start = starts[..starts.len() - behind].last()?;
-    Some(start & 0xffff)
+    match starts[..starts.len() - behind].last().or(starts.first()) {
+        Some(start) if start >> 16 == doc => start & 0xffff,
+        _ => END,
+    }
 }
 
 /// A pattern's walk from document to document.

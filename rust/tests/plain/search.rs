@@ -1,7 +1,7 @@
-//! A naive searcher, straight from document 01 ("Plan" and "Calls") and from request N2 of document
-//! 02 (APART). It shares nothing with the library or its wrappers: in each document it tries every
-//! choice of positions and keeps those that pass; it settles all documents before the first call,
-//! and reads each answer off their rows.
+//! A naive searcher, straight from document 01 ("Plan" and "Calls") and from requests N2 (APART)
+//! and N3 (SAME TITLE before the first title) of document 02. It shares nothing with the library or
+//! its wrappers: in each document it tries every choice of positions and keeps those that pass; it
+//! settles all documents before the first call, and reads each answer off their rows.
 
 use super::plan::{self, Row};
 use super::{lists, Refused};
@@ -41,11 +41,11 @@ fn count(list: &[u32], from: u32, to: u32) -> u32 {
 }
 
 /// Every choice: a position for each variable, out of those that it has.
-fn choices(positions: &[Vec<u32>]) -> Vec<Vec<u32>> {
+pub fn choices(positions: &[impl AsRef<[u32]>]) -> Vec<Vec<u32>> {
     let mut choices = vec![vec![]];
     for of_var in positions {
         let longer = |choice: &Vec<u32>| -> Vec<Vec<u32>> {
-            of_var.iter().map(|&pos| [&choice[..], &[pos]].concat()).collect()
+            of_var.as_ref().iter().map(|&pos| [&choice[..], &[pos]].concat()).collect()
         };
         choices = choices.iter().flat_map(longer).collect();
     }
@@ -60,7 +60,9 @@ fn holds([kind, a, b, c]: Row, starts: &[u32], choice: &[u32]) -> bool {
         plan::BEFORE => pos(a) < pos(b),
         plan::SAME_TITLE => {
             let (smaller, larger) = (pos(a).min(pos(b)), pos(a).max(pos(b)));
-            !starts.iter().any(|&s| smaller < s && s <= larger)
+            let in_a_title = |place: u32| starts.iter().any(|&s| s <= place);
+            let parted = starts.iter().any(|&s| smaller < s && s <= larger);
+            in_a_title(pos(a)) && in_a_title(pos(b)) && !parted
         }
         plan::SPAN => {
             let (smallest, largest) = (choice.iter().min().unwrap(), choice.iter().max().unwrap());
@@ -83,7 +85,7 @@ fn all_hold(pattern: &Pattern, starts: &[u32], choice: &[u32]) -> bool {
 }
 
 /// The smallest position of each variable among the choices. It is one of them.
-fn least(choices: &[Vec<u32>]) -> Option<Vec<u32>> {
+pub fn least(choices: &[Vec<u32>]) -> Option<Vec<u32>> {
     let vars = 0..choices.first()?.len();
     let smallest = |var: usize| choices.iter().map(|choice| choice[var]).min().unwrap();
     let least: Vec<u32> = vars.map(smallest).collect();

@@ -65,7 +65,6 @@ whole.
 
   $ lhz list titles.vol sample.plan
   scene 1 1 2 5
-  scene 2 1 4 9
   done 6
 ";
 
@@ -90,6 +89,8 @@ Prints yes or no.
   $ lhz test titles.vol sample.plan 0 1 2 5
   yes
   $ lhz test titles.vol sample.plan 0 1 2 7     # a title starts at 6
+  no
+  $ lhz test titles.vol sample.plan 0 2 4 9     # no title starts in scene 2
   no
 ";
 
@@ -120,7 +121,9 @@ figure. What follows # is skipped, and so are empty lines.
   VOICE list           a voice of the figure, opening one where none is open
   NEAR a b c           voices a and b, at most c places between them
   BEFORE a b           the place of voice a before that of voice b
-  SAME TITLE a b       voices a and b in one title
+  SAME TITLE a b       voices a and b in one title. Places before a scene's
+                       first title are in none, so that SAME TITLE a a asks
+                       whether voice a stands in a title at all
   SPAN c               all voices of the figure within c places
   APART a b least most voice b behind voice a, with least to most places between
                        them; a most of 65535 sets no upper end
