@@ -130,6 +130,18 @@ int main(void) {
     show_test(0, 1, 2, 5, 1);
     show_test(0, 1, 2, 65541, 2);
 
+    /* The fourth row as SAME TITLE 0 0, and as BEFORE 0 1, like the third. */
+    plan[14] = 0;
+    search("SAME TITLE 0 0", width());
+    show_test(0, 1, 2, 7, 2);
+    show_test(0, 2, 4, 9, 2);
+    plan[12] = LHZ_BEFORE;
+    plan[14] = 1;
+    search("BEFORE", width());
+    search("BEFORE", 2 * width());
+    show_list(2, ROOM);
+    show_test(0, 2, 4, 9, 2);
+
     add(LHZ_VOICE, 2, 0, 0);
     add(LHZ_VOICE, 1, 0, 0);
     add(LHZ_NEAR, 0, 1, 0);

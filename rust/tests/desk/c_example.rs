@@ -190,12 +190,12 @@ fn faults_are_reported() {
     }
 }
 
-/// The sample listing of document 01, through buffers of one row, a row and a word, two rows, and
-/// more than that.
+/// The sample listing, as request N3 of document 02 has it, through buffers of one row, a row and a
+/// word, two rows, and more than that.
 #[test]
 fn the_sample() {
     let data = repository("crates/lister/data");
-    let printed = "scene 1 1 2 5\nscene 2 1 4 9\ndone 6\n";
+    let printed = "scene 1 1 2 5\ndone 6\n";
     ends(&EVERY, &data, &TITLES, 0, printed, "");
     for words in ["4", "5", "8", "100", "3866624", "0004"] {
         ends(&QUICK, &data, &["titles.vol", "titles.plan", words], 0, printed, "");

@@ -13,7 +13,10 @@ const COMMANDS: [&str; 7] = ["check", "list", "read", "test", "write", "plan", "
 /// What the guide's commands that are not run start with.
 const NOT_RUN: [&str; 5] = ["make", "export", "cp", "cd", "cc"];
 /// The plans of the archive.
-const PLANS: [&str; 6] = ["1-word", "2-near", "3-order", "4-span", "5-joined", "6-apart"];
+const PLANS: [&str; 7] =
+    ["1-word", "2-near", "3-order", "4-span", "5-joined", "6-apart", "7-screen"];
+/// What stands in the wording above words that are spoken, with no title on the screen.
+const SPOKEN: &str = "(spoken)";
 
 /// A fresh copy of the archive.
 fn desk() -> Folder {
@@ -223,8 +226,19 @@ fn spelled(word: &str) -> String {
     word
 }
 
+/// What stands in the box of a scene, parted by empty lines: whether it is spoken, and the lines of
+/// places and of words by turns.
+fn lead_in_and_titles<'a>(fenced: &'a Fenced<'_>) -> Vec<(bool, &'a [&'a str])> {
+    let part = |lines: &'a [&'a str]| match lines {
+        [first, rest @ ..] if *first == SPOKEN => (true, rest),
+        _ => (false, lines),
+    };
+    fenced.inside.split(|line| line.is_empty()).map(part).collect()
+}
+
 /// The scenes of the wording. Under each heading stands one box; in it a line of places stands
-/// above each line of words, and an empty line parts two titles.
+/// above each line of words, and an empty line parts two titles. What is spoken starts no title,
+/// and stands in front of all titles.
 fn scenes(wording: &str) -> Vec<Scene> {
     let headings: Vec<&str> =
         wording.lines().filter_map(|line| line.strip_prefix("## Scene ")).collect();
@@ -233,10 +247,13 @@ fn scenes(wording: &str) -> Vec<Scene> {
     let scene = |(heading, fenced): (&str, Fenced<'_>)| {
         let number = heading.parse().unwrap_or_else(|_| panic!("no number: `{heading}`"));
         let mut scene = Scene { number, starts: vec![], words: vec![] };
-        for title in fenced.inside.split(|line| line.is_empty()) {
-            assert!(!title.is_empty() && title.len() % 2 == 0, "scene {number}: {title:?}");
-            scene.starts.push(scene.words.len());
-            for lines in title.chunks(2) {
+        for (spoken, part) in lead_in_and_titles(&fenced) {
+            assert!(!part.is_empty() && part.len() % 2 == 0, "scene {number}: {part:?}");
+            match spoken {
+                true => assert_eq!(scene.starts, [], "scene {number}: {part:?}"),
+                false => scene.starts.push(scene.words.len()),
+            }
+            for lines in part.chunks(2) {
                 let (places, words) = (columns(lines[0]), columns(lines[1]));
                 assert_eq!(places.len(), words.len(), "scene {number}: {lines:?}");
                 for ((column, place), (below, word)) in places.into_iter().zip(words) {
@@ -257,6 +274,8 @@ fn the_lists_are_those_of_the_wording() {
     let scenes = scenes(&text(archive.join("wording.md")));
     assert!(scenes.windows(2).all(|pair| pair[0].number < pair[1].number), "the scenes rise");
     assert!(scenes.len() >= 8, "{} scenes", scenes.len());
+    let lead_ins = scenes.iter().filter(|scene| scene.starts.first() != Some(&0)).count();
+    assert!(lead_ins >= 2, "{lead_ins} scenes begin with words that are spoken");
 
     // A comment with number and word stands above each list.
     let lists = text(archive.join("lists.txt"));
@@ -311,11 +330,12 @@ fn the_guide_quotes_what_is_there() {
     }
 
     // Titles, in the last column of a table, with the words that are found in bold.
-    let screen: Vec<String> = boxes(&wording)
-        .iter()
-        .flat_map(|fenced| &fenced.inside)
-        .map(|line| line.split_whitespace().collect::<Vec<&str>>().join(" "))
-        .collect();
+    let joined = |line: &&str| line.split_whitespace().collect::<Vec<&str>>().join(" ");
+    let shown = |fenced: &Fenced<'_>| -> Vec<String> {
+        let titles = lead_in_and_titles(fenced).into_iter().filter(|(spoken, _)| !spoken);
+        titles.flat_map(|(_, lines)| lines.iter().map(joined)).collect()
+    };
+    let screen: Vec<String> = boxes(&wording).iter().flat_map(shown).collect();
     let in_table = |line: &&str| line.starts_with('|') && line.contains("**");
     let titles: Vec<&str> = prose.lines().filter(in_table).collect();
     assert!(titles.len() >= 7, "{} titles", titles.len());

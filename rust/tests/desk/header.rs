@@ -88,31 +88,43 @@ list 9 0 0 0 0
 test 9 0 0
 list 14 0 0 0 0
 sample, 4 words
-list 0 0 1 4 2: 1 1 2 5
-list 0 0 1 2 65536: 2 1 4 9
-done 2 6
+list 0 0 1 6 65536: 1 1 2 5
+done 1 6
 sample, 7 words
-list 0 0 1 4 2: 1 1 2 5
-list 0 0 1 2 65536: 2 1 4 9
-done 2 6
+list 0 0 1 6 65536: 1 1 2 5
+done 1 6
 sample, 8 words
-list 0 0 2 6 65536: 1 1 2 5: 2 1 4 9
-done 2 6
+list 0 0 1 6 65536: 1 1 2 5
+done 1 6
 sample, 3 words
 list 16 0 0 0 0
+list 0 0 0 2 65536
+list 0 0 0 0 65536
+list 0 0 0 0 65536
+list 15 0 0 0 0
+list 15 0 0 0 0
+test 0 0 1
+test 0 0 0
+test 0 0 0
+test 0 0 0
+test 17 0 0
+test 17 0 0
+test 17 0 0
+test 17 0 0
+SAME TITLE 0 0, 4 words
+list 0 0 1 6 65536: 1 1 2 5
+done 1 6
+test 0 0 1
+test 0 0 0
+BEFORE, 4 words
+list 0 0 1 4 2: 1 1 2 5
 list 0 0 1 2 65536: 2 1 4 9
-list 0 0 0 0 65536
-list 0 0 0 0 65536
-list 15 0 0 0 0
-list 15 0 0 0 0
+done 2 6
+BEFORE, 8 words
+list 0 0 2 6 65536: 1 1 2 5: 2 1 4 9
+done 2 6
+list 0 0 1 2 65536: 2 1 4 9
 test 0 0 1
-test 0 0 0
-test 0 0 1
-test 0 0 0
-test 17 0 0
-test 17 0 0
-test 17 0 0
-test 17 0 0
 FIRST NOT SECOND, 7 words
 list 0 0 1 12 65536: 2 1 4 9 0 0 0
 done 1 12

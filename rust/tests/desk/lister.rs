@@ -104,7 +104,7 @@ fn longest(free: u32) -> Lists {
 #[test]
 fn the_sample() {
     let (volume, plan) = (sample().volume(), plan_bytes(&SAMPLE));
-    prints("the sample", File(&volume), File(&plan), "scene 1 1 2 5\nscene 2 1 4 9\ndone 6\n");
+    prints("the sample", File(&volume), File(&plan), "scene 1 1 2 5\ndone 6\n");
 }
 
 /// The sample volume and its two voices, with document 01's other conditions.
@@ -123,6 +123,30 @@ fn the_table_of_cases() {
         (vec![voice(1), voice(1), END], "scene 1 1 2 2\nscene 2 1 4 4\ndone 6\n"),
         (vec![voice(1), before(0, 0), END], "done 3\n"),
         (first_not_second, "scene 2 1 4 9 0 0 0\ndone 12\n"),
+    ] {
+        prints(&format!("{rows:?}"), File(&volume), File(&plan_bytes(&rows)), output);
+    }
+}
+
+/// SAME TITLE where a place stands before its scene's first title, as document 02 has it.
+#[test]
+fn words_before_the_first_title() {
+    // Scene 2 has no title; in scene 3 the first one starts at 5.
+    let posting = |doc: u32, pos: u32| doc * 65_536 + pos;
+    let starts = vec![posting(1, 0), posting(1, 6), posting(3, 5)];
+    let word = vec![posting(1, 2), posting(1, 8), posting(2, 4), posting(3, 2), posting(3, 8)];
+    let other = vec![posting(1, 5), posting(2, 4), posting(3, 3), posting(3, 7)];
+    let volume = Lists::new(&[starts, word, other]).volume();
+    for (rows, output) in [
+        (two(&[]), "scene 1 1 2 5\nscene 2 1 4 4\nscene 3 1 2 3\ndone 9\n"),
+        (two(&[same_title(0, 1)]), "scene 1 1 2 5\nscene 3 1 8 7\ndone 9\n"),
+        (two(&[same_title(0, 1), before(0, 1)]), "scene 1 1 2 5\ndone 9\n"),
+        (two(&[same_title(1, 1)]), "scene 1 1 2 5\nscene 3 1 2 7\ndone 9\n"),
+        (vec![voice(1), same_title(0, 0), END], "scene 1 1 2\nscene 3 1 8\ndone 5\n"),
+        (
+            [two(&[]), two(&[same_title(0, 1)]), vec![FIRST_NOT_SECOND]].concat(),
+            "scene 2 1 4 4 0 0 0\ndone 18\n",
+        ),
     ] {
         prints(&format!("{rows:?}"), File(&volume), File(&plan_bytes(&rows)), output);
     }

@@ -19,7 +19,7 @@ fn answers_on_the_sample() {
         ("read titles.vol 1", "1:2 1:8 2:4\n"),
         ("read titles.vol 2", "1:5 1:7 2:9\n"),
         ("test titles.vol sample.plan 0 1 2 5", "yes\n"),
-        ("test titles.vol sample.plan 0 2 4 9", "yes\n"),
+        ("test titles.vol sample.plan 0 2 4 9", "no\n"),
         ("test titles.vol sample.plan 0 1 2 7", "no\n"),
         ("test titles.vol sample.plan 0 1 8 7", "no\n"),
         ("test titles.vol sample.plan 0 1 5 2", "no\n"),
@@ -132,6 +132,17 @@ fn the_table_of_cases() {
         ("VOICE 1\nVOICE 2\nBEFORE 1 0\nSAME TITLE 0 1\nEND", 2, "scene 1 1 8 7\ndone 6\n"),
         ("VOICE 1\nVOICE 1\nEND", 2, "scene 1 1 2 2\nscene 2 1 4 4\ndone 6\n"),
         ("VOICE 1\nBEFORE 0 0\nEND", 1, "done 3\n"),
+    ]);
+}
+
+/// SAME TITLE where a scene has no title, as document 02 has it.
+#[test]
+fn scenes_without_a_title() {
+    list_as(&[
+        ("VOICE 1\nVOICE 2\nSAME TITLE 0 1\nEND", 2, "scene 1 1 2 5\ndone 6\n"),
+        ("VOICE 2\nSAME TITLE 0 0\nEND", 1, "scene 1 1 5\ndone 3\n"),
+        ("VOICE 1\nVOICE 2\nSAME TITLE 1 1\nEND", 2, "scene 1 1 2 5\ndone 6\n"),
+        ("VOICE 1\nVOICE 2\nEND", 2, "scene 1 1 2 5\nscene 2 1 4 9\ndone 6\n"),
     ]);
 }
 

@@ -10,4 +10,5 @@ mod search_document;
 mod search_edges;
 mod search_random;
 mod search_refusals;
+mod search_titles;
 mod test_positions;

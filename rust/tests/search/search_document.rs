@@ -1,5 +1,6 @@
 //! What document 01 itself says of listings: its table of cases, starred and not, the sample
-//! listing, and the traps it names.
+//! listing, and the traps it names. Where request N3 of document 02 gives other rows, these stand
+//! here.
 
 use crate::plain::search::Listed;
 use crate::support::plans::*;
@@ -16,14 +17,14 @@ fn the_sample_listing() {
     let mut trial = Trial::default();
     let subject = over_sample(&SAMPLE);
     let (words, Listed { rows, tally, more }) = trial.list_rows(&subject, 0, 4_000).unwrap();
-    assert_eq!((rows, more), (2, None));
+    assert_eq!((rows, more), (1, None));
     let mut printed = String::new();
     for row in words.chunks(4) {
         let words: Vec<String> = row.iter().map(u32::to_string).collect();
         printed += &format!("scene {}\n", words.join(" "));
     }
     printed += &format!("done {tally}\n");
-    assert_eq!(printed, "scene 1 1 2 5\nscene 2 1 4 9\ndone 6\n");
+    assert_eq!(printed, "scene 1 1 2 5\ndone 6\n");
 }
 
 /// The plans of the table, each with the words of its rows and its tally, and BOTH and EITHER in
@@ -34,7 +35,7 @@ fn the_table_of_cases() {
     let before_and_near =
         |operator: Row| [two(&[before(0, 1)]), two(&[near(0, 1, 0)]), vec![operator]].concat();
     let rows: &[(&str, Vec<Row>, &[u32], u32)] = &[
-        ("the listing", SAMPLE.to_vec(), &[1, 1, 2, 5, 2, 1, 4, 9], 6),
+        ("the listing", SAMPLE.to_vec(), &[1, 1, 2, 5], 6),
         ("NEAR 0 1, c = 0", two(&[near(0, 1, 0)]), &[1, 1, 8, 7], 6),
         ("NEAR 0 1, c = 3", two(&[near(0, 1, 3)]), &[1, 1, 2, 5], 6),
         ("NEAR 0 1, c = 4", two(&[near(0, 1, 4)]), &[1, 1, 2, 5, 2, 1, 4, 9], 6),
@@ -71,16 +72,24 @@ fn the_table_of_cases() {
     }
 }
 
+/// A buffer of four words: the call from 0 is DONE and has tallied both documents, the call from 2
+/// gives no row. Without SAME TITLE there are two rows, and the first call says MORE.
 #[test]
-fn the_sample_in_two_calls() {
+fn a_buffer_of_four_words() {
     let mut trial = Trial::default();
     let subject = over_sample(&SAMPLE);
+    let first = Listed { rows: 1, tally: 6, more: None };
+    assert_eq!(trial.list_rows(&subject, 0, 4), Ok((vec![1, 1, 2, 5], first)));
+    let second = Listed { rows: 0, tally: 2, more: None };
+    assert_eq!(trial.list_rows(&subject, 2, 4), Ok((vec![], second)));
+    assert_eq!(trial.list_rows(&subject, 0, 3), Err((16, 0)));
+    assert_eq!(trial.list_rows(&subject, 2, 3), Err((16, 0)));
+
+    let subject = over_sample(&two(&[before(0, 1)]));
     let first = Listed { rows: 1, tally: 4, more: Some(2) };
     assert_eq!(trial.list_rows(&subject, 0, 4), Ok((vec![1, 1, 2, 5], first)));
     let second = Listed { rows: 1, tally: 2, more: None };
     assert_eq!(trial.list_rows(&subject, 2, 4), Ok((vec![2, 1, 4, 9], second)));
-    assert_eq!(trial.list_rows(&subject, 0, 3), Err((16, 0)));
-    assert_eq!(trial.list_rows(&subject, 2, 3), Err((16, 0)));
 }
 
 /// The sample from every document near its own, and from the ends.
@@ -88,18 +97,22 @@ fn the_sample_in_two_calls() {
 fn starts_of_the_sample() {
     let mut trial = Trial::default();
     let subject = over_sample(&SAMPLE);
+    let untitled = over_sample(&two(&[before(0, 1)]));
     let rows = [1, 1, 2, 5, 2, 1, 4, 9];
-    for (start, words, tally) in [
-        (0, &rows[..], 6),
-        (1, &rows, 6),
-        (2, &rows[4..], 2),
-        (3, &[], 0),
-        (4, &[], 0),
-        (65_534, &[], 0),
-        (65_535, &[], 0),
+    for (start, words, all_words, tally) in [
+        (0, &rows[..4], &rows[..], 6),
+        (1, &rows[..4], &rows, 6),
+        (2, &[], &rows[4..], 2),
+        (3, &[], &[], 0),
+        (4, &[], &[], 0),
+        (65_534, &[], &[], 0),
+        (65_535, &[], &[], 0),
     ] {
-        let listed = Listed { rows: words.len() as u32 / 4, tally, more: None };
-        assert_eq!(trial.list_rows(&subject, start, 8), Ok((words.to_vec(), listed)), "{start}");
+        for (subject, words) in [(&subject, words), (&untitled, all_words)] {
+            let listed = Listed { rows: words.len() as u32 / 4, tally, more: None };
+            let answer = trial.list_rows(subject, start, 8);
+            assert_eq!(answer, Ok((words.to_vec(), listed)), "{start}");
+        }
     }
     for start in [65_536, 65_537, 65_538, 131_072, 1 << 31, u32::MAX] {
         for room in [0, 3, 4, 8] {
@@ -131,10 +144,17 @@ fn neighbours_across_a_documents_edge() {
     let lists: [&[(u32, u32)]; 3] = [&[], &[(1, 3), (2, 9)], &[(1, 9), (2, 3)]];
     assert_eq!(listing(&lists, &two(&[near(0, 1, 0)])), (vec![], 4));
     assert_eq!(listing(&lists, &two(&[before(1, 0)])), (vec![2, 1, 9, 3], 4));
-    // Nor does a title start of another document part or join two positions.
-    let starts: &[(u32, u32)] = &[(0, 5), (2, 5)];
-    let lists = [starts, &[(0, 4), (1, 4), (2, 4)], &[(0, 6), (1, 6), (2, 6)]];
-    assert_eq!(listing(&lists, &two(&[same_title(0, 1)])), (vec![1, 1, 4, 6], 6));
+    // Nor does a title start of another document part two positions, or put them in a title.
+    let words: [&[(u32, u32)]; 2] = [&[(0, 4), (1, 4), (2, 4)], &[(0, 6), (1, 6), (2, 6)]];
+    for (starts, listed) in [
+        (&[(0, 0), (0, 5), (1, 0), (2, 0), (2, 5)][..], vec![1, 1, 4, 6]),
+        (&[(0, 0), (2, 0)], vec![0, 1, 4, 6, 2, 1, 4, 6]),
+        (&[(0, 0), (0, 65_535), (2, 0)], vec![0, 1, 4, 6, 2, 1, 4, 6]),
+        (&[(0, 5), (0, 65_535), (2, 5)], vec![]),
+    ] {
+        let lists = [starts, words[0], words[1]];
+        assert_eq!(listing(&lists, &two(&[same_title(0, 1)])), (listed, 6), "{starts:?}");
+    }
 }
 
 /// Trap: on a failed NEAR the earlier variable moves, and never the later one.

@@ -84,41 +84,59 @@ fn before_at_its_edges() {
 #[test]
 fn same_title_at_its_edges() {
     let rows: &[(Of, Of, Of, Pair)] = &[
-        // no starts
-        (&[], &[0], &[65_535], Some([0, 65_535])),
-        (&[], &[7], &[7], Some([7, 7])),
+        // no starts: there is no title
+        (&[], &[0], &[65_535], None),
+        (&[], &[7], &[7], None),
         // a start on the larger position parts them, one on the smaller does not
-        (&[5], &[4], &[5], None),
-        (&[5], &[5], &[6], Some([5, 6])),
-        (&[5], &[5], &[5], Some([5, 5])),
-        (&[5], &[4], &[6], None),
-        (&[5], &[6], &[7], Some([6, 7])),
+        (&[0, 5], &[4], &[5], None),
+        (&[0, 5], &[5], &[6], Some([5, 6])),
+        (&[0, 5], &[5], &[5], Some([5, 5])),
+        (&[0, 5], &[4], &[6], None),
+        (&[0, 5], &[3], &[4], Some([3, 4])),
+        (&[0, 5], &[6], &[7], Some([6, 7])),
         (&[4, 5], &[4], &[5], None),
         (&[5, 6], &[5], &[5], Some([5, 5])),
-        // before the first start there is one title
-        (&[5], &[3], &[4], Some([3, 4])),
-        (&[5], &[0], &[4], Some([0, 4])),
-        (&[65_535], &[0], &[65_534], Some([0, 65_534])),
+        (&[5, 6], &[5], &[6], None),
+        // before the first start there is no title (more of it in `search_titles`)
+        (&[5], &[3], &[4], None),
+        (&[5], &[4], &[4], None),
+        (&[65_535], &[0], &[65_534], None),
+        // one before the first start, the other at it or behind
+        (&[5], &[4], &[5], None),
         (&[5, 9], &[0], &[65_535], None),
+        // at the first start
+        (&[5], &[5], &[65_535], Some([5, 65_535])),
         // starts at either end
         (&[0], &[0], &[65_535], Some([0, 65_535])),
         (&[0], &[0], &[0], Some([0, 0])),
+        (&[0], &[65_535], &[65_535], Some([65_535, 65_535])),
         (&[0, 65_535], &[65_534], &[65_535], None),
+        (&[0, 65_535], &[0], &[65_534], Some([0, 65_534])),
         (&[0, 65_535], &[65_535], &[65_535], Some([65_535, 65_535])),
-        (&[1], &[0], &[1], None),
         // the smaller one moves, to a title's first position or further on
         (&[3, 6, 9], &[4, 7], &[8], Some([7, 8])),
         (&[3, 6, 9], &[4, 6], &[8], Some([6, 8])),
         (&[3, 6, 9], &[4, 5, 6, 7], &[8], Some([6, 8])),
         (&[3, 6, 9], &[1, 4], &[7, 10], None),
-        (&[6], &[2, 8], &[5, 7], Some([2, 5])),
-        (&[6], &[2, 8], &[7, 9], Some([8, 7])),
         (&[4], &[2, 4], &[5, 9], Some([4, 5])),
         (&[10, 20, 30, 40], &[1, 12, 25, 41], &[11, 22, 33], Some([12, 11])),
         (&[10, 20, 30, 40], &[1, 15, 25, 41], &[22, 33], Some([25, 22])),
-        (&[10, 20, 30, 40], &[1, 15, 25, 41], &[9, 19], Some([1, 9])),
         (&[10, 20, 30, 40], &[1, 15, 35, 41], &[20, 29], None),
         (&[10, 20, 30, 40], &[1, 15, 35, 65_535], &[20, 29, 60], Some([65_535, 60])),
+        // both move to the first title, or as far behind it as they must
+        (&[5], &[2, 8], &[3, 7], Some([8, 7])),
+        (&[5], &[2, 5], &[3, 5], Some([5, 5])),
+        (&[5], &[0, 1, 2, 3, 4, 5], &[4, 9], Some([5, 9])),
+        (&[6], &[2, 8], &[5, 7], Some([8, 7])),
+        (&[6], &[2, 8], &[7, 9], Some([8, 7])),
+        (&[6], &[2, 8], &[5], None),
+        (&[6], &[2], &[5, 7], None),
+        (&[6, 9], &[2, 8], &[5, 10], None),
+        (&[6, 9], &[2, 8, 12], &[5, 10], Some([12, 10])),
+        (&[10, 20, 30, 40], &[1, 15, 25, 41], &[9, 19], Some([15, 19])),
+        (&[10, 20, 30, 40], &[1, 25, 41], &[9, 19], None),
+        (&[65_535], &[0, 65_535], &[65_534, 65_535], Some([65_535, 65_535])),
+        (&[65_535], &[0, 65_535], &[65_534], None),
     ];
     let mut trial = Trial::default();
     for &(starts, one, other, least) in rows {
@@ -174,18 +192,22 @@ fn span_at_its_edges() {
     }
 }
 
-/// A variable that a predicate names twice is near itself and in its own title, and never before
-/// itself.
+/// A variable that a predicate names twice is near itself and never before itself. It is in one
+/// title with itself where it is in a title: from the first start on.
 #[test]
 fn a_variable_named_twice() {
     let mut trial = Trial::default();
     for positions in [&[0][..], &[9], &[65_535], &[4, 5], &[0, 65_535]] {
         let first = &positions[..1];
         for starts in [&[][..], &[0], &[9], &[0, 9, 65_535], &[1], &[65_535]] {
-            for predicate in [near(0, 0, 0), near(0, 0, 65_535), same_title(0, 0), span(1)] {
+            for predicate in [near(0, 0, 0), near(0, 0, 65_535), span(1)] {
                 settles(&mut trial, starts, &[positions], &[predicate], Some(first));
             }
             settles(&mut trial, starts, &[positions], &[before(0, 0)], None);
+            let titled =
+                starts.first().and_then(|start| positions.iter().find(|&pos| pos >= start));
+            let titled = titled.map(std::slice::from_ref);
+            settles(&mut trial, starts, &[positions], &[same_title(0, 0)], titled);
         }
     }
     // Of two variables either one; the other is free.
@@ -198,7 +220,8 @@ fn a_variable_named_twice() {
     }
     for (predicate, least) in [(before(1, 0), Some(&[9, 3][..])), (before(0, 1), Some(&[9, 20]))] {
         settles(&mut trial, &[], &lists, &[predicate, near(1, 1, 0)], least);
-        settles(&mut trial, &[], &lists, &[same_title(0, 0), predicate], least);
+        settles(&mut trial, &[9], &lists, &[same_title(0, 0), predicate], least);
+        settles(&mut trial, &[], &lists, &[same_title(0, 0), predicate], None);
     }
 }
 
@@ -230,7 +253,10 @@ fn predicates_together() {
     }
     // All three in one title, the second before the first.
     for (starts, least) in [
-        (&[][..], Some(&[10, 2, 5][..])),
+        (&[][..], None),
+        (&[0], Some(&[10, 2, 5][..])),
+        (&[2], Some(&[10, 2, 5])),
+        (&[3], Some(&[20, 12, 5])),
         (&[5], Some(&[20, 12, 5])),
         (&[5, 12], Some(&[20, 12, 15])),
         (&[5, 12, 20], Some(&[30, 21, 22])),
@@ -619,7 +645,7 @@ fn lists_over_the_edges_of_blocks() {
         let moved = Lists::new(&[lists[0], &front[..], lists[1], lists[2]]);
         let rows = [voice(2), voice(3), before(0, 1), same_title(0, 1), END];
         let subject = Subject::new(&moved.volume(), &rows.concat());
-        assert_eq!(trial.search(&subject, 4), (vec![1, 1, 2, 5, 2, 1, 4, 9], 6));
+        assert_eq!(trial.search(&subject, 4), (vec![1, 1, 2, 5], 6));
     }
 }
 
@@ -634,8 +660,8 @@ fn any_alignment() {
         memory[lent.clone()].copy_from_slice(&volume);
         let mut out = [7; 9];
         let listing = lihambozy::calls::list(&memory[lent.clone()], &plan, 0, &mut out);
-        assert_eq!(listing, Ok(Listing { rows: 2, tally: 6, next: Next::Done }), "{offset}");
-        assert_eq!(out, [1, 1, 2, 5, 2, 1, 4, 9, 7], "{offset}");
+        assert_eq!(listing, Ok(Listing { rows: 1, tally: 6, next: Next::Done }), "{offset}");
+        assert_eq!(out, [1, 1, 2, 5, 7, 7, 7, 7, 7], "{offset}");
         let passes = lihambozy::calls::test_positions(&memory[lent], &plan, 0, 1, &[8, 7]);
         assert_eq!(passes, Ok(false), "{offset}");
     }

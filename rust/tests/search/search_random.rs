@@ -1,6 +1,7 @@
 //! Random volumes and plans, searched whole through random buffers, beside the naive searcher:
 //! every answer and every word of the memory, and what document 01 says of the search as a whole.
 
+use crate::plain::search::Searcher;
 use crate::support::searches::*;
 use crate::support::*;
 use lihambozy::kind;
@@ -46,6 +47,42 @@ fn count_rows(met: &mut Met, subject: &Subject) {
     }
 }
 
+/// Where titles start in the documents that have a word of the plan, and what patterns of one SAME
+/// TITLE, over one variable or more, make of it.
+fn count_titles(met: &mut Met, searcher: &Searcher) {
+    for doc in searcher.docs() {
+        let first_start = searcher.positions(0, doc).first().copied();
+        let words = searcher.patterns.iter().flat_map(|pattern| searcher.of_vars(pattern, doc));
+        let Some(first_word) = words.flatten().min() else { continue };
+        met.count("documents with words", 1);
+        met.count("documents without titles", usize::from(first_start.is_none()));
+        let has_lead_in = first_start.is_some_and(|start| first_word < start);
+        met.count("documents with a lead-in", usize::from(has_lead_in));
+
+        for pattern in &searcher.patterns {
+            let &[[kind::SAME_TITLE, a, b, _]] = &pattern.predicates[..] else { continue };
+            let of_vars = searcher.of_vars(pattern, doc);
+            if of_vars.iter().any(Vec::is_empty) {
+                continue;
+            }
+            let is_found = searcher.earliest(pattern, doc).is_some();
+            let spoken =
+                |var: u32| first_start.is_some_and(|start| of_vars[var as usize][0] < start);
+            let what = match (first_start, is_found) {
+                (None, _) => "SAME TITLE and no title",
+                (_, false) if spoken(a) && spoken(b) => "SAME TITLE missed, in a lead-in",
+                (_, false) if spoken(a) || spoken(b) => "SAME TITLE missed, one in a lead-in",
+                (_, true) if spoken(a) && spoken(b) => "SAME TITLE found behind a lead-in",
+                (_, true) if spoken(a) || spoken(b) => "SAME TITLE found, one moved over a lead-in",
+                _ => "SAME TITLE without a lead-in",
+            };
+            met.count(what, 1);
+            let itself = if is_found { "found" } else { "missed" };
+            met.count(&format!("SAME TITLE of one variable {itself}"), usize::from(a == b));
+        }
+    }
+}
+
 #[test]
 fn whole_searches() {
     let seed = 65_536;
@@ -60,6 +97,7 @@ fn whole_searches() {
         }
         other_starts(&mut rng, &mut trial, &subject, 3);
         count_rows(&mut met, &subject);
+        count_titles(&mut met, subject.searcher());
     }
     trial.assert_met(Call::List, 3_000, &[0, 15, 16]);
     met.assert_at_least(&[
@@ -83,12 +121,24 @@ fn whole_searches() {
         ("BEFORE found", 1_600),
         ("BEFORE missed", 1_600),
         ("SAME TITLE found", 1_600),
-        ("SAME TITLE missed", 330),
+        ("SAME TITLE missed", 1_000),
+        ("SAME TITLE without a lead-in", 3_300),
+        ("SAME TITLE found behind a lead-in", 800),
+        ("SAME TITLE found, one moved over a lead-in", 60),
+        ("SAME TITLE missed, in a lead-in", 1_000),
+        ("SAME TITLE missed, one in a lead-in", 80),
+        ("SAME TITLE and no title", 500),
+        ("SAME TITLE of one variable found", 3_300),
+        ("SAME TITLE of one variable missed", 1_000),
+        ("documents without titles", 3_300),
         ("SPAN found", 1_600),
         ("SPAN missed", 330),
         ("APART found", 1_000),
         ("APART missed", 1_000),
     ]);
+    let [lead_ins, docs] =
+        ["with a lead-in", "with words"].map(|of| met.0[&format!("documents {of}")]);
+    assert!(3 * lead_ins >= docs, "{lead_ins} of {docs} documents have a lead-in");
     let made = trial.made(Call::List);
     assert!(made >= 100_000, "{made} comparisons");
 }
@@ -106,6 +156,15 @@ fn large_archives() {
         random_search(&mut rng, &mut trial, &mut met, &subject);
         other_starts(&mut rng, &mut trial, &subject, 3);
         count_rows(&mut met, &subject);
+        count_titles(&mut met, subject.searcher());
     }
-    met.assert_at_least(&[("more than one block", 100), ("rows", 2_000), ("more", 500)]);
+    met.assert_at_least(&[
+        ("more than one block", 100),
+        ("rows", 2_000),
+        ("more", 500),
+        ("documents with a lead-in", 6_000),
+        ("documents without titles", 1_600),
+        ("SAME TITLE missed, in a lead-in", 300),
+        ("SAME TITLE found behind a lead-in", 40),
+    ]);
 }

@@ -77,7 +77,7 @@ fn buffers_of_every_length() {
 /// A refused call changes nothing for the ones that follow it.
 #[test]
 fn calls_behind_a_refused_one() {
-    let subject = Subject::new(&sample().volume(), &SAMPLE.concat());
+    let subject = Subject::new(&sample().volume(), &two(&[before(0, 1)]).concat());
     let mut trial = Trial::default();
     let mut search = Search::new(&subject);
     let (mut memory, lent) = memory_for(4);
@@ -151,9 +151,9 @@ fn lengths_over_8_16_and_32_bits() {
     for longer in [1 << 8, 1 << 16, 1 << 30] {
         let mut out = vec![0; longer + 3];
         let listing = lihambozy::calls::list(&volume, &plan, 0, &mut out);
-        assert_eq!(listing, Ok(Listing { rows: 2, tally: 6, next: Next::Done }), "{longer}");
-        assert_eq!(out[..8], [1, 1, 2, 5, 2, 1, 4, 9], "{longer}");
-        assert!(out[8..259].iter().all(|&word| word == 0), "{longer}");
+        assert_eq!(listing, Ok(Listing { rows: 1, tally: 6, next: Next::Done }), "{longer}");
+        assert_eq!(out[..4], [1, 1, 2, 5], "{longer}");
+        assert!(out[4..259].iter().all(|&word| word == 0), "{longer}");
         let refused = lihambozy::calls::list(&volume, &out, 0, &mut [0; 9]).map_err(pair);
         assert_eq!(refused, Err((9, 0)), "{longer}");
     }

@@ -22,7 +22,7 @@ fn positions_of_the_sample() {
         (1, [5, 2], false), // each in the other's list
         (1, [2, 6], false),
         (1, [0, 5], false),
-        (2, [4, 9], true),
+        (2, [4, 9], false), // no title
         (2, [2, 5], false), // in another document
         (1, [4, 9], false),
         (0, [2, 5], false),
@@ -48,7 +48,10 @@ fn positions_of_the_sample() {
         (before(1, 0), 1, [2, 5], false),
         (same_title(0, 1), 1, [8, 7], true),
         (same_title(0, 1), 1, [8, 5], false),
-        (same_title(1, 0), 2, [4, 9], true),
+        (same_title(0, 0), 1, [8, 5], true),
+        (same_title(1, 0), 2, [4, 9], false), // no title
+        (same_title(0, 0), 2, [4, 9], false),
+        (same_title(1, 1), 2, [4, 9], false),
         (apart(0, 1, 2, 2), 1, [2, 5], true),
         (apart(0, 1, 3, 9), 1, [2, 5], false), // below least
         (apart(0, 1, 0, 1), 1, [2, 5], false), // over most
@@ -80,8 +83,8 @@ fn every_small_choice() {
         (before(0, 1), 3),
         (before(1, 0), 2),
         (before(1, 1), 0),
-        (same_title(0, 1), 3),
-        (same_title(1, 1), 5),
+        (same_title(0, 1), 2),
+        (same_title(1, 1), 4),
         (span(1), 0),
         (span(4), 3),
         (apart(0, 1, 0, 65_535), 3),

@@ -263,6 +263,13 @@ pub fn list_in(docs: &[u32], positions: &[u32]) -> Vec<u32> {
     docs.iter().flat_map(|doc| positions.iter().map(move |pos| doc * 65_536 + pos)).collect()
 }
 
+/// Postings told by document and position, rising and each once.
+pub fn rising(mut list: Vec<(u32, u32)>) -> Vec<(u32, u32)> {
+    list.sort_unstable();
+    list.dedup();
+    list
+}
+
 /// One pattern, variable i on list i + 1, over documents that all have the same positions. It is
 /// found at the least positions given, or not found.
 #[track_caller]
@@ -349,15 +356,28 @@ fn random_window(rng: &mut Rng) -> Vec<u32> {
     }
 }
 
+/// List 0 of these documents. A part of them has a lead-in: the first title starts behind some of
+/// the positions. Some have no title at all. In the others all positions are in titles.
+fn random_starts(rng: &mut Rng, docs: &[u32], window: &[u32]) -> Vec<u32> {
+    let smallest = window.iter().copied().min().expect("an archive uses some positions");
+    let often = rng.pick(&[1, 1, 3, 10, 30]);
+    let mut starts = BTreeSet::new();
+    for &doc in docs {
+        let first = match rng.below(12) {
+            0 => continue,
+            1..=6 => rng.pick(window),
+            _ => rng.pick(&[smallest, smallest, 0]),
+        };
+        let more = (1..often).map(|_| rng.pick(window)).filter(|&pos| pos > first);
+        starts.extend([first].into_iter().chain(more).map(|pos| doc * 65_536 + pos));
+    }
+    starts.into_iter().collect()
+}
+
 /// An archive of few documents, with up to `most` positions of a list in each.
 pub fn random_archive(rng: &mut Rng, most: usize) -> Archive {
     let (docs, window) = (random_docs(rng), random_window(rng));
-    let often = rng.pick(&[0, 1, 3, 10, 30]);
-    let mut starts = BTreeSet::new();
-    for &doc in &docs {
-        starts.extend((0..often).map(|_| doc * 65_536 + rng.pick(&window)));
-    }
-    let mut lists = vec![starts.into_iter().collect()];
+    let mut lists = vec![random_starts(rng, &docs, &window)];
     let mut named = Vec::new();
     for _ in 0..rng.pick(&[1, 2, 3, 4, 5, 6]) {
         // A list that no plan names moves the others on, over the edges of the blocks.
@@ -487,13 +507,13 @@ pub fn random_large_subject(rng: &mut Rng) -> Subject {
     let (mut rows, _) = random_query(rng);
     let count = 100 + rng.below(400);
     let apart = 1 + rng.below(65_535 / count) as u32;
-    let mut list = |most: usize| -> Vec<u32> {
-        let positions: Vec<u32> = (0..20).collect();
-        let docs = (0..count as u32).map(|i| i * apart).filter(|_| rng.below(3) > 0);
-        let docs: Vec<u32> = docs.collect();
-        random_positions(rng, &docs, &positions, most)
-    };
-    let lists: Vec<Vec<u32>> = [4, 2, 2, 2, 1, 1, 1].into_iter().map(&mut list).collect();
+    let docs: Vec<u32> = (0..count as u32).map(|i| i * apart).collect();
+    let positions: Vec<u32> = (0..20).collect();
+    let mut lists = vec![random_starts(rng, &docs, &positions)];
+    for most in [2, 2, 2, 1, 1, 1] {
+        let some: Vec<u32> = docs.iter().copied().filter(|_| rng.below(3) > 0).collect();
+        lists.push(random_positions(rng, &some, &positions, most));
+    }
     for row in rows.iter_mut().filter(|row| row[0] == lihambozy::kind::VOICE) {
         row[1] = 1 + rng.below(6) as u32;
     }
@@ -516,6 +536,50 @@ pub fn random_run(rng: &mut Rng) -> Subject {
         _ => return subject,
     }
     Subject::new(&volume, &plan)
+}
+
+/// A random pattern: the lists that it is searched in, its VOICE rows, and predicates of any kind
+/// beside those that a test adds.
+pub struct RandomPattern {
+    pub lists: Lists,
+    pub voices: Vec<Row>,
+    others: Vec<Row>,
+}
+
+impl RandomPattern {
+    pub fn new(rng: &mut Rng) -> RandomPattern {
+        let vars = rng.pick(&[2, 2, 3, 4]);
+        let most = most_positions(rng, vars);
+        let archive = random_archive(rng, most);
+        let voices = (0..vars).map(|_| voice(rng.pick(&archive.named))).collect();
+        let others = (0..rng.pick(&[0, 0, 1, 2])).map(|_| small_predicate(rng, vars)).collect();
+        RandomPattern { lists: archive.lists, voices, others }
+    }
+
+    /// The same pattern over other lists.
+    pub fn over(&self, lists: &[&[u32]]) -> RandomPattern {
+        let (voices, others) = (self.voices.clone(), self.others.clone());
+        RandomPattern { lists: Lists::new(lists), voices, others }
+    }
+
+    /// The pattern's rows with these predicates, in front of the others or behind them.
+    pub fn with(&self, in_front: bool, predicates: &[Row]) -> Vec<Row> {
+        let both = [predicates, &self.others];
+        let [one, other] = if in_front { both } else { [both[1], both[0]] };
+        [&self.voices[..], one, other, &[END]].concat()
+    }
+
+    /// The rows that the library lists, as the naive searcher has them.
+    #[track_caller]
+    pub fn listed(&self, trial: &mut Trial, rows: &[Row]) -> Vec<Vec<u32>> {
+        let case = trial.case.clone();
+        trial.case += &format!(", {rows:?}");
+        let subject = Subject::new(&self.lists.volume(), &rows.concat());
+        let width = subject.searcher().width();
+        let (words, _) = trial.search(&subject, 100 * width);
+        trial.case = case;
+        words.chunks(width).map(<[u32]>::to_vec).collect()
+    }
 }
 
 /// A number of words for a buffer: too few for a row, or as many as some rows have or nearly so.
