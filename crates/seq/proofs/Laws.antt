@@ -4,6 +4,7 @@
 --     Lists      total, joined and lists that rise
 --     Totals     sums over a list
 --     Keep       the elements that pass a test
+--     Members    elements, and facts of each, by recursion
 --     Numbers    firstFrom, run and sumTo
 --     Runs       runs, sums and searches of lists
 --     Slices     parts of lists, as runs of their values
@@ -13,11 +14,13 @@
 --     Ladder     the rungs of such a ladder, stage by stage
 --     Stages     a call over another: its refusals come behind
 --     Pages      what is written of a list
+--     Calls      calls one after another, and the one that closes
 pub mod Tests
 pub mod Decides
 pub mod Lists
 pub mod Totals
 pub mod Keep
+pub mod Members
 pub mod Numbers
 pub mod Runs
 pub mod Slices
@@ -27,3 +30,4 @@ pub mod Refusals
 pub mod Ladder
 pub mod Stages
 pub mod Pages
+pub mod Calls

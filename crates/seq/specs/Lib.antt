@@ -4,7 +4,9 @@
 --     Refusals   Said, laid, FirstRefusalOf, stageIn, FirstRefusal: what a call answers, what it leaves in a lent buffer, and which refusal
 --                comes first
 --     Pages      Portion, portion: what is written of a list of which only so many fit, and the first one left
+--     Calls      Form, Call: calls with a lent buffer as they were made, and the form of their answers
 pub mod Lists
 pub mod Numbers
 pub mod Refusals
 pub mod Pages
+pub mod Calls

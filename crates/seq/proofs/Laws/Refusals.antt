@@ -7,6 +7,7 @@
 --     before-or      of two refusals one comes before the other, or they are one
 --     past           behind a rung that refuses
 --     laid-refused, laid-answered
+--     not-both, same-answer     an answer is no refusal, and has one value
 --     alike          two answers that are told alike are one, where each can be known from what is told
 -- Assumes nothing.
 use Prim.Native.Nat.{ℕ, _<_, _≤_}
@@ -33,6 +34,10 @@ alike said heard back a b e = sym (back a) ∙ ap heard e ∙ back b
 
 pub not-both : {A : Type 0} (s : Said A) (a : A) (n p : ℕ) → s ≡ answered a → s ≡ refused n p → ⊥
 not-both s a n p x y = let z : _≡_ {A = ℕ} 0 1 = cc in omega arith
+
+-- an answer has one value
+pub same-answer : {A : Type 0} (s : Said A) (a b : A) → s ≡ answered a → s ≡ answered b → a ≡ b
+same-answer s a b x y = let z : answered a ≡ answered b = sym x ∙ y in cc
 
 -- past a rung that refuses
 pub past : {A : Type 0} (t : Bool) (n p : ℕ) (rest : Said A) (a : A) → cond t (refused n p) rest ≡ answered a → (t ≡ false) × (rest ≡ answered a)

@@ -47,7 +47,7 @@ module _ (k : ℕ) (A B : ℕ → ℕ → ℕ → Type 0) (o : OverOf k A B) whe
   over-refused-of x y n p said s e = told-of B y n p (over-first-of n p (s .first n p e))
 
 -- a number of the first groups has its stage there
-stage-front : (gs hs : List (List ℕ)) (n : ℕ) → stageIn gs n < length gs → stageIn (gs ++ hs) n ≡ stageIn gs n
+pub stage-front : (gs hs : List (List ℕ)) (n : ℕ) → stageIn gs n < length gs → stageIn (gs ++ hs) n ≡ stageIn gs n
 unfolding stageIn
 stage-front [] hs n h = absurd (let z : ⊥ = omega arith in z)
 stage-front (g ∷ gs) hs n h = go (elem n g) h (stage-front gs hs n)
