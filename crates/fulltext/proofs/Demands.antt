@@ -1,7 +1,11 @@
 -- Each statement of `specs/Demands.antt`, proved. Assumes nothing.
-use Rattle.fulltext.specs.Demands.{Demand2, SameparaIs, ProximityIs}
+use Rattle.volume.specs.Layout.{listsOf}
+use Rattle.fulltext.specs.Demands.{Demand2, SameparaIs, ProximityIs, OrderIs, MatchesFromIs}
+use Rattle.fulltext.proofs.Laws.Positions.{lists-rise}
 use Rattle.fulltext.proofs.Laws.Calculus.{agrees}
 use Rattle.fulltext.proofs.Laws.Needs.{sameparas, proximities}
+use Rattle.fulltext.proofs.Laws.Order.{ordering}
+use Rattle.fulltext.proofs.Laws.Enumeration.{enumerable}
 
 pub demand2 : Demand2
 unfolding Demand2
@@ -14,3 +18,11 @@ samepara-is = sameparas
 pub proximity-is : ProximityIs
 unfolding ProximityIs
 proximity-is = proximities
+
+pub order-is : OrderIs
+unfolding OrderIs
+order-is = ordering
+
+pub matches-from-is : MatchesFromIs
+unfolding MatchesFromIs
+matches-from-is v a d f = enumerable (listsOf v) (lists-rise v a) d f

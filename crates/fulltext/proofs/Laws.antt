@@ -2,6 +2,9 @@
 --     Positions    the positions of a document in a list, and membership
 --     Needs        what each predicate says and needs
 --     Least        the first match of a pattern is its least match
+--     Order        the order of tuples
+--     Ascending    lists of tuples in order
+--     Enumeration  the matches of a pattern from a tuple on
 --     Calculus     the tests that compute and the calculus agree
 --     Skips        documents in which nothing is found
 --     Counts       the words of a row, and the postings of a stretch of documents
@@ -9,6 +12,9 @@
 pub mod Positions
 pub mod Needs
 pub mod Least
+pub mod Order
+pub mod Ascending
+pub mod Enumeration
 pub mod Calculus
 pub mod Skips
 pub mod Counts

@@ -2,20 +2,26 @@
 --     Demand2        demand 2 for patterns and plans: the tests that compute and the calculus agree
 --     SameparaIs     what SAME TITLE is before a document's first start (02, N3), and behind it
 --     ProximityIs    what APART (02, N2) is beside BEFORE and NEAR, as a phrase, of one variable and the other way round
+--     OrderIs        the order of tuples is strict and total
+--     MatchesFromIs  the matches of a pattern from a tuple on (02, N4): which they are, in which order, the first one, and how they go on
 use Prim.Native.Nat.{ℕ, _+_, min, max, _<_, _≤_}
 use mathlib.Core.Path.{_≡_}
 use mathlib.Core.Bool.{true, false}
-use mathlib.Core.Logic.{_↔_, _≢_}
+use mathlib.Core.Logic.{_⊎_, _↔_, _≢_}
 use mathlib.Core.List.{List, []}
-use lib.ListN.{length}
+use lib.ListN.{length, getD, drop, replicate}
+use Rattle.seq.specs.Lists.{first}
 use Rattle.volume.specs.Layout.{listsOf}
+use Rattle.volume.specs.Check as volume
 use Rattle.plan.specs.declared.row.Predicate.the-variants.{Distance, Ordered, Samepara, Proximity}
 use Rattle.plan.specs.Limits.{noUpperEnd}
 use Rattle.plan.specs.Rows.{rowsOf}
 use Rattle.plan.specs.Check.{Accepted}
 use Rattle.plan.specs.Accepted.{patternAt}
+use Rattle.plan.specs.Patterns.{Pattern}
 use Rattle.fulltext.specs.Calculus.{at, In, True, openFormula, patternFormula, planFormula}
-use Rattle.fulltext.specs.Matches.{holds, matchesAt}
+use Rattle.fulltext.specs.Matches.{holds, matchesAt, matchesIn, leastIn}
+use Rattle.fulltext.specs.Order.{precedes, matchesFrom}
 use Rattle.fulltext.specs.Documents.{found, matching}
 
 -- the tests and the calculus, over an accepted volume and plan; a pattern that is not there has no variables and no predicates
@@ -75,3 +81,42 @@ pub record Proximities (starts ps : List ℕ) (a b : ℕ) : Type 0 where
 
 unfoldable pub ProximityIs : Type 0
 ProximityIs = (starts ps : List ℕ) (a b : ℕ) → Proximities starts ps a b
+
+-- the order of tuples: none comes before itself, it carries on, and of two with as many positions one comes before the other, or they are
+-- the same
+pub record Ordering : Type 0 where
+  pub irreflexive : (ps : List ℕ) → precedes ps ps ≡ false
+  pub transitive : (ps qs rs : List ℕ) → precedes ps qs ≡ true → precedes qs rs ≡ true → precedes ps rs ≡ true
+  pub total : (ps qs : List ℕ) → length ps ≡ length qs
+      → (precedes ps qs ≡ true) ⊎ ((ps ≡ qs) ⊎ (precedes qs ps ≡ true))
+
+unfoldable pub OrderIs : Type 0
+OrderIs = Ordering
+
+-- a tuple is one of several
+abbrev pub AmongTuples : List ℕ → List (List ℕ) → Type 0
+AmongTuples ps qs = (i : ℕ) × (i < length qs) × (getD qs i [] ≡ ps)
+
+-- the matches of a pattern in document d of an accepted volume, from a tuple on
+pub record FromTuple (lists : List (List ℕ)) (d : ℕ) (f : Pattern) (from : List ℕ) : Type 0 where
+  -- a tuple is among them exactly if it matches and does not come before the one that they start from
+  pub among : (ps : List ℕ)
+      → AmongTuples ps (matchesFrom lists d f from) ↔ ((matchesAt lists d f ps ≡ true) × (precedes ps from ≡ false))
+  -- each comes before those behind it, so each comes once
+  pub ascend : (i j : ℕ) → i < j → j < length (matchesFrom lists d f from)
+      → precedes (getD (matchesFrom lists d f from) i []) (getD (matchesFrom lists d f from) j []) ≡ true
+  -- from one of them on they are the ones from its place on
+  pub goOn : (m : ℕ) → m < length (matchesFrom lists d f from)
+      → matchesFrom lists d f (getD (matchesFrom lists d f from) m []) ≡ drop m (matchesFrom lists d f from)
+
+-- from zeros on they are all matches, and the first, where there is one, is the least match, which a listing shows
+pub record FromZeros (lists : List (List ℕ)) (d : ℕ) (f : Pattern) (n : ℕ) : Type 0 where
+  pub all : matchesFrom lists d f (replicate n 0) ≡ matchesIn lists d f
+  pub earliest : first (matchesFrom lists d f (replicate n 0)) ≡ leastIn lists d f
+
+pub record Enumerable (lists : List (List ℕ)) (d : ℕ) (f : Pattern) : Type 0 where
+  pub tuple : (from : List ℕ) → FromTuple lists d f from
+  pub zeros : (n : ℕ) → FromZeros lists d f n
+
+unfoldable pub MatchesFromIs : Type 0
+MatchesFromIs = (v : List ℕ) → volume.Accepted v → (d : ℕ) (f : Pattern) → Enumerable (listsOf v) d f

@@ -8,18 +8,18 @@
 --     rows-none, rows-one, rows-append, length-rows    rows of none, of one, of documents in two parts; their words
 -- Assumes nothing.
 use Prim.Native.Nat.{ℕ, zero, suc, _+_, _-_, _*_, _<_, _≤_}
-use native.Mathlib.Nat.{zero-mul, suc-mul}
 use native.Mathlib.Omega.{arith}
 use mathlib.Core.Path.{_≡_, refl, sym, ap, _∙_}
 use mathlib.Core.Bool.{Bool, true, false}
 use mathlib.Core.Logic.{⊎-elim}
 use mathlib.Core.List.{List, [], _∷_, _++_, map, map-append, append-nil}
-use lib.ListN.{length, getD, take, length-append}
+use lib.ListN.{length, getD, take, length-map}
 use lib.Seq.{length-take-le}
 use Rattle.seq.specs.Lists.{keep, joined}
 use Rattle.seq.specs.Numbers.{run}
 use Rattle.seq.proofs.Laws.Tests.{below-or}
 use Rattle.seq.proofs.Laws.Lists.{joined-append}
+use Rattle.seq.proofs.Laws.Members.{every-any, every-map, joined-even}
 use Rattle.seq.proofs.Laws.Keep.{keep-pass, keep-fail, keep-append, keep-run-none}
 use Rattle.seq.proofs.Laws.Numbers.{run-step}
 use Rattle.seq.proofs.Laws.Slices.{run-parts}
@@ -59,11 +59,10 @@ module _ (w : Work) where
   rows-append ds es = ap joined (map-append (w .rowOf) ds es) ∙ joined-append (map (w .rowOf) ds) (map (w .rowOf) es)
 
   pub length-rows : ((d : ℕ) → length (w .rowOf d) ≡ w .width) → (ds : List ℕ) → length (rowsOfDocs w ds) ≡ length ds * w .width
-  unfolding rowsOfDocs joined
-  length-rows even [] = sym (zero-mul (w .width))
-  length-rows even (d ∷ ds) =
-      length-append (w .rowOf d) (joined (map (w .rowOf) ds))
-      ∙ (let a = even d in let b = length-rows even ds in let c = suc-mul (length ds) (w .width) in omega arith)
+  unfolding rowsOfDocs
+  length-rows even ds =
+      joined-even (w .width) (map (w .rowOf) ds) (every-map (w .rowOf) (λ (row : List ℕ). length row ≡ w .width) ds (every-any (λ (d : ℕ). length (w .rowOf d) ≡ w .width) even ds))
+      ∙ ap (λ (n : ℕ). n * w .width) (length-map ds (w .rowOf))
 
 -- document number m of those from a on: it is true, and those in front of it are the true ones below it
 pub record IsAt (w : Work) (a b m t : ℕ) : Type 0 where

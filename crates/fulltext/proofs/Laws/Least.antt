@@ -12,6 +12,7 @@
 --     reaches-decides              a test of `⊑`
 --     leastFrom-iff, unfoundFrom-iff        the least match that stands at bounds or behind, and whether there is one
 --     leastFrom-all                where every match stands there, it is the least of all
+--     leastFrom-same               bounds that no match from others on is in front of leave the same match least
 -- The proof of `best` is an induction on the variables. The first tuple that passes has the least first position x that any has. The meet of it
 -- and another one that passes has x in front too, so what stands behind x in the first tuple is at most what stands there in the meet.
 -- Assumes nothing.
@@ -52,7 +53,7 @@ fits-length [] (p ∷ ps) e = absurd (true≢false (sym e))
 fits-length (l ∷ vs) [] e = absurd (true≢false (sym e))
 fits-length (l ∷ vs) (p ∷ ps) e = ap suc (fits-length vs ps (both (elem p l) (fits vs ps) e .1))
 
-match-length : (ss : List ℕ) (vs : List (List ℕ)) (cs : List Predicate) (ps : List ℕ) → isMatch ss vs cs ps ≡ true → length ps ≡ length vs
+pub match-length : (ss : List ℕ) (vs : List (List ℕ)) (cs : List Predicate) (ps : List ℕ) → isMatch ss vs cs ps ≡ true → length ps ≡ length vs
 match-length ss vs cs ps e = fits-length vs ps (both (fits vs ps) (allHold ss cs ps) e .0)
 
 -- the lesser of two elements is an element
@@ -307,7 +308,7 @@ module _ (ss : List ℕ) (vs : List (List ℕ)) (cs : List Predicate) (up : Rise
 
 -- of a volume's lists and a pattern's variables
 module _ (lists : List (List ℕ)) (d : ℕ) where
-  vars-rise : ((l : ℕ) → rises (listOf lists l) ≡ true) → (vars : List ℕ) → Rise (varsIn lists d vars)
+  pub vars-rise : ((l : ℕ) → rises (listOf lists l) ≡ true) → (vars : List ℕ) → Rise (varsIn lists d vars)
   unfolding rises
   vars-rise up [] x = refl
   vars-rise up (l ∷ vars) zero = positions-rise d (listOf lists l) (up l)
@@ -389,3 +390,14 @@ module _ (lists : List (List ℕ)) (up : (l : ℕ) → rises (listOf lists l) �
         go : (o : Option (List ℕ)) → leastFrom lists d f bs ≡ o → leastFrom lists d f bs ≡ leastIn lists d f
         go none e = e ∙ sym (unfound-iff .1 (λ qs m. unfoundFrom-iff .0 e qs (m, low qs m)))
         go (some ps) e = let w = leastFrom-iff ps .0 e in e ∙ sym (least-iff ps .1 (record { matching = w .0 .0; least = λ qs m. w .1 qs (m, low qs m) }))
+
+  -- bounds that no match from others on is in front of leave the same match least
+  pub leastFrom-same : (bs cs : List ℕ) → bs ⊑ cs → ((qs : List ℕ) → MatchFrom lists d f bs qs → cs ⊑ qs) → leastFrom lists d f bs ≡ leastFrom lists d f cs
+  leastFrom-same bs cs le low = go (leastFrom lists d f bs) refl
+    where
+      back : (qs : List ℕ) → MatchFrom lists d f cs qs → MatchFrom lists d f bs qs
+      back qs m = (m .0, λ x. let a = le x in let b = m .1 x in omega arith)
+
+      go : (o : Option (List ℕ)) → leastFrom lists d f bs ≡ o → leastFrom lists d f bs ≡ leastFrom lists d f cs
+      go none e = e ∙ sym (unfoundFrom-iff cs .1 (λ qs m. unfoundFrom-iff bs .0 e qs (back qs m)))
+      go (some ps) e = let w = leastFrom-iff bs ps .0 e in e ∙ sym (leastFrom-iff cs ps .1 ((w .0 .0, low ps (w .0)), λ qs m. w .1 qs (back qs m)))

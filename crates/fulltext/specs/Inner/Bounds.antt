@@ -1,9 +1,9 @@
 -- Matches that stand at bounds or behind, and how far a predicate asks a variable to go. Assumes nothing.
-use Prim.Native.Nat.{ℕ, _≤_}
+use Prim.Native.Nat.{ℕ, _<_, _≤_}
 use mathlib.Core.Path.{_≡_}
-use mathlib.Core.Bool.{Bool, true, _&&_}
+use mathlib.Core.Bool.{Bool, true, false, _&&_}
 use mathlib.Core.List.{List, [], _∷_}
-use mathlib.Core.Option.{Option}
+use mathlib.Core.Option.{Option, some}
 use lib.ListN.{length}
 use lib.Dec.{eqb, leb}
 use Rattle.seq.specs.Lists.{keep, first}
@@ -25,6 +25,12 @@ MatchFrom lists d f bs qs = (matchesAt lists d f qs ≡ true) × (bs ⊑ qs)
 unfoldable pub leastFrom : List (List ℕ) → ℕ → Pattern → List ℕ → Option (List ℕ)
 unfolding keep reaches matchesIn
 leastFrom lists d f bs = first (keep (reaches bs) (matchesIn lists d f))
+
+-- ps is the least match from ls on, and its first `held` variables are at ls; or no match from ls on has them there
+pub record HeldMatch (lists : List (List ℕ)) (d : ℕ) (f : Pattern) (ls : List ℕ) (held : ℕ) (r : Bool) (ps : List ℕ) : Type 0 where
+  pub least : r ≡ true → leastFrom lists d f ls ≡ some ps
+  pub same : r ≡ true → (x : ℕ) → x < held → at ps x ≡ at ls x
+  pub missed : r ≡ false → (qs : List ℕ) → MatchFrom lists d f ls qs → ((x : ℕ) → x < held → at qs x ≡ at ls x) → ⊥
 
 -- variable x needs at least b: wherever the predicate holds and each variable is at least as far as in ps, x is at b or behind
 abbrev pub Needs : List ℕ → Predicate → List ℕ → ℕ → ℕ → Type 0
