@@ -5,9 +5,10 @@ use mathlib.Core.Bool.{cond}
 use mathlib.Core.List.{List}
 use lib.Dec.{eqb}
 use Rattle.seq.specs.Refusals.{Said, refused, answered}
+use Rattle.seq.specs.Calls.{Form}
 use Rattle.fulltext.specs.Positions.{limit}
 use Rattle.search.specs.Answers.{Next, done, more, Page}
-use Rattle.search.specs.Search.{Form, KeptAs}
+use Rattle.search.specs.Search.{KeptAs}
 use Rattle.lihambozy.specs.declared.ListAnswer.{ListAnswer}
 use Rattle.lihambozy.specs.Flat.{flatListing}
 
@@ -23,7 +24,7 @@ heard a =
     (refused (a .refusal) (a .at))
 
 -- the form of the structs
-abbrev pub structs : Form ListAnswer
+abbrev pub structs : Form Page ListAnswer
 structs = record { make = flatListing; said = heard }
 
 -- what `lhz_list` promises of a call from document `start` on: of the buffer lent, the struct, and the buffer as it returns

@@ -8,6 +8,7 @@
 --     Settling      how a pattern's variables come to its least match
 --     Tried         the search for it, predicate by predicate
 --     Settled       a pattern that stands in a document, from its cursors to what is shown of it
+--     Range         refusal 17, test by test
 --     Testing       what testing positions finds
 --     TestFirst     testing answers the first refusal that applies
 --     Tests         testing and the calculus
@@ -22,6 +23,7 @@ pub mod Placed
 pub mod Settling
 pub mod Tried
 pub mod Settled
+pub mod Range
 pub mod Testing
 pub mod TestFirst
 pub mod Tests

@@ -88,6 +88,18 @@ impl Cursor {
         Cursor { at, end: self.end }
     }
 
+    // To position `pos` of document `doc`: to the first posting from here on that is not in front of
+    // it; to the end where there is none. A position of 65,536 is the next document's first.
+    pub fn advance_to(self, volume: &[u8], doc: u32, pos: u32) -> Cursor
+        requires { ⌜ Stretch (now volume) (self .at) (self .end) ⌝ }
+        ensures { λ r. ⌜ r ≡ sought (now (volume .entry)) (doc * 65536 + pos) self ⌝ }
+        ensures { λ r. ⌜ Forward self r ⌝ }
+    {
+        let bound = doc as u64 * Posting::POSITIONS as u64 + pos as u64;
+        let at = gallop(volume, self.at, self.end, bound);
+        Cursor { at, end: self.end }
+    }
+
     // Past position `pos` of document `doc`: to the first posting from here on behind it; to the end
     // where there is none.
     pub fn advance_past(self, volume: &[u8], doc: u32, pos: u32) -> Cursor

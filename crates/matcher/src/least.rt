@@ -1,19 +1,21 @@
 // One pattern in one document: its least match.
 ghost use mathlib.Core.Path.{_≡_};
+ghost use mathlib.Core.Bool.{true};
 ghost use mathlib.Core.List.{_∷_, _++_};
 ghost use Prim.Native.Nat.{ℕ, _+_, _<_, _≤_};
 ghost use lib.ListN.{length, getD, take, drop};
 ghost use Rattle.volume.specs.Posting.{posOf};
 ghost use Rattle.volume.specs.Layout.{word, streamLength, listsOf};
 ghost use Rattle.plan.specs.Accepted.{patternAt};
-ghost use Rattle.fulltext.specs.Inner.Bounds.{leastFrom};
+ghost use Rattle.fulltext.specs.Inner.Bounds.{HeldMatch};
 ghost use Rattle.fulltext.specs.Documents.{found, shownIn};
 ghost use Rattle.matcher.specs.Inner.Cursors.{Stretch};
-ghost use Rattle.matcher.specs.Inner.Settling.{Jumped, Standing, givenIf, Posed, Ready};
+ghost use Rattle.matcher.specs.Inner.Settling.{Jumped, Standing, Posed, Ready};
 use super::cursor::Cursor;
 use super::cursor::Document;
 use super::predicates::Shortfall;
 use super::predicates::falls_short;
+use super::store::put_row;
 use plan::MOST_PATTERN_VARS;
 use plan::Outline;
 use plan::predicate_at;
@@ -49,7 +51,7 @@ fn stand(
 
 // Moves variable x, whose list ends at `end`, to its first position in a document that is not below
 // `need`. Whether there is one.
-fn jump(
+pub fn jump(
     volume: &[u8],
     doc: u32,
     end: usize,
@@ -60,13 +62,12 @@ fn jump(
 ) -> bool
     requires { ⌜ x < length (now here) ⌝ }
     requires { ⌜ x < length (now positions) ⌝ }
-    requires { ⌜ 1 ≤ need ⌝ }
     requires { ⌜ Stretch (now volume) (getD (now here) x 0) end ⌝ }
     ensures { λ r. ⌜ Jumped (now (volume .entry)) doc end need x (now (here .entry)) (now (positions .entry)) r
         (now (here .exit)) (now (positions .exit)) ⌝ }
 {
     let cursor = Cursor { at: here[x], end };
-    let moved = cursor.advance_past(volume, doc, need - 1);
+    let moved = cursor.advance_to(volume, doc, need);
     let at = moved.at;
     if end <= at {
         return false;
@@ -82,13 +83,15 @@ fn jump(
 
 // Moves the cursors of a pattern from where they stand in a document to its least match there that
 // is not in front of them: each time a predicate fails, the variable that it leaves short jumps to
-// the first position that it needs at least. `ends` has the ends of the pattern's lists. Whether
-// there is such a match.
-fn match_from(
+// the first position that it needs at least. The first `held` variables must stay where they stand.
+// `ends` has the ends of the pattern's lists. Whether there is such a match; then the cursors stand
+// at it.
+pub fn match_from(
     volume: &[u8],
     plan: &[u32],
     outline: Outline,
     document: Document,
+    held: usize,
     ends: &[usize],
     here: &mut [usize],
     positions: &mut [u32],
@@ -97,10 +100,14 @@ fn match_from(
     requires { ⌜ outline .vars ≤ length (now here) ⌝ }
     requires { ⌜ outline .vars ≤ length (now positions) ⌝ }
     requires { ⌜ Standing (now volume) (document .doc) (patternAt (now plan) (outline .pattern)) (now here) (now positions) ⌝ }
-    ensures { λ r. ⌜ leastFrom (listsOf (now (volume .entry))) (document .doc) (patternAt (now (plan .entry)) (outline .pattern))
-        (take (outline .vars) (now (positions .entry)))
-        ≡ givenIf r (take (outline .vars) (now (positions .exit))) ⌝ }
+    requires { ⌜ held ≤ outline .vars ⌝ }
+    ensures { λ r. ⌜ HeldMatch (listsOf (now (volume .entry))) (document .doc) (patternAt (now (plan .entry)) (outline .pattern))
+        (take (outline .vars) (now (positions .entry))) held r (take (outline .vars) (now (positions .exit))) ⌝ }
     ensures { λ r. ⌜ length (now (positions .exit)) ≡ length (now (positions .entry)) ⌝ }
+    ensures { λ r. ⌜ length (now (here .exit)) ≡ length (now (here .entry)) ⌝ }
+    ensures { λ r. ⌜ (r ≡ true
+        → Standing (now (volume .entry)) (document .doc) (patternAt (now (plan .entry)) (outline .pattern)) (now (here .exit))
+        (now (positions .exit))) ⌝ }
 {
     let mut row = outline.condition;
     while row < outline.last {
@@ -111,6 +118,9 @@ fn match_from(
                 row += 1;
             }
             Shortfall::Short(x, need) => {
+                if x < held {
+                    return false;
+                }
                 let end = ends[x];
                 if !jump(volume, document.doc, end, x, need, here, positions) {
                     return false;
@@ -129,11 +139,7 @@ pub fn show(flag: u32, positions: &[u32], n: usize, row: &mut [u32])
     ensures { λ _. ⌜ now (row .exit) ≡ (flag ∷ take n (now (positions .entry))) ++ drop (1 + n) (now (row .entry)) ⌝ }
 {
     row[0] = flag;
-    let mut x: usize = 0;
-    while x < n {
-        row[1 + x] = positions[x];
-        x += 1;
-    }
+    put_row(positions, n, row, 1);
 }
 
 // A pattern in a document at which its cursors stand: 1 and its least match, or 0 and zeros, at the
@@ -165,6 +171,7 @@ pub fn settle(
         plan,
         outline,
         document,
+        0,
         &ends[first..],
         &mut here,
         &mut positions,

@@ -1,13 +1,14 @@
 // One pattern in one document: cursors on posting lists, position predicates, the least match, and
 // testing given positions.
 //
-// `test` has no `requires`; what it answers is an equation with a definition of `specs/`. `starts_of`,
-// `settle`, `show` and the moves of a `Cursor` serve the crate above, on a volume and a plan that it
-// has checked.
+// `test` has no `requires`; what it answers is an equation with a definition of `specs/`. The others
+// serve the crates above, on a volume and a plan that they have checked: cursors and their moves,
+// `settle` and what it is made of (`match_from`, `jump`, `show`, `put_row`), and `in_document`.
 mod answers;
 mod cursor;
 mod least;
 mod predicates;
+mod store;
 mod testing;
 
 pub use answers::Tested;
@@ -15,6 +16,10 @@ pub use cursor::Cursor;
 pub use cursor::Document;
 pub use cursor::list_cursor;
 pub use cursor::starts_of;
+pub use least::jump;
+pub use least::match_from;
 pub use least::settle;
 pub use least::show;
+pub use store::put_row;
+pub use testing::in_document;
 pub use testing::test;

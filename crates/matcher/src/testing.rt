@@ -36,7 +36,7 @@ use plan::predicate_at;
 use volume::Posting;
 
 // Whether no position is over 65,535.
-fn in_document(positions: &[u32]) -> bool
+pub fn in_document(positions: &[u32]) -> bool
     ensures { λ r. ⌜ r ≡ all (λ q. leb q 65535) (now (positions .entry)) ⌝ }
 {
     let n = positions.len();

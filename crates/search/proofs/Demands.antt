@@ -1,6 +1,6 @@
 -- Each statement of `specs/Demands.antt`, proved. Assumes nothing.
 use mathlib.Core.Path.{refl}
-use Rattle.search.specs.Search.{plain}
+use Rattle.seq.specs.Calls.{plain}
 use Rattle.search.specs.Demands.{ListRefuses, Demand3, OneToOne}
 use Rattle.search.proofs.Laws.ListFirst.{list-call}
 use Rattle.search.proofs.Laws.Whole.{holds3}

@@ -11,6 +11,7 @@ use mathlib.Core.Option.{none, some}
 use lib.ListN.{length, drop}
 use Rattle.seq.specs.Lists.{total}
 use Rattle.seq.specs.Refusals.{refused, answered, stageIn, FirstRefusal}
+use Rattle.seq.specs.Calls.{Form, plain, Call}
 use Rattle.block.specs.Bytes.{IsBytes}
 use Rattle.volume.specs.Layout.{count, listsOf}
 use Rattle.plan.specs.Rows.{rowsOf}
@@ -23,7 +24,7 @@ use Rattle.search.specs.declared.answers.Listed.{Listed}
 use Rattle.search.specs.Answers.{Page, saidListed}
 use Rattle.search.specs.Listing.{pageOf, rowsFrom, listAnswer, listOut}
 use Rattle.search.specs.Refusals.{ListApplies, listStages}
-use Rattle.search.specs.Search.{Form, plain, Call, IsSearch, outcome, Searched}
+use Rattle.search.specs.Search.{IsSearch, outcome, Searched}
 
 -- listing: the first of 1 to 14, 15, 16 that applies, or the page exactly if none applies
 -- a refusal leaves the buffer as it was; an answer leaves the rows at its front and the rest as it was
@@ -42,7 +43,7 @@ unfoldable pub ListRefuses : Type 0
 ListRefuses = (v p : List ℕ) (start : ℕ) (out : List ℕ) → ListCall v p start out
 
 -- what demand 3 says of an accepted volume and plan, of calls whose answers have a form
-pub record Holds3 {A : Type 0} (form : Form A) (v p : List ℕ) : Type 0 where
+pub record Holds3 {A : Type 0} (form : Form Page A) (v p : List ℕ) : Type 0 where
   -- every search: rows, tallies, the document reached, each answer, the end
   pub searched : (calls : List (Call A))
       → IsSearch form v p 0 calls

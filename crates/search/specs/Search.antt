@@ -1,37 +1,20 @@
 -- A search: a list of listing calls as they were made, each with the buffer lent, the answer, and the buffer as it returned. An answer
 -- may have any form: `plain` is document 01's number and values, and a crate above may have its own. Assumes nothing.
---     Form, plain             how an answer is made and what it says
---     Call, KeptAs, Kept      a call, and what it promises
+--     KeptAs, Kept            what a call promises
 --     IsSearch                calls that are a search
 --     Outcome, outcome        what a search comes to
 --     Answers, Searched       what holds of each of its calls, and of a search
 use Prim.Native.Nat.{ℕ, _+_, _*_, _/_, _≤_, _<_, max}
 use mathlib.Core.Path.{_≡_}
-use mathlib.Core.Bool.{Bool, true, false}
 use mathlib.Core.Logic.{_↔_}
 use mathlib.Core.List.{List, [], _∷_, _++_}
 use lib.ListN.{length, getD, take}
-use Rattle.seq.specs.Lists.{keep}
 use Rattle.seq.specs.Refusals.{Said, refused, answered}
+use Rattle.seq.specs.Calls.{Form, plain, Call, IsRefused, unrefused}
 use Rattle.fulltext.specs.Positions.{limit}
 use Rattle.fulltext.specs.Documents.{Work, docsIn, rowsOfDocs, work}
 use Rattle.search.specs.Answers.{Next, done, more, Page}
 use Rattle.search.specs.Listing.{listAnswer, listOut}
-
--- a form of answers: how one is made of number and values, and what one says
-pub record Form (A : Type 0) : Type 0 where
-  pub make : Said Page → A
-  pub said : A → Said Page
-
--- the number and values themselves
-abbrev pub plain : Form (Said Page)
-plain = record { make = λ s. s; said = λ s. s }
-
--- one listing call
-pub record Call (A : Type 0) : Type 0 where
-  pub lent : List ℕ
-  pub says : A
-  pub back : List ℕ
 
 -- what must hold of the calls behind one that started at s: after a refusal they start at s too, after DONE there is none, after MORE they
 -- start at the document that it names
@@ -72,11 +55,7 @@ follow width s (answered page) back rest = andThen (take (page .rows * width) ba
 abbrev pub room : {A : Type 0} → Work → Call A → ℕ
 room w c = length (c .lent) / w .width
 
-abbrev pub isAnswered : Said Page → Bool
-isAnswered (refused n q) = false
-isAnswered (answered page) = true
-
-module _ {A : Type 0} (form : Form A) where
+module _ {A : Type 0} (form : Form Page A) where
   -- what a listing call whose answer has this form promises, from document `start` on
   abbrev pub KeptAs : List ℕ → List ℕ → ℕ → Call A → Type 0
   KeptAs v p start c = (c .says ≡ form .make (listAnswer v p start (length (c .lent)))) × (c .back ≡ listOut v p start (c .lent))
@@ -94,10 +73,7 @@ module _ {A : Type 0} (form : Form A) where
   abbrev pub outcome : List ℕ → List ℕ → List (Call A) → Outcome
   outcome v p calls = outcomeFrom (work v p .width) 0 calls
 
-  -- a call is refused, says that nothing is left, or that document t is next
-  abbrev pub IsRefused : Call A → Type 0
-  IsRefused c = (n q : ℕ) × (form .said (c .says) ≡ refused n q)
-
+  -- a call says that nothing is left, or that document s is next
   abbrev pub SaysDone : Call A → Type 0
   SaysDone c = (n t : ℕ) × (form .said (c .says) ≡ answered (record { rows = n; tally = t; next = done }))
 
@@ -109,8 +85,8 @@ module _ {A : Type 0} (form : Form A) where
     -- it starts at a document
     pub starts : s < limit
     -- it is refused exactly if its buffer is shorter than a row, always with 16, and then its buffer is as it was
-    pub short : IsRefused c ↔ (length (c .lent) < w .width)
-    pub sixteen : IsRefused c → (c .says ≡ form .make (refused 16 0)) × (c .back ≡ c .lent)
+    pub short : IsRefused form c ↔ (length (c .lent) < w .width)
+    pub sixteen : IsRefused form c → (c .says ≡ form .make (refused 16 0)) × (c .back ≡ c .lent)
     -- it says MORE t exactly if more true documents remain than rows fit, and t is the lowest of them behind those that fit
     pub says-more : (t : ℕ)
         → SaysMore c t
@@ -123,10 +99,6 @@ module _ {A : Type 0} (form : Form A) where
   EachAnswers w s [] = Unit
   EachAnswers w s (c ∷ cs) = Answers w s c × Then s (form .said (c .says)) (λ next. EachAnswers w next cs) (cs ≡ [])
 
-  -- the calls that are not refused
-  abbrev pub unrefused : List (Call A) → List (Call A)
-  unrefused calls = keep (λ (c : Call A). isAnswered (form .said (c .says))) calls
-
   -- what holds of a search that comes to an outcome
   pub record Searched (w : Work) (calls : List (Call A)) (o : Outcome) : Type 0 where
     -- the rows are those of all true documents below the one reached, each once, rising; after DONE, of all true documents
@@ -138,7 +110,7 @@ module _ {A : Type 0} (form : Form A) where
     -- with k true documents, the k-th of the calls that are not refused, or the first where k is 0, says DONE, and 65,536 is reached;
     -- had an earlier one said DONE, the search would have ended there
     pub closes : (front rest : List (Call A)) (c : Call A)
-        → unrefused calls ≡ front ++ (c ∷ rest)
+        → unrefused form calls ≡ front ++ (c ∷ rest)
         → length front + 1 ≡ max 1 (length (docsIn w 0 limit))
         → SaysDone c × (o .reached ≡ limit)
 

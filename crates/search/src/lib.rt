@@ -7,13 +7,12 @@
 //
 // `list` is one forward pass: `setup` places a cursor for each variable. `walk::visit` brings each
 // pattern to the next document in which it can be found (`align`) and fills the row there
-// (`matcher::settle`). `listing` asks the plan's answer for the patterns found (`plan::answer_of`),
-// and `store` puts the row into the buffer.
+// (`matcher::settle`). `listing` asks the plan's answer for the patterns found (`plan::answer_of`)
+// and puts the row into the buffer (`matcher::put_row`).
 mod align;
 mod answers;
 mod listing;
 mod setup;
-mod store;
 mod walk;
 
 pub use answers::Listed;

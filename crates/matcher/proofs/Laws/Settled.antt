@@ -2,6 +2,7 @@
 --     ready-posed                  what it asks
 --     ready-stands                 where its cursors stand
 --     ready-standing, ready-least  copies of them; the least match from there on is the least of all
+--     held-least                   a search in which no variable is held
 --     settled-found, settled-yes, settled-no     whether it is found, and what is shown
 --     away-found, away-shown       the same of a pattern that can be found next in a later document
 -- Assumes nothing.
@@ -13,15 +14,18 @@ use mathlib.Core.Logic.{_≢_}
 use mathlib.Core.List.{List, [], _∷_}
 use mathlib.Core.Option.{Option, none, some}
 use lib.ListN.{length, getD, take, drop, replicate, length-take, length-drop}
+use Rattle.seq.specs.Lists.{rises}
 use Rattle.seq.proofs.Laws.Slices.{getD-slice}
 use Rattle.volume.specs.Posting.{docOf, posOf}
 use Rattle.volume.specs.Layout.{streamLength, word, listCount, listsOf}
 use Rattle.plan.specs.Check.{sizes}
+use Rattle.plan.specs.Patterns.{Pattern}
 use Rattle.plan.specs.Accepted.{patternAt, Given, WellMade}
 use Rattle.plan.proofs.Laws.Accepted.{given}
 use Rattle.matcher.specs.declared.cursor.Document.{Document}
 use Rattle.fulltext.specs.Matches.{leastIn}
-use Rattle.fulltext.specs.Inner.Bounds.{leastFrom}
+use Rattle.fulltext.specs.Positions.{listOf}
+use Rattle.fulltext.specs.Inner.Bounds.{leastFrom, HeldMatch}
 use Rattle.fulltext.specs.Documents.{present, found, shown, shownIn}
 use Rattle.matcher.specs.Inner.Cursors.{listEnd, Stands}
 use Rattle.plan.specs.declared.outline.Outline.{Outline}
@@ -29,7 +33,7 @@ use Rattle.plan.specs.Inner.Outline.{varsBefore}
 use Rattle.matcher.specs.Inner.Tables.{varAt}
 use Rattle.matcher.specs.Inner.Settling.{Among, Standing, givenIf, Posed, Ready}
 use Rattle.fulltext.proofs.Laws.Positions.{lists-rise}
-use Rattle.fulltext.proofs.Laws.Least.{leastFrom-all}
+use Rattle.fulltext.proofs.Laws.Least.{leastFrom-all, unfoundFrom-iff}
 use Rattle.matcher.proofs.Laws.Volume.{list-stretch}
 use Rattle.plan.proofs.Laws.Outline.{vars-within}
 use Rattle.matcher.proofs.Laws.Placed.{varAt-is}
@@ -160,3 +164,8 @@ module _ (v p : List ℕ) (o : Outline) (doc : Document) (ats ends : List ℕ) (
 
   pub away-shown : r ≢ d′ → 0 ∷ take (o .vars) (replicate 8 0) ≡ shownIn (listsOf v) d′ (patternAt p k′)
   away-shown n = settled-no v p k′ d′ (o .vars) [] false (unfound-none v p k′ d′ (away-found n)) refl (w .entry .outlines .vars-are) away-few
+
+-- a search in which no variable is held gives the least match, or nothing
+pub held-least : (lists : List (List ℕ)) → ((l : ℕ) → rises (listOf lists l) ≡ true) → (d : ℕ) (f : Pattern) (ls : List ℕ) (r : Bool) (ps : List ℕ) → HeldMatch lists d f ls 0 r ps → leastFrom lists d f ls ≡ givenIf r ps
+held-least lists up d f ls true ps h = h .least refl
+held-least lists up d f ls false ps h = unfoundFrom-iff lists up d f ls .1 (λ qs m. h .missed refl qs m (λ x l. absurd (let z : ⊥ = omega arith in z)))

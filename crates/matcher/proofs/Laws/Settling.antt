@@ -127,12 +127,12 @@ module _ (v : List ℕ) (ok : Accepted v) (d : ℕ) (f : Pattern) (there : (x : 
     pub low-var : x < length (f .vars)
     low-var = let s = short .there in let e = size in omega arith
 
-    low-before : getD ps x 0 < b
+    pub low-before : getD ps x 0 < b
     low-before = let e = getD-take (length (f .vars)) ps x 0 low-var in let s = short .before in omega arith
 
     -- each match has variable x at b or behind
-    needed : (qs : List ℕ) → MatchFrom (listsOf v) d f bs qs → b ≤ at qs x
-    needed qs m =
+    pub low-needed : (qs : List ℕ) → MatchFrom (listsOf v) d f bs qs → b ≤ at qs x
+    low-needed qs m =
         let w = match-parts qs (m .0) in
         short .needs qs (w .0 .0 ∙ sym size) above (allHold-iff (startsIn (listsOf v) d) (f .predicates) qs .0 (w .1) j inside)
       where
@@ -152,7 +152,7 @@ module _ (v : List ℕ) (ok : Accepted v) (d : ℕ) (f : Pattern) (there : (x : 
       -- the words in front of the index are below what is needed
       passed : (qs : List ℕ) → MatchFrom (listsOf v) d f bs qs → (y : ℕ) → start v (getD (f .vars) x 0) ≤ y → y < i → word v y < d * 65536 + at qs x
       passed qs m y p q =
-          let k = needed qs m in
+          let k = low-needed qs m in
           let a = l .standing x low-var in
           let e = a .word-is in
           let g = low-before in
@@ -247,6 +247,6 @@ shown-next xs row₀ i row x s h room = record {
     size = length-append (take i row₀) (take x xs) ∙ let a = length-take-le i row₀ (omega arith) in let b = length-take-le x xs (omega arith) in omega arith
 
 -- behind a flag that was stored in front of them
-pub shown-done : (xs d : List ℕ) (flag : ℕ) (row : List ℕ) (x : ℕ) → 1 ≤ length d → Shown xs (set d 0 flag) 1 row x → row ≡ (flag ∷ take x xs) ++ drop (1 + x) d
-shown-done xs [] flag row x h s = absurd (let z : ⊥ = omega arith in z)
-shown-done xs (w ∷ ws) flag row x h s = s .stored ∙ let e : 1 + x ≡ suc x = omega arith in rw e refl
+pub shown-flag : (xs d : List ℕ) (flag n : ℕ) → 1 ≤ length d → (take 1 (set d 0 flag) ++ xs) ++ drop (1 + n) (set d 0 flag) ≡ (flag ∷ xs) ++ drop (1 + n) d
+shown-flag xs [] flag n h = absurd (let z : ⊥ = omega arith in z)
+shown-flag xs (w ∷ ws) flag n h = let e : 1 + n ≡ suc n = omega arith in rw e refl

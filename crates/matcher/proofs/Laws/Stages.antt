@@ -1,15 +1,18 @@
--- The refusals of a volume and a plan, by their numbers. No contract cites this file.
+-- The refusals of a volume and a plan, and of testing, by their numbers. No contract cites this file.
 --     plan-number     they are 1 to 14
 --     plan-stage      they have the first ten stages
+--     test-stage      and with 17 the first eleven
 -- Assumes nothing.
 use Prim.Native.Nat.{ℕ, _≤_}
 use native.Mathlib.Omega.{arith}
-use mathlib.Core.List.{List}
+use mathlib.Core.List.{List, [], _∷_}
 use Rattle.seq.specs.Lists.{elem}
 use Rattle.seq.specs.Refusals.{stageIn}
+use Rattle.seq.proofs.Laws.Stages.{stage-front}
 use Rattle.volume.specs.Refusals.{VolumeApplies}
 use Rattle.volume.specs.Refusals as volume
 use Rattle.plan.specs.Refusals.{PlanApplies, ofVolume, wrongLength, wrongForm, wrongList, ninth, wrongOrder, unfinished, planStages}
+use Rattle.matcher.specs.Refusals.{TestApplies, ofPlan, noPattern, wrongNumber, wrongDoc, wrongPos, testStages}
 
 volume-number : (v : List ℕ) (n q : ℕ) → VolumeApplies v n q → (1 ≤ n) × (n ≤ 8)
 volume-number v n q (volume.wrongLength h) = (omega arith, omega arith)
@@ -51,3 +54,14 @@ module _ (v p : List ℕ) where
   plan-stage n q (ninth i l h) = omega arith
   plan-stage n q (wrongOrder i l h) = omega arith
   plan-stage n q (unfinished h) = omega arith
+
+  pub test-stage : (k d : ℕ) (ps : List ℕ) (n q : ℕ) → TestApplies v p k d ps n q → stageIn testStages n ≤ 10
+  unfolding stageIn elem
+  test-stage k d ps n q (ofPlan m i a) =
+      let h = plan-stage n q a in
+      let e = stage-front planStages ((17 ∷ []) ∷ []) n (omega arith) in
+      omega arith
+  test-stage k d ps n q (noPattern h) = omega arith
+  test-stage k d ps n q (wrongNumber h) = omega arith
+  test-stage k d ps n q (wrongDoc h) = omega arith
+  test-stage k d ps n q (wrongPos i l h) = omega arith

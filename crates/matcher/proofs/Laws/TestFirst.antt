@@ -90,7 +90,7 @@ module _ (v p : List ℕ) (k d : ℕ) (ps : List ℕ) where
       last c m q a = let h = c m q a in ⊎-elim (none m q) (λ w. let z : 11 ≤ 10 = rw (w .0) at h in omega arith) (of-call m q a)
 
   -- the whole ladder
-  test-sound : IsSound (testAnswer v p k d ps)
+  pub test-sound : IsSound (testAnswer v p k d ps)
   unfolding testAnswer
   test-sound = ⊎-elim accepted refusal (check-sound v p .total)
     where

@@ -1,6 +1,5 @@
 -- What `src/testing.rt` finds. No contract cites this file.
 --     small-decides                       no position is over 65,535
---     span-stretch, span-small            where a list lies
 --     list-passed, list-without, list-with     whether a list holds a position, by the posting in front of the first one behind it
 --     told-short                          a predicate that leaves a variable short does not hold
 --     posed-given, vars-order, condition-order     what is posed of a pattern
@@ -19,7 +18,7 @@ use mathlib.Core.Logic.{⊎-elim, _≢_, _↔_}
 use mathlib.Core.List.{List}
 use lib.ListN.{length, getD}
 use lib.Dec.{eqb, leb}
-use borrow.Author.Tests.{le-leb, lt-leb, leb-true, eq-eqb, ne-eqb, lt-ltb, le-ltb}
+use borrow.Author.Tests.{le-leb, leb-true, eq-eqb, ne-eqb}
 use Rattle.seq.specs.Lists.{all, elem}
 use Rattle.seq.specs.Refusals.{refused, answered}
 use Rattle.seq.proofs.Laws.Tests.{below-or, true-or, contrary}
@@ -28,7 +27,6 @@ use Rattle.seq.proofs.Laws.Decides.{Decides, eqb-decides}
 use Rattle.seq.proofs.Laws.Lists.{all-each}
 use Rattle.volume.specs.Layout.{streamLength, word, listCount, start, listsOf}
 use Rattle.volume.specs.Check as volume
-use Rattle.volume.proofs.Laws.Check.{good}
 use Rattle.plan.specs.declared.row.Predicate.{Predicate}
 use Rattle.plan.specs.declared.row.Predicate.the-variants.{Window}
 use Rattle.plan.specs.declared.row.Kind.the-variants as kind
@@ -54,6 +52,7 @@ use Rattle.fulltext.proofs.Laws.Least.{fits-iff, allHold-iff}
 use Rattle.matcher.proofs.Laws.Cursors.{seek-ge, seek-le, seek-at, seek-below}
 use Rattle.matcher.proofs.Laws.Volume.{list-stretch, held, holds-at}
 use Rattle.matcher.proofs.Laws.Placed.{Voiced, voiced, voiced-list}
+use Rattle.matcher.proofs.Laws.Range.{range-missing, range-number, range-doc, range-small}
 
 pub small-decides : (ps : List ℕ) → Decides (all (λ q. leb q 65535) ps) (InDocument ps)
 small-decides ps = record {
@@ -328,25 +327,23 @@ module _ (v p : List ℕ) (k d : ℕ) (ps : List ℕ) where
     unfolding testAnswer
     tested = ap (λ x. testBy x k (patternAt p k) d ps (matchesAt (listsOf v) d (patternAt p k) ps)) e
 
+    outside : outOfRange (s .patterns) k (patternAt p k) d ps ≡ true → testAnswer v p k d ps ≡ refused 17 0
+    outside h = tested ∙ rw h
+
     pub test-missing : s .patterns ≤ k → testAnswer v p k d ps ≡ refused 17 0
-    unfolding outOfRange
-    test-missing h = tested ∙ rw (le-leb (s .patterns) k h)
+    test-missing h = outside (range-missing (s .patterns) k (patternAt p k) d ps h)
 
     module _ (there : k < s .patterns) where
       pub test-number : length ps ≢ length (patternAt p k .vars) → testAnswer v p k d ps ≡ refused 17 0
-      unfolding outOfRange
-      test-number n = tested ∙ rw (lt-leb (s .patterns) k there, ne-eqb (length ps) (length (patternAt p k .vars)) n)
+      test-number n = outside (range-number (s .patterns) k (patternAt p k) d ps there n)
 
       module _ (number : length ps ≡ length (patternAt p k .vars)) where
         pub test-doc : 65535 < d → testAnswer v p k d ps ≡ refused 17 0
-        unfolding outOfRange
-        test-doc h = tested ∙ rw (lt-leb (s .patterns) k there, eq-eqb (length ps) (length (patternAt p k .vars)) number, lt-ltb 65535 d h)
+        test-doc h = outside (range-doc (s .patterns) k (patternAt p k) d ps there number h)
 
         module _ (small : d ≤ 65535) where
           pub test-small : all (λ q. leb q 65535) ps ≡ false → testAnswer v p k d ps ≡ refused 17 0
-          unfolding outOfRange
-          test-small h = tested ∙ rw (lt-leb (s .patterns) k there, eq-eqb (length ps) (length (patternAt p k .vars)) number, le-ltb 65535 d small, h)
+          test-small h = outside (range-small (s .patterns) k (patternAt p k) d ps there number small false h)
 
           pub test-answer : all (λ q. leb q 65535) ps ≡ true → (b : Bool) → b ≡ matchesAt (listsOf v) d (patternAt p k) ps → testAnswer v p k d ps ≡ answered b
-          unfolding outOfRange
-          test-answer h b e = tested ∙ rw (e, lt-leb (s .patterns) k there, eq-eqb (length ps) (length (patternAt p k .vars)) number, le-ltb 65535 d small, h)
+          test-answer h b e = tested ∙ rw (range-small (s .patterns) k (patternAt p k) d ps there number small true h, e)

@@ -1,6 +1,6 @@
 -- One call of a search: the three ways in which it may go, and what follows of its answer. No contract cites this file.
 --     Went, went                the buffer is too short; all that remain are written; as many as fit
---     heardCall, heard-kept     a call of any form, as what it says
+--     heard-kept                a call of any form, as what it says
 --     answers                   the call answers as it must
 --     more-later, done-all      what MORE and DONE say, and the buffer afterwards
 -- Assumes nothing.
@@ -15,13 +15,15 @@ use lib.ListN.{length, getD, take, drop}
 use lib.Seq.{take-at}
 use Rattle.seq.specs.Refusals.{Said, refused, answered}
 use Rattle.seq.proofs.Laws.Tests.{below-or}
-use Rattle.seq.proofs.Laws.Refusals.{not-both}
+use Rattle.seq.proofs.Laws.Refusals.{not-both, same-answer}
+use Rattle.seq.proofs.Laws.Calls.{heardCall}
 use Rattle.plan.specs.Check as plan
 use Rattle.fulltext.specs.Positions.{limit}
 use Rattle.fulltext.specs.Documents.{Work, docsIn, rowsOfDocs, work}
 use Rattle.search.specs.Answers.{Next, done, more, Page}
 use Rattle.search.specs.Listing.{rowsFrom, listAnswer, listOut}
-use Rattle.search.specs.Search.{Form, Call, Kept, KeptAs, room, Answers}
+use Rattle.search.specs.Search.{Kept, KeptAs, room, Answers}
+use Rattle.seq.specs.Calls.{Form, Call}
 use Rattle.fulltext.proofs.Laws.Docs.{IsAt, docs-at, at-front, at-later, length-rows}
 use Rattle.search.proofs.Laws.Pages.{page-done, rows-done, page-more, rows-more}
 use Rattle.fulltext.proofs.Laws.Counts.{work-even, work-wide}
@@ -76,17 +78,8 @@ went v p ok s c h k =
         whole l x (k .0 ∙ a .0 ∙ ap answered (page-done w s m x)) (front (docsIn w s limit) (length (docsIn w s limit)) (rows-done w s m x) refl (a .1)))
         (below-or m (length (docsIn w s limit)))
 
--- the page of an answer
-abbrev pageIn : Said Page → Page
-pageIn (refused n q) = record { rows = 0; tally = 0; next = done }
-pageIn (answered page) = page
-
--- one answer has one page
-same-page : (said : Said Page) (a b : Page) → said ≡ answered a → said ≡ answered b → a ≡ b
-same-page said a b e f = ap pageIn (sym e ∙ f)
-
 next-is : (said : Said Page) (a b : Page) → said ≡ answered a → said ≡ answered b → a .next ≡ b .next
-next-is said a b e f = ap (λ (q : Page). q .next) (same-page said a b e f)
+next-is said a b e f = ap (λ (q : Page). q .next) (same-answer said a b e f)
 
 not-more : (t : ℕ) → done ≡ more t → ⊥
 not-more t e = let z : _≡_ {A = ℕ} 0 1 = cc in omega arith
@@ -94,17 +87,13 @@ not-more t e = let z : _≡_ {A = ℕ} 0 1 = cc in omega arith
 same-more : (t u : ℕ) → more t ≡ more u → t ≡ u
 same-more t u e = cc
 
-module _ {A : Type 0} (form : Form A) where
-  -- a call as what it says
-  abbrev pub heardCall : Call A → Call (Said Page)
-  heardCall c = record { lent = c .lent; says = form .said (c .says); back = c .back }
-
+module _ {A : Type 0} (form : Form Page A) where
   -- a call that keeps its promise says what listing answers, if its form tells that
-  pub heard-kept : (v p : List ℕ) (s : ℕ) (c : Call A) → form .said (form .make (listAnswer v p s (length (c .lent)))) ≡ listAnswer v p s (length (c .lent)) → KeptAs form v p s c → Kept v p s (heardCall c)
+  pub heard-kept : (v p : List ℕ) (s : ℕ) (c : Call A) → form .said (form .make (listAnswer v p s (length (c .lent)))) ≡ listAnswer v p s (length (c .lent)) → KeptAs form v p s c → Kept v p s (heardCall form c)
   heard-kept v p s c back k = (ap (form .said) (k .0) ∙ back, k .1)
 
   -- each way answers as a call of a search must
-  pub answers : (w : Work) (s : ℕ) (c : Call A) → s < limit → c .says ≡ form .make (form .said (c .says)) → Went w s (heardCall c) → Answers form w s c
+  pub answers : (w : Work) (s : ℕ) (c : Call A) → s < limit → c .says ≡ form .make (form .said (c .says)) → Went w s (heardCall form c) → Answers form w s c
   answers w s c h m (short l e b) = record {
     starts = h;
     short = (λ x. l, λ x. (16, 0, e));
@@ -169,7 +158,7 @@ module _ (v p : List ℕ) (start : ℕ) (out : List ℕ) (n tally : ℕ) where
       go (short l f b) = absurd (not-both _ _ 16 0 refl f)
       go (whole l x f b) = absurd (not-more t (sym (next-is _ _ _ refl f)))
       go (part u l x q i f b) =
-          let same = same-page (answered (record { rows = n; tally = tally; next = more t })) _ _ refl f in
+          let same = same-answer (answered (record { rows = n; tally = tally; next = more t })) _ _ refl f in
           let n-is : n ≡ length out / work v p .width = ap (λ (a : Page). a .rows) same in
           let front = at-front (work v p) start limit (length out / work v p .width) u x i in
           let here : Later (work v p) start out (listOut v p start out) n tally u = record {
@@ -189,7 +178,7 @@ module _ (v p : List ℕ) (start : ℕ) (out : List ℕ) (n tally : ℕ) where
       go : Went (work v p) start (made done) → All (work v p) start out (listOut v p start out) n tally
       go (short l f b) = absurd (not-both _ _ 16 0 refl f)
       go (whole l x f b) =
-          let same = same-page (answered (record { rows = n; tally = tally; next = done })) _ _ refl f in
+          let same = same-answer (answered (record { rows = n; tally = tally; next = done })) _ _ refl f in
           let n-is : n ≡ length (docsIn (work v p) start limit) = ap (λ (a : Page). a .rows) same in
           record {
             fits = omega arith;

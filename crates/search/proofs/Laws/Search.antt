@@ -3,41 +3,26 @@
 --     from-search  it holds of all
 --     searched     what holds of every search over an accepted volume and plan, in every form of answer that tells what listing answers
 -- Assumes nothing.
-use Prim.Native.Nat.{ℕ, _+_, _*_, _<_, _≤_, max}
+use Prim.Native.Nat.{ℕ, _+_, _*_, _<_, _≤_}
 use native.Mathlib.Nat.{le-div-iff-mul-le, one-mul, add-zero}
 use native.Mathlib.Omega.{arith}
 use mathlib.Core.Path.{_≡_, refl, sym, ap, ap₂, _∙_, subst}
-use mathlib.Core.Bool.{Bool, true}
 use mathlib.Core.List.{List, [], _∷_, _++_, append-nil}
 use lib.ListN.{length, take, length-append}
-use Rattle.seq.specs.Lists.{keep}
 use Rattle.seq.specs.Refusals.{Said, refused, answered}
-use Rattle.seq.proofs.Laws.Keep.{keep-pass, keep-fail}
+use Rattle.seq.proofs.Laws.Calls.{heardCall, Closes, closes-none, closes-refused, closes-last, closes-next}
 use Rattle.plan.specs.Check as plan
 use Rattle.fulltext.specs.Positions.{limit}
 use Rattle.fulltext.specs.Documents.{Work, docsIn, rowsOfDocs, work}
 use Rattle.search.specs.Answers.{Page, done, more}
 use Rattle.search.specs.Listing.{listAnswer}
-use Rattle.search.specs.Search.{Form, Call, Then, IsSearch, Outcome, outcomeFrom, follow, outcome, room, SaysDone, EachAnswers, isAnswered, unrefused, Searched}
+use Rattle.search.specs.Search.{Then, IsSearch, Outcome, outcomeFrom, follow, outcome, room, SaysDone, EachAnswers, Searched}
+use Rattle.seq.specs.Calls.{Form, Call}
 use Rattle.fulltext.proofs.Laws.Docs.{docs-parts, docs-here, docs-empty, rows-none, rows-append, at-front}
 use Rattle.fulltext.proofs.Laws.Counts.{work-wide, work-add, work-none}
-use Rattle.search.proofs.Laws.Calls.{Went, short, whole, part, went, heardCall, heard-kept, answers}
+use Rattle.search.proofs.Laws.Calls.{Went, short, whole, part, went, heard-kept, answers}
 
--- a part of a list that has no element, or one more
-nothing-in : {A : Type 0} (front rest : List A) (c : A) → [] ≡ front ++ (c ∷ rest) → ⊥
-nothing-in front rest c e = let a = ap length e in let b = length-append front (c ∷ rest) in omega arith
-
-same-head : {A : Type 0} (x y : A) (xs ys : List A) → x ∷ xs ≡ y ∷ ys → x ≡ y
-same-head x y xs ys e = cc
-
-same-tail : {A : Type 0} (x y : A) (xs ys : List A) → x ∷ xs ≡ y ∷ ys → xs ≡ ys
-same-tail x y xs ys e = cc
-
-module _ {A : Type 0} (form : Form A) where
-  -- a call that stands behind at least so many that are not refused, or is the first of these
-  abbrev Closes : ℕ → List (Call A) → ℕ → Type 0
-  Closes k calls reached = (front rest : List (Call A)) (c : Call A) → unrefused form calls ≡ front ++ (c ∷ rest) → max 1 k ≤ length front + 1 → SaysDone form c × (reached ≡ limit)
-
+module _ {A : Type 0} (form : Form Page A) where
   -- calls from document s on that come to an outcome
   record From (w : Work) (s : ℕ) (calls : List (Call A)) (o : Outcome) : Type 0 where
     pub above : s ≤ o .reached
@@ -45,34 +30,7 @@ module _ {A : Type 0} (form : Form A) where
     pub rows : o .rows ≡ rowsOfDocs w (docsIn w s (o .reached))
     pub tally : o .tally ≡ w .postings s (o .reached)
     pub each : EachAnswers form w s calls
-    pub closes : Closes (length (docsIn w s limit)) calls (o .reached)
-
-  -- the test of `unrefused`
-  abbrev fits : Call A → Bool
-  fits d = isAnswered (form .said (d .says))
-
-  none-unrefused : unrefused form [] ≡ []
-  unfolding keep
-  none-unrefused = refl
-
-  -- the last call says DONE
-  closes-last : (k reached : ℕ) (c : Call A) (cs : List (Call A)) → cs ≡ [] → fits c ≡ true → SaysDone form c → reached ≡ limit → Closes k (c ∷ cs) reached
-  closes-last k reached c cs none fit says is-limit front rest d e l = go front (sym (keep-pass fits c cs fit) ∙ e)
-    where
-      empty : unrefused form cs ≡ []
-      empty = ap (unrefused form) none ∙ none-unrefused
-
-      go : (xs : List (Call A)) → c ∷ unrefused form cs ≡ xs ++ (d ∷ rest) → SaysDone form d × (reached ≡ limit)
-      go [] q = (subst (SaysDone form) (same-head c d (unrefused form cs) rest q) says, is-limit)
-      go (x ∷ xs) q = absurd (nothing-in xs rest d (sym empty ∙ same-tail c x (unrefused form cs) (xs ++ (d ∷ rest)) q))
-
-  -- one call is taken from those that remain, and at least one document from those that are true
-  closes-next : (k m reached : ℕ) (c : Call A) (cs : List (Call A)) → fits c ≡ true → max 1 m + 1 ≤ k → Closes m cs reached → Closes k (c ∷ cs) reached
-  closes-next k m reached c cs fit less rest-closes front rest d e l = go front l (sym (keep-pass fits c cs fit) ∙ e)
-    where
-      go : (xs : List (Call A)) → max 1 k ≤ length xs + 1 → c ∷ unrefused form cs ≡ xs ++ (d ∷ rest) → SaysDone form d × (reached ≡ limit)
-      go [] h q = absurd (omega arith)
-      go (x ∷ xs) h q = rest-closes xs rest d (same-tail c x (unrefused form cs) (xs ++ (d ∷ rest)) q) (omega arith)
+    pub closes : Closes form (λ (c : Call A). SaysDone form c × (o .reached ≡ limit)) (length (docsIn w s limit)) calls
 
   module _ (v p : List ℕ) (ok : plan.Accepted v p)
       (tells : (s : ℕ) (out : List ℕ) → form .said (form .make (listAnswer v p s (length out))) ≡ listAnswer v p s (length out)) where
@@ -98,7 +56,7 @@ module _ {A : Type 0} (form : Form A) where
           rows = f .rows;
           tally = f .tally;
           each = (answers form (work v p) s c h made (short l e b), rw e (f .each));
-          closes = λ front after d q g. f .closes front after d (sym (keep-fail fits c cs (ap isAnswered e)) ∙ q) g;
+          closes = closes-refused form _ (length (docsIn (work v p) s limit)) 16 0 c cs e (f .closes);
         })
     one-more c cs made rest s h k (whole l x e f) =
         told c cs s (answered (record { rows = length (docsIn (work v p) s limit); tally = work v p .postings s limit; next = done })) e
@@ -108,7 +66,7 @@ module _ {A : Type 0} (form : Form A) where
           rows = append-nil (take (length (docsIn (work v p) s limit) * work v p .width) (c .back)) ∙ f;
           tally = add-zero (work v p .postings s limit);
           each = (answers form (work v p) s c h made (whole l x e f), rw e (rw e at k));
-          closes = closes-last (length (docsIn (work v p) s limit)) limit c cs (rw e at k) (ap isAnswered e) (length (docsIn (work v p) s limit), work v p .postings s limit, e) refl;
+          closes = closes-last form _ _ c cs e (length (docsIn (work v p) s limit)) (rw e at k) ((length (docsIn (work v p) s limit), work v p .postings s limit, e), refl);
         })
     one-more c cs made rest s h k (part t l x q i e f) =
         told c cs s (answered (record { rows = room (work v p) c; tally = work v p .postings s t; next = more t })) e
@@ -120,7 +78,7 @@ module _ {A : Type 0} (form : Form A) where
               ∙ ap (rowsOfDocs (work v p)) (sym (docs-parts (work v p) s t (comesTo t cs .reached) (i .from) (r .above)));
           tally = ap (λ (n : ℕ). work v p .postings s t + n) (r .tally) ∙ work-add v p s t (comesTo t cs .reached) (i .from) (r .above);
           each = (answers form (work v p) s c h made (part t l x q i e f), rw e (r .each));
-          closes = closes-next (length (docsIn (work v p) s limit)) (length (docsIn (work v p) t limit)) (comesTo t cs .reached) c cs (ap isAnswered e) (omega (arith, some-row, there, remain)) (r .closes);
+          closes = closes-next form _ _ c cs e (length (docsIn (work v p) s limit)) (length (docsIn (work v p) t limit)) (omega (arith, some-row, there, remain)) (r .closes);
         })
       where
         r : From (work v p) t cs (comesTo t cs)
@@ -146,7 +104,7 @@ module _ {A : Type 0} (form : Form A) where
       rows = sym (ap (rowsOfDocs (work v p)) (docs-empty (work v p) s) ∙ rows-none (work v p));
       tally = sym (work-none v p s);
       each = tt;
-      closes = λ front rest d e g. absurd (nothing-in front rest d (sym none-unrefused ∙ e));
+      closes = closes-none form _ (length (docsIn (work v p) s limit));
     }
     from-search (c ∷ cs) s h k =
         let back = tells s (c .lent) in

@@ -11,14 +11,15 @@ use Rattle.plan.specs.Check.{Accepted}
 use Rattle.plan.proofs.Laws.Accepted.{given}
 use Rattle.fulltext.specs.Positions.{listOf}
 use Rattle.search.specs.Listing.{listAnswer}
-use Rattle.search.specs.Search.{Form}
+use Rattle.seq.specs.Calls.{Form}
+use Rattle.search.specs.Answers.{Page}
 use Rattle.search.specs.Demands.{Holds3}
 use Rattle.fulltext.proofs.Laws.Positions.{lists-rise}
 use Rattle.fulltext.proofs.Laws.Least.{least-iff, unfound-iff, found-iff}
 use Rattle.search.proofs.Laws.Search.{searched}
 use Rattle.fulltext.proofs.Laws.Counts as counts
 
-pub holds3 : {A : Type 0} (form : Form A) (v p : List ℕ)
+pub holds3 : {A : Type 0} (form : Form Page A) (v p : List ℕ)
     → Accepted v p
     → ((s : ℕ) (out : List ℕ) → form .said (form .make (listAnswer v p s (length out))) ≡ listAnswer v p s (length out))
     → Holds3 form v p

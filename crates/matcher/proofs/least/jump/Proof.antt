@@ -18,22 +18,15 @@ mul-positions : tie.Need-mul-positions
 mul-positions c = omega arith
 
 -- where the cursor stands
-at-is : (c : tie.After-advance-past)
-    → let a = c .before .before .before .before .before .args in c .advance-past .result .at ≡ seekFrom (now (a .volume)) (a .doc * 65536 + a .need) (getD (now (a .here)) (a .x) 0) (a .end)
-at-is c =
-    let a = c .before .before .before .before .before in
-    let n = a .pre .1 .1 .0 in
-    let e : a .args .doc * 65536 + (a .args .need - 1) + 1 ≡ a .args .doc * 65536 + a .args .need = omega arith in
-    ap (λ (r : Cursor). r .at) (c .advance-past .ensures .0) ∙ ap (λ (t : ℕ). seekFrom (now (a .args .volume)) t (getD (now (a .args .here)) (a .args .x) 0) (a .args .end)) e
+at-is : (c : tie.After-advance-to)
+    → let a = c .before .before .before .before .before .args in c .advance-to .result .at ≡ seekFrom (now (a .volume)) (a .doc * 65536 + a .need) (getD (now (a .here)) (a .x) 0) (a .end)
+at-is c = ap (λ (r : Cursor). r .at) (c .advance-to .ensures .0)
 
 slice-read-positions : tie.Need-slice-read-positions
 slice-read-positions c = omega arith
 
-sub-advance-past : tie.Need-sub-advance-past
-sub-advance-past c = omega arith
-
-advance-past-requires : tie.Need-advance-past-requires
-advance-past-requires c κs = c .before .before .before .before .pre .1 .1 .1
+advance-to-requires : tie.Need-advance-to-requires
+advance-to-requires c κs = c .before .before .before .before .pre .1 .1
 
 returns : tie.Need-returns
 returns c = (inl (rw (← at-is (c .before)) (c .if1 .taken)), (refl, refl))
@@ -45,7 +38,7 @@ doc-requires : tie.Need-doc-requires
 doc-requires c κs = search needs
 
 -- the document of the posting there
-doc-is : (c : tie.After-doc) → c .doc .result ≡ docOf (word (now (c .before .before .before .before .before .before .before .before .args .volume)) (c .before .before .before .advance-past .result .at))
+doc-is : (c : tie.After-doc) → c .doc .result ≡ docOf (word (now (c .before .before .before .before .before .before .before .before .args .volume)) (c .before .before .before .advance-to .result .at))
 doc-is c = c .doc .ensures ∙ ap (λ (r : Posting). docOf (r .bits)) (c .before .posting-at .ensures)
 
 returns-2 : tie.Need-returns-2
@@ -84,8 +77,7 @@ jump-spec =
     (tie.spec
     mul-positions
     slice-read-positions
-    sub-advance-past
-    advance-past-requires
+    advance-to-requires
     returns
     posting-at-requires
     doc-requires

@@ -8,9 +8,11 @@ use lib.ListN.{take, drop}
 use denote.Ref.{now}
 use Rattle.volume.specs.Layout.{listsOf}
 use Rattle.plan.specs.Accepted.{patternAt}
+use Rattle.plan.proofs.Laws.Accepted.{given}
 use Rattle.fulltext.specs.Matches.{leastIn}
+use Rattle.fulltext.proofs.Laws.Positions.{lists-rise}
 use Rattle.matcher.specs.Inner.Settling.{givenIf}
-use Rattle.matcher.proofs.Laws.Settled.{ready-vars, ready-within, ready-stream, ready-posed, ready-standing, ready-least, settled-found, settled-yes, settled-no}
+use Rattle.matcher.proofs.Laws.Settled.{ready-vars, ready-within, ready-stream, ready-posed, ready-standing, ready-least, held-least, settled-found, settled-yes, settled-no}
 use Rattle.matcher.proofs.least.settle.Statement.{statement}
 use Rattle.matcher.proofs.least.settle.Tie as tie
 
@@ -24,13 +26,14 @@ stood-of c = c .before .before .before .before .before .before
 -- what the search from the document's first postings leaves is the least match of all, or nothing
 least-of : (c : tie.After-match-from) → let a = start-of (stood-of c) .args in
     leastIn (listsOf (now (a .volume))) (a .document .doc) (patternAt (now (a .plan)) (a .outline .pattern))
-    ≡ givenIf (c .match-from .result) (take (a .outline .vars) (c .match-from .last .1 .1 .1 .1 .1 .1 .0))
+    ≡ givenIf (c .match-from .result) (take (a .outline .vars) (c .match-from .last .1 .1 .1 .1 .1 .1 .1 .0))
 least-of c =
     let stood = stood-of c in
     let start = start-of stood in
     let n = ready-vars _ _ _ _ _ _ (start .pre .0) in
     let p = stood .stand .ensures .1 .0 in
-    sym (ready-least _ _ _ _ _ _ (start .pre .0) (stood .stand .last .1 .1 .1 .1 .0) _ (stood .stand .ensures .1 .1) (omega arith)) ∙ c .match-from .ensures .0
+    sym (ready-least _ _ _ _ _ _ (start .pre .0) (stood .stand .last .1 .1 .1 .1 .0) _ (stood .stand .ensures .1 .1) (omega arith))
+    ∙ held-least _ (lists-rise _ (given _ _ (start .pre .0 .accepted) .volume-accepted)) _ _ _ (c .match-from .result) _ (c .match-from .ensures .0)
 
 slice-aggregate-stand : tie.Need-slice-aggregate-stand
 slice-aggregate-stand c = search needs
@@ -71,7 +74,7 @@ match-from-requires c κs =
     let n = ready-vars _ _ _ _ _ _ (start .pre .0) in
     let h = s .0 in
     let p = s .1 .0 in
-    (ready-posed _ _ _ _ _ _ (start .pre .0), (omega arith, (omega arith, ready-standing _ _ _ _ _ _ (start .pre .0) _ _ (s .1 .1))))
+    (ready-posed _ _ _ _ _ _ (start .pre .0), (omega arith, (omega arith, (ready-standing _ _ _ _ _ _ (start .pre .0) _ _ (s .1 .1), omega arith))))
 
 slice-aggregate-show : tie.Need-slice-aggregate-show
 slice-aggregate-show c = search needs
@@ -83,7 +86,7 @@ show-requires c κs =
     let start = start-of stood in
     let n = ready-vars _ _ _ _ _ _ (start .pre .0) in
     let p = stood .stand .ensures .1 .0 in
-    let q = matched .match-from .ensures .1 in
+    let q = matched .match-from .ensures .1 .0 in
     (omega arith, start .pre .1)
 
 same-length : tie.Need-same-length
@@ -94,7 +97,7 @@ returns c =
     let tested = c .before .before .before .before .before in
     let matched = tested .before .before .before in
     let a = start-of (stood-of matched) .args in
-    let ps = matched .match-from .last .1 .1 .1 .1 .1 .1 .0 in
+    let ps = matched .match-from .last .1 .1 .1 .1 .1 .1 .1 .0 in
     let r = matched .match-from .result in (
       sym (tested .if1 .taken) ∙ settled-found (now (a .volume)) (now (a .plan)) (a .outline .pattern) (a .document .doc) (a .outline .vars) ps r (least-of matched),
       c .before .before .show .ensures
@@ -120,7 +123,7 @@ returns-2 c =
     let matched = tested .before .before .before in
     let start = start-of (stood-of matched) in
     let a = start .args in
-    let ps = matched .match-from .last .1 .1 .1 .1 .1 .1 .0 in
+    let ps = matched .match-from .last .1 .1 .1 .1 .1 .1 .1 .0 in
     let r = matched .match-from .result in (
       sym (tested .if1 .left) ∙ settled-found (now (a .volume)) (now (a .plan)) (a .outline .pattern) (a .document .doc) (a .outline .vars) ps r (least-of matched),
       c .before .before .show2 .ensures

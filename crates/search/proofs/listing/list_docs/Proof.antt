@@ -1,7 +1,7 @@
 -- The rows of the true documents below `from` are laid, the walk goes on there (`Visiting`), and `known` has answers of the plan. Each turn ends in an answer or a later document.
 use Rattle.search.proofs.listing.list_docs.Statement.{statement}
 use Rattle.search.proofs.listing.list_docs.Tie as tie
-use Prim.Native.Nat.{_+_, _-_, _/_, _<_, _≤_}
+use Prim.Native.Nat.{_-_, _/_, _<_, _≤_}
 use native.Mathlib.Omega.{arith}
 use mathlib.Core.Path.{_≡_, refl, sym, subst, _∙_}
 use lib.ListN.{length, take}

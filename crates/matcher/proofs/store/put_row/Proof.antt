@@ -3,9 +3,9 @@ use native.Mathlib.Omega.{arith}
 use Prim.Native.Nat.{_-_, _≤_}
 use mathlib.Core.Path.{_≡_}
 use denote.Ref.{now}
 use Rattle.matcher.proofs.Laws.Settling.{Shown, shown-first, shown-next}
-use Rattle.search.proofs.store.put_row.Statement.{statement}
-use Rattle.search.proofs.store.put_row.Tie as tie
+use Rattle.matcher.proofs.store.put_row.Statement.{statement}
+use Rattle.matcher.proofs.store.put_row.Tie as tie
 
 abbrev Inv-loop : tie.InvT-loop
 Inv-loop row n out₀ to i₀ out i = (i ≤ n) × Shown row out₀ to out i

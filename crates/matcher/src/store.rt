@@ -1,4 +1,4 @@
-// Rows in a lent buffer.
+// Words in a lent buffer.
 ghost use mathlib.Core.Path.{_≡_};
 ghost use mathlib.Core.List.{_++_};
 ghost use Prim.Native.Nat.{_+_, _≤_};
