@@ -1,7 +1,12 @@
--- The statement of `specs/Demands.antt`, proved. Assumes nothing.
-use Rattle.lihambozy.specs.Demands.{Demand3}
+-- Each statement of `specs/Demands.antt`, proved. Assumes nothing.
+use Rattle.lihambozy.specs.Demands.{Demand3, Enumerates}
 use Rattle.lihambozy.proofs.Laws.Search.{holds3}
+use Rattle.lihambozy.proofs.Laws.Matches.{every-enumeration}
 
 pub demand3 : Demand3
 unfolding Demand3
 demand3 = holds3
+
+pub enumerates : Enumerates
+unfolding Enumerates
+enumerates = every-enumeration

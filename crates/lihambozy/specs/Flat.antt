@@ -1,11 +1,16 @@
 -- What the C functions answer: refusal 0 and the values, or a refusal's number, its place, and zeros. Assumes nothing.
 use Prim.Native.Nat.{ℕ}
 use mathlib.Core.Bool.{Bool, cond}
+use mathlib.Core.List.{List}
+use mathlib.Core.Option.{Option, none, some}
+use lib.ListN.{replicate}
 use Rattle.seq.specs.Refusals.{Said, refused, answered}
 use Rattle.volume.specs.Answers.{Sizes}
 use Rattle.plan.specs.Answers as planAnswers
 use Rattle.plan.specs.declared.showing.Span.{Span}
+use Rattle.plan.specs.Limits.{mostPatternVars}
 use Rattle.fulltext.specs.Positions.{limit}
+use Rattle.enumeration.specs.Answers as enumerationAnswers
 use Rattle.search.specs.Answers.{Next, done, more, Page}
 use Rattle.lihambozy.specs.declared.CheckVolumeAnswer.{CheckVolumeAnswer}
 use Rattle.lihambozy.specs.declared.ReadListAnswer.{ReadListAnswer}
@@ -14,6 +19,7 @@ use Rattle.lihambozy.specs.declared.CheckPlanAnswer.{CheckPlanAnswer}
 use Rattle.lihambozy.specs.declared.PatternRowsAnswer.{PatternRowsAnswer}
 use Rattle.lihambozy.specs.declared.TestPositionsAnswer.{TestPositionsAnswer}
 use Rattle.lihambozy.specs.declared.ListAnswer.{ListAnswer}
+use Rattle.lihambozy.specs.declared.ListMatchesAnswer.{ListMatchesAnswer}
 
 -- the answer of checking a volume
 abbrev pub flatSizes : Said Sizes → CheckVolumeAnswer
@@ -53,3 +59,19 @@ flatNext (more s) = s
 abbrev pub flatListing : Said Page → ListAnswer
 flatListing (refused n p) = record { refusal = n; at = p; rows = 0; tally = 0; next = 0 }
 flatListing (answered page) = record { refusal = 0; at = 0; rows = page .rows; tally = page .tally; next = flatNext (page .next) }
+
+-- 1 where a match is left, and else 0
+abbrev pub flatMore : Option (List ℕ) → ℕ
+flatMore none = 0
+flatMore (some words) = 1
+
+-- the answer of writing matches
+abbrev pub flatMatches : Said enumerationAnswers.Page → ListMatchesAnswer
+flatMatches (refused n p) = record { refusal = n; at = p; count = 0; more = 0; next = replicate mostPatternVars 0 }
+flatMatches (answered page) = record {
+  refusal = 0;
+  at = 0;
+  count = page .count;
+  more = flatMore (page .next);
+  next = enumerationAnswers.besideNext (page .next);
+}

@@ -1,8 +1,9 @@
 // The library that other languages link: the public calls as C functions.
 //
-// A slice passes as a pointer and a count of its elements. Each answer is a struct of 32-bit words:
-// refusal 0 and then the values, or the number of a refusal and its place and zeros. No call has a
-// `requires`; each promise is that of the call below it, told as a struct.
+// A slice passes as a pointer and a count of its elements. Each answer is a struct of 32-bit words,
+// but for the 64-bit count of `lhz_list_matches`: refusal 0 and then the values, or the number of a
+// refusal and its place and zeros. No call has a `requires`; each promise is that of the call below
+// it, told as a struct.
 ghost use mathlib.Core.Path.{_≡_};
 ghost use mathlib.Core.Bool.{cond};
 ghost use lib.ListN.{length};
@@ -14,7 +15,10 @@ ghost use Rattle.plan.specs.Parts.{spanOf};
 ghost use Rattle.matcher.specs.Testing.{testAnswer};
 ghost use Rattle.lihambozy.specs.Flat.{flatSizes, flatList, flatVolume, flatPlan, flatSpan, flatTest};
 ghost use Rattle.lihambozy.specs.Search.{Kept};
+ghost use Rattle.lihambozy.specs.Enumeration as enumerations;
+use enumeration::Enumerated;
 use plan::Checked as PlanChecked;
+use plan::MOST_PATTERN_VARS;
 use search::Listed;
 use search::Tested;
 use volume::Checked;
@@ -82,6 +86,18 @@ pub struct ListAnswer {
     pub rows: u32,
     pub tally: u32,
     pub next: u32,
+}
+
+// What `lhz_list_matches` answers: the number of matches (01: passing choices) at the front of the
+// buffer; 1 where one is left (01: MORE), and then the first one left, with zeros behind it; 0 where
+// none is left (01: DONE), and zeros.
+#[repr(C)]
+pub struct ListMatchesAnswer {
+    pub refusal: u32,
+    pub at: u32,
+    pub count: u64,
+    pub more: u32,
+    pub next: [u32; MOST_PATTERN_VARS],
 }
 
 // 1 for yes, 0 for no.
@@ -312,6 +328,65 @@ pub extern "C" fn lhz_list(volume: &[u8], plan: &[u32], start: u32, out: &mut [u
             rows: 0,
             tally: 0,
             next: 0,
+        },
+    }
+}
+
+// Writes the matches of a pattern of a plan in a document to the front of out, as many as fit: those
+// that do not come before `from`, smaller first variable first, then second, and so on.
+#[no_mangle]
+pub extern "C" fn lhz_list_matches(
+    volume: &[u8],
+    plan: &[u32],
+    pattern: u32,
+    doc: u32,
+    from: &[u32],
+    out: &mut [u32],
+) -> ListMatchesAnswer
+    ensures { λ r. ⌜ enumerations.Kept (now (volume .entry)) (now (plan .entry)) pattern doc (now (from .entry)) (now (out .entry)) r
+        (now (out .exit)) ⌝ }
+{
+    let matched = enumeration::matches(volume, plan, pattern, doc, from, out);
+    let answer = matched.answer;
+    let next = matched.next;
+    match answer {
+        Enumerated::Done(written) => ListMatchesAnswer {
+            refusal: 0,
+            at: 0,
+            count: written,
+            more: 0,
+            next,
+        },
+        Enumerated::More(written) => ListMatchesAnswer {
+            refusal: 0,
+            at: 0,
+            count: written,
+            more: 1,
+            next,
+        },
+        Enumerated::Refused(why) => {
+            let code = plan::code_of(why);
+            ListMatchesAnswer {
+                refusal: code.number,
+                at: code.at,
+                count: 0,
+                more: 0,
+                next,
+            }
+        }
+        Enumerated::OutOfRange => ListMatchesAnswer {
+            refusal: 17,
+            at: 0,
+            count: 0,
+            more: 0,
+            next,
+        },
+        Enumerated::Short => ListMatchesAnswer {
+            refusal: 16,
+            at: 0,
+            count: 0,
+            more: 0,
+            next,
         },
     }
 }

@@ -18,7 +18,7 @@ use Rattle.lihambozy.specs.Search.{structs}
 use Rattle.lihambozy.proofs.Laws.Heard.{heard-flat}
 
 -- refusal 0 is an accepted plan
-accepted : (v p : List ℕ) → flatPlan (plan.verdict v p) .refusal ≡ 0 → plan.Accepted v p
+pub accepted : (v p : List ℕ) → flatPlan (plan.verdict v p) .refusal ≡ 0 → plan.Accepted v p
 accepted v p e = ⊎-elim (λ a. a) (λ (w : (n : ℕ) × (q : ℕ) × (plan.verdict v p ≡ refused n q)).
     let z : w .0 ≡ 0 = rw (w .2) at e in
     let h = plan-number v p (w .0) (w .1) (check-sound v p .first (w .0) (w .1) (w .2) .applies .1) .0 in
