@@ -1,5 +1,5 @@
-/* lihambozy.h: reading and writing the volumes of a surtitle archive, checking plans over them, and
- * listing the documents that match.
+/* lihambozy.h: reading and writing the volumes of a surtitle archive, checking plans over them,
+ * listing the documents that match, and listing all tuples of positions that pass in one of them.
  *
  * `rt staticlib lihambozy` builds the library. A C99 program that includes this header is built in
  * the same folder with
@@ -163,7 +163,8 @@ extern "C" {
 #define LHZ_REFUSED_ROW_TOO_MANY 12
 #define LHZ_REFUSED_ROW_ORDER 13
 #define LHZ_REFUSED_UNFINISHED 14
-/* What else a call is given is refused: lhz_list, lhz_read_list, lhz_test_positions. */
+/* What else a call is given is refused: lhz_list, lhz_read_list, lhz_test_positions,
+ * lhz_list_matches. */
 #define LHZ_REFUSED_START 15
 #define LHZ_REFUSED_SHORT_BUFFER 16
 #define LHZ_REFUSED_OUT_OF_RANGE 17
@@ -378,6 +379,68 @@ typedef struct lhz_list_answer {
  */
 lhz_list_answer lhz_list(const uint8_t *volume, size_t len, const uint32_t *plan, size_t plan_len,
                          uint32_t start, uint32_t *out, size_t out_len);
+
+/* The answer of lhz_list_matches. */
+typedef struct lhz_list_matches_answer {
+    uint32_t refusal;
+    uint32_t at;
+    uint64_t count; /* the tuples written */
+    uint32_t more;  /* 1 where a tuple that passes is left (MORE), 0 where none is (DONE) */
+    uint32_t next[LHZ_MAX_VARS]; /* MORE: the first tuple left, and zeros behind it. DONE: zeros */
+} lhz_list_matches_answer;
+
+/* Lists the tuples of positions that pass, for one pattern in one document, from a tuple on.
+ *
+ * Lent for reading: volume, len bytes; plan, plan_len words; from, from_len words, a position for
+ * each variable of the pattern, in the order of its variables. `pattern` is the pattern's number,
+ * from 0; `doc` is the document. Lent for writing: out, out_len words.
+ *
+ * Tuples are in order by their first position, those that agree in it by their second, and so on.
+ * The tuples that pass and do not come before `from` are written back to back at the front of out,
+ * in order, each once, as many as there are or as fit whole; the words behind them stay as they
+ * were. A tuple has as many words as the pattern has variables, so that LHZ_MAX_VARS words hold a
+ * tuple of every pattern. `from` is written itself where it passes. It need not pass, nor do its
+ * positions have to be in the lists. Where more tuples are left than fit, `more` is 1 and the first
+ * words of `next`, as many as from_len, are the first tuple that is not written; otherwise `more`
+ * is 0. In a document without postings no tuple passes. Whether the document matches does not
+ * matter.
+ *
+ * All tuples are listed by a call from zeros and one from each `next` until `more` is 0, for the
+ * same pattern and document, with the same volume and plan, in which nobody writes from the first
+ * call to the last, and with buffers of any length; longer ones make fewer calls, and one may serve
+ * again once its tuples are taken out. vars is the number of the pattern's variables, that is, of
+ * VOICE rows that lhz_pattern_rows shows:
+ *
+ *    uint32_t from[LHZ_MAX_VARS] = {0};
+ *    lhz_list_matches_answer answer;
+ *    do {
+ *        answer = lhz_list_matches(volume, len, plan, plan_len, pattern, doc, from, vars, out,
+ *                                  out_len);
+ *        if (answer.refusal != 0) break;
+ *        .. take answer.count tuples of vars words each from out ..
+ *        memcpy(from, answer.next, sizeof from);
+ *    } while (answer.more);
+ *
+ * Once `more` is 0, the tuples of all calls, joined in the order of the calls, are exactly those
+ * that pass, each once and in order, however short the buffers were. Before that they are those
+ * that come before the last `next`. With k tuples that pass, `more` is 0 with call k at the latest,
+ * or with call 1 where k is 0; calls that are refused do not count. The first tuple of all is the
+ * pattern's least positions, which lhz_list shows where the document matches. A call that is
+ * refused with 16 may be made again with a longer buffer. On a refusal `next` is zeros; that does
+ * not tell where to go on.
+ *
+ * Refusals, the first that applies:
+ *    1 to 14                      the volume or the plan is refused as by lhz_check_plan, with the
+ *                                 same place
+ *   17  LHZ_REFUSED_OUT_OF_RANGE  `pattern` is not below F, from_len is not the number of that
+ *                                 pattern's variables, or `doc` or a position of `from` is over
+ *                                 65,535
+ *   16  LHZ_REFUSED_SHORT_BUFFER  out_len is less than from_len, even where no tuple passes
+ */
+lhz_list_matches_answer lhz_list_matches(const uint8_t *volume, size_t len, const uint32_t *plan,
+                                         size_t plan_len, uint32_t pattern, uint32_t doc,
+                                         const uint32_t *from, size_t from_len, uint32_t *out,
+                                         size_t out_len);
 
 #ifdef __cplusplus
 }

@@ -7,7 +7,7 @@
 //! ([`Posting::word`](crate::Posting::word)), and a plan is the words of its rows
 //! ([`Plan::words`](crate::Plan::words)).
 
-use crate::{ffi, Refusal, BLOCK_BYTES, BLOCK_WORDS, MAX_WORDS};
+use crate::{ffi, Match, Refusal, BLOCK_BYTES, BLOCK_WORDS, MAX_WORDS};
 
 /// What [`check_volume`] finds in an accepted volume.
 #[derive(Clone, Copy, Debug, PartialEq, Eq)]
@@ -75,6 +75,16 @@ pub enum Next {
     /// No further row fits, and this is the least document left (01: MORE). A call that starts at
     /// it goes on with the listing.
     More(u32),
+}
+
+/// What [`list_matches`] has done.
+#[derive(Clone, Copy, Debug, PartialEq, Eq)]
+pub struct ListedMatches {
+    /// The tuples written, of as many words each as the pattern has variables.
+    pub count: u64,
+    /// Where no further tuple fits and one is left, the first of those left (01: MORE). A call that
+    /// starts at it goes on. `None` where none is left (01: DONE).
+    pub next: Option<Match>,
 }
 
 /// The bytes of the volume of so many lists with so many postings in all; `None` where that is more
@@ -262,6 +272,65 @@ pub fn list(volume: &[u8], plan: &[u32], start: u32, out: &mut [u32]) -> Result<
         doc => Next::More(doc),
     };
     Ok(Listing { rows: answer.rows, tally: answer.tally, next })
+}
+
+/// Lists the tuples of positions that pass, for one pattern in the document `doc`, from the tuple
+/// `from` on, at the front of `out`; the words behind the tuples stay as they were. Patterns are
+/// numbered from 0 in the order in which they open.
+///
+/// A tuple is a position for each variable of the pattern, in their order. Tuples are in order by
+/// their first position, those that agree in it by their second, and so on. `from` is such a tuple
+/// too. It is written itself where it passes, but it need not pass, nor do its positions have to be
+/// in the lists. As many tuples are written as there are or as fit whole. Calls that start at zeros
+/// and then at each [`ListedMatches::next`] until there is none give every tuple that passes once.
+/// The first of them is the pattern's least positions, which [`list`] shows where the document
+/// matches.
+///
+/// Refused with 1 to 14 as by [`check_plan`], then with 17 (no pattern of that number, `from` has
+/// not as many positions as the pattern has variables, or a document or position is over 65,535),
+/// then with 16 (`out` is shorter than one tuple).
+///
+/// ```
+/// use lihambozy::calls::{list_matches, write_volume};
+/// use lihambozy::row::{before, voice, END};
+/// use lihambozy::Posting;
+///
+/// let mut volume = [0; 512];
+/// let word = [(1, 2), (1, 8), (1, 9)].map(|(doc, pos)| Posting::new(doc, pos).word());
+/// write_volume(&[0, 3], &word, &mut volume)?;
+///
+/// // The word, and the word again behind it.
+/// let plan = [voice(1), voice(1), before(0, 1), END].concat();
+/// let mut out = [7; 5];
+/// let first = list_matches(&volume, &plan, 0, 1, &[0, 0], &mut out)?;
+/// assert_eq!(first.count, 2);
+/// assert_eq!(out, [2, 8, 2, 9, 7]);
+///
+/// let from = first.next.expect("one is left");
+/// assert_eq!(from[..], [8, 9]);
+/// let second = list_matches(&volume, &plan, 0, 1, &from, &mut out)?;
+/// assert_eq!((second.count, second.next), (1, None));
+/// assert_eq!(out, [8, 9, 2, 9, 7]);
+///
+/// let refusal = list_matches(&volume, &plan, 0, 1, &[0], &mut out).unwrap_err();
+/// assert_eq!((refusal.number, refusal.at), (17, 0));
+/// let refusal = list_matches(&volume, &plan, 0, 1, &[0, 0], &mut out[..1]).unwrap_err();
+/// assert_eq!((refusal.number, refusal.at), (16, 0));
+/// # Ok::<(), lihambozy::Refusal>(())
+/// ```
+pub fn list_matches(
+    volume: &[u8],
+    plan: &[u32],
+    pattern: u32,
+    doc: u32,
+    from: &[u32],
+    out: &mut [u32],
+) -> Result<ListedMatches, Refusal> {
+    let answer = ffi::list_matches(volume, plan, pattern, doc, from, out);
+    accepted(answer.refusal, answer.at)?;
+    // `from` is accepted, so that it has a position for each variable.
+    let next = (answer.more != 0).then(|| Match::new(&answer.next[..from.len()]));
+    Ok(ListedMatches { count: answer.count, next })
 }
 
 /// Splits the two fields that an answer starts with: number 0 means that the call is answered.

@@ -7,6 +7,8 @@
 //! that is lent. No function keeps a pointer, and none has any other condition: whatever the
 //! content and the lengths, it returns.
 
+use crate::MAX_VARS;
+
 /// What `lhz_list` tells as `next` where no document is left.
 pub(crate) const DONE: u32 = 65_536;
 
@@ -69,6 +71,16 @@ pub(crate) struct ListAnswer {
     pub next: u32,
 }
 
+/// An answer of `lhz_list_matches`.
+#[repr(C)]
+pub(crate) struct ListMatchesAnswer {
+    pub refusal: u32,
+    pub at: u32,
+    pub count: u64,
+    pub more: u32,
+    pub next: [u32; MAX_VARS],
+}
+
 extern "C" {
     fn lhz_check_volume(volume: *const u8, len: usize) -> CheckVolumeAnswer;
 
@@ -124,6 +136,19 @@ extern "C" {
         out: *mut u32,
         out_len: usize,
     ) -> ListAnswer;
+
+    fn lhz_list_matches(
+        volume: *const u8,
+        len: usize,
+        plan: *const u32,
+        plan_len: usize,
+        pattern: u32,
+        doc: u32,
+        from: *const u32,
+        from_len: usize,
+        out: *mut u32,
+        out_len: usize,
+    ) -> ListMatchesAnswer;
 }
 
 pub(crate) fn check_volume(volume: &[u8]) -> CheckVolumeAnswer {
@@ -195,6 +220,33 @@ pub(crate) fn list(volume: &[u8], plan: &[u32], start: u32, out: &mut [u32]) -> 
             plan.as_ptr(),
             plan.len(),
             start,
+            out.as_mut_ptr(),
+            out.len(),
+        )
+    }
+}
+
+pub(crate) fn list_matches(
+    volume: &[u8],
+    plan: &[u32],
+    pattern: u32,
+    doc: u32,
+    from: &[u32],
+    out: &mut [u32],
+) -> ListMatchesAnswer {
+    // SAFETY: `volume`, `plan` and `from` are read only and may overlap each other; `out` is
+    // borrowed mutably, so it overlaps none of them, and each length is that of its slice, in
+    // elements.
+    unsafe {
+        lhz_list_matches(
+            volume.as_ptr(),
+            volume.len(),
+            plan.as_ptr(),
+            plan.len(),
+            pattern,
+            doc,
+            from.as_ptr(),
+            from.len(),
             out.as_mut_ptr(),
             out.len(),
         )
@@ -393,5 +445,99 @@ mod tests {
                 assert_eq!(answer, [number, at, 0, 0, 0], "start {start}, room {room}");
             }
         }
+    }
+
+    /// In the one document of `volume_with`, document 0, list 1 has the positions 4 and 5. So
+    /// pattern 0 has two tuples there, and pattern 1 has four.
+    #[test]
+    fn list_matches_fields() {
+        type Fields = ([u32; 2], u64, u32, [u32; 8]);
+        let fields =
+            |volume: &[u8], plan: &[u32], [pattern, doc]: [u32; 2], from: &[u32], room: usize| {
+                let ListMatchesAnswer { refusal, at, count, more, next } =
+                    list_matches(volume, plan, pattern, doc, from, &mut vec![0; room]);
+                ([refusal, at], count, more, next)
+            };
+        let done = |count: u64| -> Fields { ([0, 0], count, 0, [0; 8]) };
+        let more = |count: u64, tuple: &[u32]| -> Fields {
+            let mut next = [0; 8];
+            next[..tuple.len()].copy_from_slice(tuple);
+            ([0, 0], count, 1, next)
+        };
+        let refused = |[number, at]: [u32; 2]| -> Fields { ([number, at], 0, 0, [0; 8]) };
+        let volume = volume_with(&[]);
+        assert_eq!(fields(&volume, &PLAN, [0, 0], &[0], 1), more(1, &[5]));
+        assert_eq!(fields(&volume, &PLAN, [0, 0], &[0], 2), done(2));
+        assert_eq!(fields(&volume, &PLAN, [0, 0], &[5], 1), done(1));
+        assert_eq!(fields(&volume, &PLAN, [0, 0], &[6], 1), done(0));
+        assert_eq!(fields(&volume, &PLAN, [1, 0], &[0, 0], 2), more(1, &[4, 5]));
+        assert_eq!(fields(&volume, &PLAN, [1, 0], &[0, 0], 5), more(2, &[5, 4]));
+        assert_eq!(fields(&volume, &PLAN, [1, 0], &[0, 0], 7), more(3, &[5, 5]));
+        assert_eq!(fields(&volume, &PLAN, [1, 0], &[0, 0], 8), done(4));
+        assert_eq!(fields(&volume, &PLAN, [1, 0], &[4, 5], 2), more(1, &[5, 4]));
+        assert_eq!(fields(&volume, &PLAN, [1, 0], &[5, 5], 60), done(1));
+        assert_eq!(fields(&volume, &PLAN, [1, 0], &[65_535, 65_535], 2), done(0));
+        for doc in [1, 2, 65_535] {
+            for room in [2, 60] {
+                assert_eq!(fields(&volume, &PLAN, [1, doc], &[0, 0], room), done(0), "{doc}");
+            }
+        }
+
+        for room in [0, 1, 2, 60] {
+            let of = |pattern: u32, doc: u32, from: &[u32]| {
+                fields(&volume, &PLAN, [pattern, doc], from, room)
+            };
+            assert_eq!(of(2, 0, &[4]), refused([17, 0]), "pattern");
+            assert_eq!(of(0, 0, &[]), refused([17, 0]), "no position");
+            assert_eq!(of(0, 0, &[4, 4]), refused([17, 0]), "a position more");
+            assert_eq!(of(1, 0, &[4]), refused([17, 0]), "a position less");
+            assert_eq!(of(1, 0, &[4, 65_536]), refused([17, 0]), "position");
+            assert_eq!(of(1, 65_536, &[4, 4]), refused([17, 0]), "document");
+            assert_eq!(of(0, u32::MAX, &[4]), refused([17, 0]), "document");
+        }
+        for (from, room) in [([4, 5], 0), ([4, 5], 1), ([6, 0], 1), ([65_535, 65_535], 1)] {
+            assert_eq!(fields(&volume, &PLAN, [1, 0], &from, room), refused([16, 0]), "{from:?}");
+        }
+        for (volume, plan, [number, at]) in refused_plans() {
+            for (pattern, from, room) in [(0, &[4][..], 9), (9, &[], 9), (0, &[4], 0)] {
+                for doc in [0, 65_536] {
+                    let answer = fields(&volume, &plan, [pattern, doc], from, room);
+                    assert_eq!(answer, refused([number, at]), "pattern {pattern}, room {room}");
+                }
+            }
+        }
+
+        // Patterns of every width. From each tuple on, in a buffer for one, MORE names the next.
+        for vars in 1..=8 {
+            let plan = [[1, 1, 0, 0].repeat(vars), vec![6, 0, 0, 0]].concat();
+            let all = plain::search::choices(&vec![[4, 5]; vars]);
+            let of =
+                |doc: u32, from: &[u32], room: usize| fields(&volume, &plan, [0, doc], from, room);
+            for (i, tuple) in all.iter().enumerate() {
+                let expected = all.get(i + 1).map_or(done(1), |next| more(1, next));
+                assert_eq!(of(0, tuple, vars), expected, "{tuple:?}");
+                assert_eq!(of(0, tuple, vars * all.len()), done((all.len() - i) as u64));
+                assert_eq!(of(0, tuple, vars - 1), refused([16, 0]), "{tuple:?}");
+                assert_eq!(of(1, tuple, vars), done(0), "{tuple:?}");
+                assert_eq!(of(65_536, tuple, vars), refused([17, 0]), "{tuple:?}");
+            }
+            for from in [vec![4; vars - 1], vec![4; vars + 1], vec![65_536; vars]] {
+                assert_eq!(of(0, &from, 60), refused([17, 0]), "{vars} variables, {from:?}");
+            }
+        }
+    }
+
+    /// The struct lies in memory as the header says.
+    #[test]
+    fn list_matches_layout() {
+        use std::mem::offset_of;
+        let offsets = [
+            offset_of!(ListMatchesAnswer, refusal),
+            offset_of!(ListMatchesAnswer, at),
+            offset_of!(ListMatchesAnswer, count),
+            offset_of!(ListMatchesAnswer, more),
+            offset_of!(ListMatchesAnswer, next),
+        ];
+        assert_eq!((offsets, size_of::<ListMatchesAnswer>()), ([0, 4, 8, 16, 20], 56));
     }
 }

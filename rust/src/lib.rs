@@ -1,5 +1,5 @@
-//! Reads and writes the volumes of a surtitle archive, checks plans over them, and lists the
-//! documents that match.
+//! Reads and writes the volumes of a surtitle archive, checks plans over them, lists the documents
+//! that match, and lists all tuples of positions that pass in one of them.
 //!
 //! A [`Volume`] is an inverted index as one piece of bytes: 1 to 1,024 posting lists in blocks of
 //! 512 bytes, each block numbered and under a checksum. A [`Posting`] is a document (01: scene) and
@@ -16,7 +16,8 @@
 //! each is in its variable's list there and all predicates hold. A pattern is found where some
 //! tuple passes, and then has its least positions (01: earliest places), which are smallest in
 //! every variable together. A document matches (01: is true) if the one answer left at the end is
-//! yes for it. A [`Search`] is an iterator over the [`Row`]s of all documents that match.
+//! yes for it. A [`Search`] is an iterator over the [`Row`]s of all documents that match, and
+//! [`Matches`] is one over all tuples that pass for a pattern in a document, each a [`Match`].
 //!
 //! What does not fit is answered by a [`Refusal`], with document 01's number and place and a
 //! sentence for a person.
@@ -41,11 +42,18 @@
 //! assert!(volume.test(&plan, 0, 1, &[2, 5])?);
 //! assert!(!volume.test(&plan, 0, 1, &[2, 7])?);
 //! assert!(!volume.test(&plan, 0, 2, &[4, 9])?);
+//!
+//! // With at most two places between the words, in any order and across titles, three choices pass
+//! // in scene 1. The first is what a row shows.
+//! let near: Plan = "VOICE 1\nVOICE 2\nNEAR 0 1 2\nEND".parse()?;
+//! let matches = volume.matches(&near, 0, 1)?;
+//! let tuples: Vec<String> = matches.map(|tuple| tuple.to_string()).collect();
+//! assert_eq!(tuples, ["places 2 5", "places 8 5", "places 8 7"]);
 //! # Ok::<(), Box<dyn std::error::Error>>(())
 //! ```
 //!
 //! The work is done by the proved library behind `include/lihambozy.h`. This crate lends it slices
-//! ([`calls`], one function a call) and keeps the buffers of a search.
+//! ([`calls`], one function a call) and keeps the buffers of searches and matches.
 
 #![deny(unsafe_code)]
 #![warn(missing_docs)]
@@ -54,6 +62,7 @@ pub mod calls;
 #[allow(unsafe_code)]
 mod ffi;
 pub mod kind;
+mod matches;
 mod plan;
 mod posting;
 mod refusal;
@@ -62,6 +71,7 @@ mod search;
 pub mod text;
 mod volume;
 
+pub use matches::{Match, Matches};
 pub use plan::Plan;
 pub use posting::Posting;
 pub use refusal::Refusal;

@@ -64,7 +64,10 @@ impl fmt::Display for Refusal {
             ),
             14 => f.write_str("the plan ends with a figure open, or not with one answer"),
             15 => f.write_str("the start scene is over 65,535"),
-            16 => f.write_str("the buffer is shorter than one row of the listing, or than the list"),
+            16 => f.write_str(
+                "the buffer is shorter than one row of the listing, than one choice, or than the \
+                 list",
+            ),
             17 => f.write_str(
                 "there is no list or figure of that number, the number of places is not that of \
                  the figure's voices, or a scene or place is over 65,535",
@@ -108,8 +111,8 @@ mod tests {
             (
                 16,
                 0,
-                "the buffer is shorter than one row of the listing, or than the list \
-                 (refused 16 0)",
+                "the buffer is shorter than one row of the listing, than one choice, or than the \
+                 list (refused 16 0)",
             ),
         ];
         for (number, at, sentence) in rows {

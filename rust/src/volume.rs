@@ -2,7 +2,7 @@
 
 use crate::calls::{self, CheckedPlan, CheckedVolume};
 use crate::row::PlanRow;
-use crate::{Plan, Posting, Refusal, Search};
+use crate::{Matches, Plan, Posting, Refusal, Search};
 use std::borrow::Cow;
 use std::fmt;
 
@@ -159,6 +159,63 @@ impl<'a> Volume<'a> {
     /// Refused with 9 to 14 as by [`Volume::check`].
     pub fn search<'s>(&'s self, plan: &'s Plan) -> Result<Search<'s>, Refusal> {
         Search::new(self, plan)
+    }
+
+    /// All tuples of positions that pass for one pattern of a plan in the document `doc`, in order.
+    ///
+    /// Refused with 9 to 14 as by [`Volume::check`], then with 17 (no pattern of that number, or a
+    /// document over 65,535).
+    ///
+    /// ```
+    /// use lihambozy::{text, Plan, Volume};
+    ///
+    /// let lists = text::lists("1:0 1:6\n1:2 1:8 2:4\n1:5 1:7 2:9\n")?;
+    /// let volume = Volume::of_lists(&lists)?;
+    /// let plan: Plan = "VOICE 1\nVOICE 2\nNEAR 0 1 2\nEND".parse()?;
+    ///
+    /// let mut matches = volume.matches(&plan, 0, 1)?;
+    /// assert_eq!(matches.next().unwrap(), [2, 5]);
+    /// assert_eq!(matches.collect::<Vec<_>>(), [[8, 5], [8, 7]]);
+    /// assert_eq!(volume.matches(&plan, 0, 2)?.count(), 0);
+    /// assert_eq!(volume.matches(&plan, 1, 1).unwrap_err().number, 17);
+    /// # Ok::<(), Box<dyn std::error::Error>>(())
+    /// ```
+    pub fn matches<'s>(
+        &'s self,
+        plan: &'s Plan,
+        pattern: u32,
+        doc: u32,
+    ) -> Result<Matches<'s>, Refusal> {
+        Matches::from_zeros(self, plan, pattern, doc)
+    }
+
+    /// The tuples that [`Volume::matches`] gives, without those that come before the tuple `from`.
+    /// It need not pass, nor do its positions have to be in the lists.
+    ///
+    /// Refused with 9 to 14 as by [`Volume::check`], then with 17 (no pattern of that number, not
+    /// as many positions as it has variables, or a document or position over 65,535).
+    ///
+    /// ```
+    /// use lihambozy::{text, Plan, Volume};
+    ///
+    /// let lists = text::lists("-\n1:2 1:8\n1:5 1:7\n")?;
+    /// let volume = Volume::of_lists(&lists)?;
+    /// let plan: Plan = "VOICE 1\nVOICE 2\nEND".parse()?;
+    ///
+    /// let from = |from| volume.matches_from(&plan, 0, 1, from);
+    /// assert_eq!(from(&[2, 7])?.collect::<Vec<_>>(), [[2, 7], [8, 5], [8, 7]]);
+    /// assert_eq!(from(&[2, 8])?.collect::<Vec<_>>(), [[8, 5], [8, 7]]);
+    /// assert_eq!(from(&[2]).unwrap_err().number, 17);
+    /// # Ok::<(), Box<dyn std::error::Error>>(())
+    /// ```
+    pub fn matches_from<'s>(
+        &'s self,
+        plan: &'s Plan,
+        pattern: u32,
+        doc: u32,
+        from: &[u32],
+    ) -> Result<Matches<'s>, Refusal> {
+        Matches::new(self, plan, pattern, doc, from)
     }
 }
 

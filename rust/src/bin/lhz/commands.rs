@@ -37,10 +37,14 @@ pub fn run(
         ("check", &[volume]) => check(volume, None, out),
         ("check", &[volume, plan]) => check(volume, Some(plan), out),
         ("list", &[volume, plan]) => list(volume, plan, out),
+        ("matches", &[volume, plan, pattern, doc, ref from @ ..]) => {
+            let asked = Asked { may_lack_places: true, ..Asked::new(pattern, doc, from)? };
+            matches(volume, plan, &asked, out)
+        }
         ("read", &[volume]) => read(volume, None, out),
         ("read", &[volume, list]) => read(volume, Some(list), out),
         ("test", &[volume, plan, pattern, doc, ref positions @ ..]) => {
-            test(volume, plan, pattern, doc, positions, out)
+            test(volume, plan, &Asked::new(pattern, doc, positions)?, out)
         }
         ("write", &[text, volume]) => write(text, volume, out),
         ("plan", &[text, plan]) => write_plan(text, plan, out),
@@ -142,41 +146,88 @@ fn read(path: &OsStr, list: Option<&OsStr>, out: &mut impl Write) -> Result<(), 
     }
 }
 
+/// What is asked of a plan's figure in a scene, with places for its voices.
+struct Asked<'a> {
+    pattern: Number<'a>,
+    doc: Number<'a>,
+    places: Vec<Number<'a>>,
+    positions: Vec<u32>,
+    /// Whether it may be asked without places.
+    may_lack_places: bool,
+}
+
+impl<'a> Asked<'a> {
+    fn new(pattern: &'a OsStr, doc: &'a OsStr, places: &[&'a OsStr]) -> Result<Self, Failure> {
+        let pattern = number("FIGURE", pattern)?;
+        let doc = number("SCENE", doc)?;
+        let places = places.iter().map(|pos| number("PLACE", pos));
+        let places = places.collect::<Result<Vec<Number<'_>>, Failure>>()?;
+        let positions = places.iter().map(|pos| pos.value).collect();
+        Ok(Asked { pattern, doc, places, positions, may_lack_places: false })
+    }
+
+    /// Why a call that is asked this refuses it with 17.
+    fn refused(
+        &self,
+        path: &OsStr,
+        (volume, plan, checked): &(Volume<'_>, Plan, CheckedPlan),
+        refusal: Refusal,
+    ) -> Failure {
+        let Asked { pattern, doc, places, positions, may_lack_places } = self;
+        let Ok(rows) = volume.pattern_rows(plan, pattern.value) else {
+            return no_such(path, refusal, not_there("figure", *pattern, checked.patterns));
+        };
+        let vars = rows.iter().filter(|row| row[0] == kind::VOICE).count();
+        let over = [doc].into_iter().chain(places).find(|number| number.value > 65_535);
+        let is_right_number = positions.len() == vars || positions.is_empty() && *may_lack_places;
+        let why = match over {
+            Some(number) if is_right_number => {
+                format!("{number} is over 65535, the last scene and place")
+            }
+            _ => format!(
+                "the number of voices of figure {pattern} is {vars}, that of the places given is \
+                 {}",
+                positions.len()
+            ),
+        };
+        no_such(path, refusal, why)
+    }
+}
+
 fn test(
     volume: &OsStr,
     path: &OsStr,
-    pattern: &OsStr,
-    doc: &OsStr,
-    positions: &[&OsStr],
+    asked: &Asked<'_>,
     out: &mut impl Write,
 ) -> Result<(), Failure> {
-    let pattern = number("FIGURE", pattern)?;
-    let doc = number("SCENE", doc)?;
-    let places = positions.iter().map(|pos| number("PLACE", pos));
-    let places = places.collect::<Result<Vec<Number<'_>>, Failure>>()?;
-    let positions: Vec<u32> = places.iter().map(|pos| pos.value).collect();
-    let (volume, plan, checked) = open_both(volume, path)?;
-    match volume.test(&plan, pattern.value, doc.value, &positions) {
+    let opened = open_both(volume, path)?;
+    let (volume, plan, _) = &opened;
+    match volume.test(plan, asked.pattern.value, asked.doc.value, &asked.positions) {
         Ok(passes) => print(out, if passes { "yes\n" } else { "no\n" }),
-        Err(refusal) => {
-            let Ok(rows) = volume.pattern_rows(&plan, pattern.value) else {
-                return Err(no_such(path, refusal, not_there("figure", pattern, checked.patterns)));
-            };
-            let vars = rows.iter().filter(|row| row[0] == kind::VOICE).count();
-            let over = [doc].into_iter().chain(places).find(|number| number.value > 65_535);
-            let why = match over {
-                Some(number) if vars == positions.len() => {
-                    format!("{number} is over 65535, the last scene and place")
-                }
-                _ => format!(
-                    "the number of voices of figure {pattern} is {vars}, that of the places given \
-                     is {}",
-                    positions.len()
-                ),
-            };
-            Err(no_such(path, refusal, why))
-        }
+        Err(refusal) => Err(asked.refused(path, &opened, refusal)),
     }
+}
+
+fn matches(
+    volume: &OsStr,
+    path: &OsStr,
+    asked: &Asked<'_>,
+    out: &mut impl Write,
+) -> Result<(), Failure> {
+    let opened = open_both(volume, path)?;
+    let (volume, plan, _) = &opened;
+    let (pattern, doc) = (asked.pattern.value, asked.doc.value);
+    let matches = match &asked.positions[..] {
+        [] => volume.matches(plan, pattern, doc),
+        from => volume.matches_from(plan, pattern, doc, from),
+    };
+    let matches = matches.map_err(|refusal| asked.refused(path, &opened, refusal))?;
+    let mut count: u64 = 0;
+    for tuple in matches {
+        print(out, format_args!("{tuple}\n"))?;
+        count += 1;
+    }
+    print(out, format_args!("done {count}\n"))
 }
 
 /// There is no list or figure of that number among so many.

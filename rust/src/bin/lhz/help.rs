@@ -4,15 +4,16 @@
 pub const ALL: &str = "\
 lhz checks, reads, writes and searches the volumes of a surtitle archive.
 
-  lhz check VOLUME [PLAN]                    check a volume, or a plan over it
-  lhz list VOLUME PLAN                       list the true scenes
-  lhz read VOLUME [LIST]                     print one list, or all of them
-  lhz test VOLUME PLAN FIGURE SCENE PLACE..  ask whether places pass
-  lhz write TEXT VOLUME                      write the volume of the lists in a text
-  lhz plan PLANTEXT PLAN                     write a plan from its text
-  lhz show PLAN                              print a plan as text
-  lhz show VOLUME PLAN FIGURE                print one figure's own rows
-  lhz COMMAND --help                         more on one of them, with examples
+  lhz check VOLUME [PLAN]                         check a volume, and a plan
+  lhz list VOLUME PLAN                            list the true scenes
+  lhz matches VOLUME PLAN FIGURE SCENE [PLACE..]  print every passing choice
+  lhz read VOLUME [LIST]                          print one list, or all
+  lhz test VOLUME PLAN FIGURE SCENE PLACE..       ask whether places pass
+  lhz write TEXT VOLUME                           write a volume from a text
+  lhz plan PLANTEXT PLAN                          write a plan from its text
+  lhz show PLAN                                   print a plan as text
+  lhz show VOLUME PLAN FIGURE                     print one figure's own rows
+  lhz COMMAND --help                              more on one, with examples
   lhz --version
 
 `-` stands for standard input, or for standard output where a file is written.
@@ -33,6 +34,7 @@ pub fn page(command: &str) -> Option<&'static str> {
     Some(match command {
         "check" => CHECK,
         "list" => LIST,
+        "matches" => MATCHES,
         "read" => READ,
         "test" => TEST,
         "write" => WRITE,
@@ -66,6 +68,27 @@ whole.
   $ lhz list titles.vol sample.plan
   scene 1 1 2 5
   done 6
+";
+
+const MATCHES: &str = "\
+lhz matches VOLUME PLAN FIGURE SCENE [PLACE..]
+
+Prints every choice of places that passes for a figure in a scene, each once. A
+line is `places` and a place for each voice of the figure, in the order of its
+voices. The lines rise by the first place, those that agree in it by the second,
+and so on. The last line is `done` and the number of choices printed; without it
+they are not all. Figures are numbered from 0 in the order in which they open.
+
+Without PLACE.. the first line has the earliest places. lhz list shows them too
+if the scene is true. With PLACE.., one for each voice, choices before those
+places are left out. The places given need not pass. If they do, they come
+first.
+
+  $ lhz matches titles.vol sample.plan 0 1
+  places 2 5
+  done 1
+  $ lhz matches titles.vol sample.plan 0 1 2 6     # behind place 5 of voice 1
+  done 0
 ";
 
 const READ: &str = "\
