@@ -1,6 +1,8 @@
 //! Times the library's listing beside the yardstick's: eleven plans over each of two made-up
 //! archives, and how the time grows with the positions of one document. The results are compared
-//! before anything is timed. Run as a test, it makes one round and prints no times.
+//! before anything is timed. Then it times how all tuples of a crowded document are listed: where
+//! few pass, beside a listing of that document, and where all pass, tuple by tuple as the document
+//! grows. Run as a test, it makes one round and prints no times.
 //!
 //! A listing checks its volume; what it does beyond that is its walk. Only whole calls of the
 //! library can be timed, so on both sides a walk's time is that of a listing less that of a check
@@ -12,8 +14,11 @@ mod archives;
 mod support;
 mod yardstick;
 
-use archives::{endless_plans, one_document, plans, repertory, season, Filling, Lists, Plan};
-use lihambozy::calls::{check_plan, check_volume, list, Next};
+use archives::{
+    all_match, all_plans, endless_plans, few_matches, few_plans, one_document, plans, repertory,
+    season, Filling, Lists, Plan, CROWDED,
+};
+use lihambozy::calls::{check_plan, check_volume, list, list_matches, Next};
 use lihambozy::BLOCK_BYTES;
 use std::hint::black_box;
 use support::Times;
@@ -36,6 +41,21 @@ const GROWTH_ROUNDS: usize = 21;
 /// with the postings it is 2, and a little more for searches among twice the starts and for memory
 /// that is further away; for one that grows with a product of them it is 4.
 const DOUBLING_TARGET: f64 = 2.6;
+
+/// The positions of each of eight variables in the document in which few tuples pass: eight do.
+const FEW: u32 = 4_096;
+/// How many listings of that document an enumeration of all its tuples takes, at most: eight for
+/// each variable.
+const FEW_TARGET: f64 = 64.0;
+/// The positions of each variable in the documents in which all tuples pass.
+const ALL_SIZES: [u32; 5] = [256, 512, 1_024, 2_048, 4_096];
+/// The tuples of a page there.
+const PAGE: usize = 16_384;
+/// How many times as long a tuple takes in a document as in the one with half the positions, and as
+/// in the smallest, at most. For a time that does not depend on the document it is 1, and a little
+/// more for memory that is further away.
+const FLAT_TARGET: f64 = 1.3;
+const MATCHES_ROUNDS: usize = 51;
 
 /// A made-up archive.
 struct Archive {
@@ -79,6 +99,8 @@ fn main() {
         missed |= time_plans(&archive, timed);
     }
     missed |= time_growth(timed);
+    missed |= time_few(timed);
+    missed |= time_all(timed);
     if !timed {
         println!("the library and the yardstick agree on every listing");
     }
@@ -345,6 +367,140 @@ fn time_growth(timed: bool) -> bool {
                 }
             }
             above = Some(times);
+        }
+    }
+    missed
+}
+
+/// Runs plans that few tuples of a crowded document pass: whether a target is missed.
+fn time_few(timed: bool) -> bool {
+    let volume = few_matches(FEW, 8).volume();
+    let plans = few_plans(FEW);
+    if timed {
+        println!("\n# All matches of a crowded document in which few tuples pass\n");
+        println!(
+            "{FEW} positions for each of eight variables. 8 tuples pass, at the end of the \
+             document, so that a listing passes\nall of it. {MATCHES_ROUNDS} rounds, minima. The \
+             check is taken off both sides.\n"
+        );
+        for (plan, _) in &plans {
+            println!("- {}: {}", plan.name, plan.text());
+        }
+        println!("\n| predicates | listing ms | all matches ms | in listings | target | |");
+        println!("|---|---|---|---|---|---|");
+    }
+    let mut missed = false;
+    for (plan, tuples) in &plans {
+        let words = plan.rows.concat();
+        let (mut row, mut out) = ([0; 10], [7; 72]);
+        let listing = list(&volume, &words, 0, &mut row).expect("a row fits");
+        assert_eq!((listing.rows, row[0], row[1]), (1, CROWDED, 1), "{}", plan.name);
+        assert_eq!(row[2..], tuples[0], "{}", plan.name);
+        let listed = list_matches(&volume, &words, 0, CROWDED, &[0; 8], &mut out).expect("it fits");
+        assert_eq!((listed.count, listed.next), (8, None), "{}", plan.name);
+        assert_eq!(out[..64], *tuples.as_flattened(), "{}", plan.name);
+
+        let [mut check, mut whole, mut all] = [(); 3].map(|()| Times::default());
+        for _ in 0..if timed { MATCHES_ROUNDS } else { 1 } {
+            let (volume, words) = (black_box(&volume[..]), black_box(&words[..]));
+            check.time(|| check_volume(volume));
+            whole.time(|| list(volume, words, 0, &mut row));
+            all.time(|| list_matches(volume, words, 0, CROWDED, &[0; 8], &mut out));
+        }
+        if !timed {
+            continue;
+        }
+        let [listing, all] = [whole, all].map(|times| times.minimum() - check.minimum());
+        let ratio = all / listing;
+        missed |= ratio > FEW_TARGET;
+        println!(
+            "| {} | {listing:.3} | {all:.3} | {ratio:.2} | {FEW_TARGET:.0} | {} |",
+            plan.name,
+            verdict(ratio > FEW_TARGET)
+        );
+    }
+    missed
+}
+
+/// The tuples of `all_match` from one on, whose numbers are those of its positions in their lists.
+fn tuples_from(from: &[u32], positions: u32, count: usize) -> Vec<u32> {
+    let mut tuple = from.to_vec();
+    let mut words = vec![];
+    for _ in 0..count {
+        words.extend(tuple.iter().map(|number| 16 * number));
+        for number in tuple.iter_mut().rev() {
+            *number += 1;
+            if *number < positions {
+                break;
+            }
+            *number = 0;
+        }
+    }
+    words
+}
+
+/// Runs plans that all tuples of a crowded document pass, a page from the first tuple and one from
+/// the middle of the order: whether a target is missed.
+fn time_all(timed: bool) -> bool {
+    let plans = all_plans();
+    let volumes = ALL_SIZES.map(|positions| all_match(positions).volume());
+    if timed {
+        println!("\n# A page of matches of a crowded document in which all tuples pass\n");
+        println!(
+            "A page of {PAGE} tuples. {MATCHES_ROUNDS} rounds, minima. The check before them is \
+             taken off.\n"
+        );
+        for plan in &plans {
+            println!("- {}: {}", plan.name, plan.text());
+        }
+        println!(
+            "\n| plan | positions of each | from the first: ns a tuple | of the row above \
+             | of the first row | from the middle: ns a tuple | of the row above \
+             | of the first row | target | |"
+        );
+        println!("|---|---|---|---|---|---|---|---|---|---|");
+    }
+    let mut missed = false;
+    for plan in &plans {
+        let words = plan.rows.concat();
+        let vars = check_plan(&volumes[0], &words).expect("the plan is accepted").vars as usize;
+        let mut rows: Vec<[f64; 2]> = vec![];
+        for (volume, positions) in volumes.iter().zip(ALL_SIZES) {
+            let mut out = vec![7; PAGE * vars];
+            let each = [0, positions / 2].map(|number| {
+                let numbers = vec![number; vars];
+                let from: Vec<u32> = numbers.iter().map(|number| 16 * number).collect();
+                let listed = list_matches(volume, &words, 0, CROWDED, &from, &mut out);
+                let listed = listed.expect("the page holds a tuple");
+                assert_eq!(listed.count, PAGE as u64, "{}, {positions}", plan.name);
+                assert!(out == tuples_from(&numbers, positions, PAGE), "{}", plan.name);
+
+                let [mut check, mut page] = [(); 2].map(|()| Times::default());
+                for _ in 0..if timed { MATCHES_ROUNDS } else { 1 } {
+                    let (volume, words) = (black_box(&volume[..]), black_box(&words[..]));
+                    check.time(|| check_volume(volume));
+                    page.time(|| list_matches(volume, words, 0, CROWDED, &from, &mut out));
+                }
+                (page.minimum() - check.minimum()) * 1e6 / PAGE as f64
+            });
+            if !timed {
+                continue;
+            }
+            print!("| {} | {positions} |", plan.name);
+            match (rows.last(), rows.first()) {
+                (Some(above), Some(first)) => {
+                    let growth =
+                        [0, 1].map(|from| [above, first].map(|row| each[from] / row[from]));
+                    let too_much = growth.as_flattened().iter().any(|&growth| growth > FLAT_TARGET);
+                    missed |= too_much;
+                    for (each, [of_above, of_first]) in each.iter().zip(growth) {
+                        print!(" {each:.1} | {of_above:.2} | {of_first:.2} |");
+                    }
+                    println!(" {FLAT_TARGET:.2} | {} |", verdict(too_much));
+                }
+                _ => println!(" {:.1} | | | {:.1} | | | | |", each[0], each[1]),
+            }
+            rows.push(each);
         }
     }
     missed

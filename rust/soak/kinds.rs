@@ -14,13 +14,14 @@ pub struct Kind {
 }
 
 /// The kinds of cases. The first one is that of case 0 alone.
-pub static KINDS: [Kind; 9] = [
+pub static KINDS: [Kind; 10] = [
     Kind { name: "bytes changed", weight: 0, run: volumes::bytes_changed },
     Kind { name: "writing", weight: 1200, run: volumes::writing },
     Kind { name: "damage", weight: 2500, run: volumes::damaged },
     Kind { name: "plans", weight: 1500, run: plans::plans },
     Kind { name: "searches", weight: 8000, run: searches::searches },
     Kind { name: "positions", weight: 3000, run: searches::positions },
+    Kind { name: "matches", weight: 1400, run: searches::matches },
     Kind { name: "package", weight: 2500, run: package::package },
     Kind { name: "texts", weight: 700, run: texts::texts },
     Kind { name: "large", weight: 3, run: large::large },

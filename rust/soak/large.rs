@@ -7,6 +7,7 @@ use crate::package::walk;
 use crate::plain;
 use crate::report::Counts;
 use crate::searches::any_test;
+use crate::support::matches::other_matches;
 use crate::support::plans::Row;
 use crate::support::searches::*;
 use crate::support::*;
@@ -125,7 +126,7 @@ fn write_and_read(rng: &mut Rng, trial: &mut Trial, lists: &Lists) -> Vec<u8> {
     volume
 }
 
-/// Searches the volume, in some ten calls and in pages.
+/// Searches the volume, in some ten calls and in pages, and lists some of its tuples.
 fn search(rng: &mut Rng, counts: &mut Counts, volume: &[u8], rows: &[Row]) {
     let subject = Subject::new(volume, &rows.concat());
     let width = subject.width();
@@ -142,6 +143,7 @@ fn search(rng: &mut Rng, counts: &mut Counts, volume: &[u8], rows: &[Row]) {
     for _ in 0..4 {
         any_test(rng, counts, &subject);
     }
+    other_matches(rng, &mut counts.trial, &subject, 2);
 
     let volume = Volume::new(subject.volume()).expect("the volume is accepted");
     let plan = Plan::new(rows);

@@ -1,13 +1,14 @@
-//! The Rust package: volumes, plans, and searches that page by themselves.
+//! The Rust package: volumes, plans, and searches and matches that page by themselves.
 
 use crate::case::Case;
 use crate::inputs::{any_lists, any_plan, any_volume, spoil_lists, NAIVE_STEPS};
-use crate::plain::search::Searcher;
+use crate::plain::search::{comes_before, Searcher};
 use crate::plain::{self, Refused};
 use crate::report::Counts;
+use crate::support::matches::{random_crowd, random_from};
 use crate::support::searches::{random_large_subject, random_subject, Subject};
 use crate::support::{pair, Lists, Rng};
-use lihambozy::{Plan, Posting, Search, Volume};
+use lihambozy::{Matches, Plan, Posting, Search, Volume};
 use std::fmt::Debug;
 
 /// Compares one answer of the package.
@@ -50,6 +51,7 @@ pub fn package(case: &mut Case) {
             plan.truncate(plan.len() / 4 * 4);
             Subject::within(&volume, &plan, NAIVE_STEPS)
         }
+        21..=30 => Some(random_crowd(rng)),
         _ => Some(random_subject(rng)),
     };
     if let Some(subject) = subject {
@@ -102,12 +104,101 @@ fn ask(rng: &mut Rng, counts: &mut Counts, subject: &Subject) {
     let answer = volume.test(&plan, pattern, 1, &positions).map_err(pair);
     same(counts, "Volume::test", answer, expected);
 
+    all_matches(rng, counts, subject, &volume, &plan);
+
     let search = volume.search(&plan).map_err(pair);
     let refused = search.as_ref().map(|_| ()).map_err(|refused| *refused);
     same(counts, "Volume::search", refused, naive(subject, |_| Ok(())));
     if let Ok(search) = search {
         walk(rng, counts, subject, search);
     }
+}
+
+/// The matches of a pattern in a document, from zeros and from any tuple, or why they are refused.
+fn all_matches(
+    rng: &mut Rng,
+    counts: &mut Counts,
+    subject: &Subject,
+    volume: &Volume,
+    plan: &Plan,
+) {
+    let docs: Vec<u32> = subject.docs().into_iter().chain([7, 65_535]).collect();
+    let doc = if rng.below(12) == 0 { 65_536 } else { rng.pick(&docs) };
+    let patterns = subject.naive.as_ref().map_or(1, |searcher| searcher.patterns.len());
+    let one_more = usize::from(rng.below(8) == 0);
+    let pattern = rng.below(patterns + one_more) as u32;
+    let vars = subject.vars(pattern);
+    let is_there = subject.naive.is_ok() && (pattern as usize) < patterns && doc < 65_536;
+    let from = match is_there {
+        true if rng.below(8) > 0 => random_from(rng, subject, pattern, doc),
+        _ => vec![rng.pick(&[0, 7, 65_536]); rng.below(9)],
+    };
+    for from in [None, Some(&from)] {
+        let start = from.cloned().unwrap_or(vec![0; vars]);
+        let asked = match from {
+            None => volume.matches(plan, pattern, doc),
+            Some(from) => volume.matches_from(plan, pattern, doc, from),
+        };
+        let refused = asked.as_ref().map(|_| ()).map_err(|refusal| pair(*refusal));
+        let expected = naive(subject, |searcher| {
+            searcher.matches(pattern, doc, &start, &mut [0; 8]).map(|_| ())
+        });
+        let name = if from.is_none() { "Volume::matches" } else { "Volume::matches_from" };
+        same(counts, name, refused, expected);
+        if let Ok(matches) = asked {
+            walk_matches(rng, counts, matches, &start, &subject.passing(pattern, doc));
+        }
+    }
+}
+
+/// The tuples of matches are those of the naive searcher from the start on, whatever the length of
+/// their pages is and becomes.
+fn walk_matches(
+    rng: &mut Rng,
+    counts: &mut Counts,
+    mut matches: Matches,
+    from: &[u32],
+    passing: &[Vec<u32>],
+) {
+    let case = &counts.trial.case;
+    let left: Vec<&Vec<u32>> = passing.iter().filter(|tuple| !comes_before(tuple, from)).collect();
+    assert_eq!(matches.reached().as_deref(), Some(from), "{case}");
+    let seldom = rng.pick(&[1, 4, 20, 100]);
+    let page = |rng: &mut Rng| match rng.below(8) {
+        0 => rng.pick(&[1_024, 65_536, usize::MAX]),
+        1..=3 => rng.below(4),
+        _ => rng.below(70),
+    };
+    if rng.below(4) > 0 {
+        matches = matches.page_tuples(page(rng));
+    }
+    for (handed, &tuple) in left.iter().enumerate() {
+        if rng.below(seldom) == 0 {
+            matches = matches.page_tuples(page(rng));
+        }
+        if rng.below(seldom) == 0 {
+            matches = matches.clone();
+        }
+        let (least, most) = matches.size_hint();
+        let count = left.len() - handed;
+        assert!(
+            least <= count && most.is_none_or(|most| most == count),
+            "{case}: {least} {most:?}"
+        );
+        let answer = matches.next().unwrap_or_else(|| panic!("{case}: {tuple:?} is missing"));
+        assert_eq!(answer[..], tuple[..], "{case}");
+        let shown: String = tuple.iter().map(|pos| format!(" {pos}")).collect();
+        assert_eq!(answer.to_string(), format!("places{shown}"), "{case}");
+        let is_behind = |reached: lihambozy::Match| {
+            answer < reached && left[handed + 1..].iter().any(|tuple| tuple[..] == reached[..])
+        };
+        assert!(matches.reached().is_none_or(is_behind), "{case}");
+    }
+    assert!(matches.next().is_none(), "{case}: a tuple too many");
+    assert!(matches.next().is_none(), "{case}: a tuple behind the end");
+    assert_eq!((matches.size_hint(), matches.reached()), ((0, Some(0)), None), "{case}");
+    counts.searches.count("tuples of Matches", left.len());
+    counts.searches.count("Matches to their end", 1);
 }
 
 /// What the naive searcher answers, or why it refuses.

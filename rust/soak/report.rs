@@ -7,7 +7,7 @@ use std::time::Duration;
 /// The calls by their names in the header, with the numbers that each of them can tell; 0 stands
 /// for an answer that is no refusal. `lhz_pattern_rows` tells none: an empty part counts as the
 /// refusal that it stands for.
-const CALLS: [(&str, Call, &[u32]); 7] = [
+const CALLS: [(&str, Call, &[u32]); 8] = [
     ("check_volume", Call::Check, &[0, 1, 2, 3, 4, 5, 6, 7, 8]),
     ("read_list", Call::Read, &[0, 1, 2, 3, 4, 5, 6, 7, 8, 16, 17]),
     ("write_volume", Call::Write, &[0, 5, 7, 18, 19, 20]),
@@ -15,6 +15,7 @@ const CALLS: [(&str, Call, &[u32]); 7] = [
     ("pattern_rows", Call::Rows, &[0, 1, 2, 3, 4, 5, 6, 7, 8, 9, 10, 11, 12, 13, 14, 17]),
     ("test_positions", Call::Test, &[0, 1, 2, 3, 4, 5, 6, 7, 8, 9, 10, 11, 12, 13, 14, 17]),
     ("list", Call::List, &[0, 1, 2, 3, 4, 5, 6, 7, 8, 9, 10, 11, 12, 13, 14, 15, 16]),
+    ("list_matches", Call::Matches, &[0, 1, 2, 3, 4, 5, 6, 7, 8, 9, 10, 11, 12, 13, 14, 16, 17]),
 ];
 
 /// The counts of a run.
@@ -22,7 +23,8 @@ const CALLS: [(&str, Call, &[u32]); 7] = [
 pub struct Counts {
     /// The calls of the library.
     pub trial: Trial,
-    /// The searches, through these calls and through the package, and what they met.
+    /// The searches and enumerations, through these calls and through the package, and what they
+    /// met.
     pub searches: Met,
     /// The calls of the package.
     pub package: Met,
@@ -51,11 +53,13 @@ impl Counts {
     /// How far a run is, on one line.
     pub fn line(&self, elapsed: Duration) -> String {
         format!(
-            "{:5} s: {} cases, {} calls compared, {} rows listed, {} searches to done",
+            "{:5} s: {} cases, {} calls compared, {} rows and {} tuples listed, {} searches to \
+             done",
             elapsed.as_secs(),
             self.cases(),
             self.compared(),
             self.trial.listed,
+            self.trial.matched,
             self.searches.0.get("searches to done").copied().unwrap_or(0)
         )
     }
@@ -94,6 +98,7 @@ impl Counts {
         println!("{:16}{}", "all", all.concat());
 
         println!("\n{:10} rows listed and compared", self.trial.listed);
+        println!("{:10} tuples listed and compared", self.trial.matched);
         for Met(counts) in [&self.searches, &self.package] {
             counts.iter().for_each(|(what, times)| println!("{times:10} {what}"));
             println!();

@@ -1,8 +1,10 @@
-//! Searches through buffers of every sort, listing calls from any document, and positions to test.
+//! Searches through buffers of every sort, listing calls from any document, positions to test, and
+//! tuples listed through buffers of every sort and from any start.
 
 use crate::case::Case;
 use crate::plain::search::Searcher;
 use crate::report::Counts;
+use crate::support::matches::*;
 use crate::support::searches::*;
 use crate::support::Rng;
 
@@ -30,13 +32,29 @@ pub fn positions(case: &mut Case) {
     }
 }
 
-/// Listing calls and tests over a volume and a plan that may be refused, and a search where they
-/// are not.
+/// Three enumerations over one volume and plan, and calls that are part of none.
+pub fn matches(case: &mut Case) {
+    let Case { rng, counts } = case;
+    let subject = match rng.below(3) {
+        0 => random_subject(rng),
+        _ => random_crowd(rng),
+    };
+    counts.trial.case += &format!(", {:?}", subject.plan());
+    for _ in 0..3 {
+        random_enumeration(rng, &mut counts.trial, &mut counts.searches, &subject);
+    }
+    other_matches(rng, &mut counts.trial, &subject, 6);
+}
+
+/// Listing calls, calls that list matches and tests over a volume and a plan that may be refused,
+/// and a search and an enumeration where they are not.
 pub fn any_calls(rng: &mut Rng, counts: &mut Counts, subject: &Subject) {
     if subject.naive.is_ok() {
         random_search(rng, &mut counts.trial, &mut counts.searches, subject);
+        random_enumeration(rng, &mut counts.trial, &mut counts.searches, subject);
     }
     other_starts(rng, &mut counts.trial, subject, 2);
+    other_matches(rng, &mut counts.trial, subject, 2);
     for _ in 0..2 {
         any_test(rng, counts, subject);
     }

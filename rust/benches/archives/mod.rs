@@ -284,3 +284,82 @@ pub fn endless_plans() -> [Plan; 5] {
         plan("APART", behind.chain(in_front).chain([before(1, 0)]).collect()),
     ]
 }
+
+/// The document of `few_matches` and of `all_match`.
+pub const CROWDED: u32 = 20_000;
+
+/// One document in which each of eight lists has a position in every stretch of sixteen: list i has
+/// the i-th of the stretch, but list 8 has one further on, so that the eight do not stand side by
+/// side. In the last stretches they do. A title starts with each stretch, and another at the
+/// position of list 8 where it is further on.
+pub fn few_matches(stretches: u32, matches: u32) -> Lists {
+    let first = |stretch: u32| (CROWDED << 16) + 16 * stretch;
+    let is_match = |stretch: u32| stretch >= stretches - matches;
+    let starts = |stretch: u32| {
+        let second = (!is_match(stretch)).then_some(first(stretch) + 8);
+        [first(stretch)].into_iter().chain(second)
+    };
+    let last = |stretch: u32| first(stretch) + if is_match(stretch) { 7 } else { 8 };
+    let mut lists = vec![(0..stretches).flat_map(starts).collect()];
+    lists.extend((0..7).map(|i| (0..stretches).map(|stretch| first(stretch) + i).collect()));
+    lists.push((0..stretches).map(last).collect());
+    Lists::new(&lists)
+}
+
+/// Plans over `few_matches`, each with the tuples that pass where the eight stand side by side in
+/// eight stretches. For all plans but the last they are the eight of a stretch. For the last,
+/// variables 0 to 6 stand in different stretches, variable 0 in the last of them, and variable 7
+/// beside variable 6. There each variable but the last two leaves the ones behind it to be looked
+/// for from the front of the document.
+pub fn few_plans(stretches: u32) -> [(Plan, Vec<[u32; 8]>); 6] {
+    let at = |stretch: u32, var: u32| 16 * (stretches - 8 + stretch) + var;
+    let side_by_side: Vec<[u32; 8]> =
+        (0..8).map(|stretch| std::array::from_fn(|var| at(stretch, var as u32))).collect();
+    // All stretches but one, the last first.
+    let but_one = |out: u32| -> [u32; 8] {
+        let mut left = (0..8).rev().filter(|&stretch| stretch != out);
+        let mut tuple: [u32; 8] =
+            std::array::from_fn(|var| left.next().map_or(0, |stretch| at(stretch, var as u32)));
+        tuple[7] = tuple[6] + 1;
+        tuple
+    };
+    let falling: Vec<[u32; 8]> = (0..8).rev().map(but_one).collect();
+    let of = |name, predicates: Vec<Row>| Plan {
+        name,
+        rows: pattern(&[1, 2, 3, 4, 5, 6, 7, 8], &predicates),
+    };
+    let plan = |name, predicates: Vec<Row>| (of(name, predicates), side_by_side.clone());
+    let back = (0..6).map(|var| before(var + 1, var)).chain([apart(6, 7, 0, 0)]);
+    [
+        plan("NEAR", (0..7).map(|var| near(var, var + 1, 0)).collect()),
+        plan("SPAN", vec![span(8)]),
+        plan("BEFORE and SPAN", (0..7).map(|var| before(var, var + 1)).chain([span(8)]).collect()),
+        plan("SAME TITLE", (1..8).map(|var| same_title(0, var)).collect()),
+        plan("APART", (0..7).map(|var| apart(var, var + 1, 0, 0)).collect()),
+        (of("BEFORE and APART", back.collect()), falling),
+    ]
+}
+
+/// One document in which each of eight lists has so many positions, sixteen apart.
+pub fn all_match(positions: u32) -> Lists {
+    let list: Vec<u32> = (0..positions).map(|i| (CROWDED << 16) + 16 * i).collect();
+    let mut lists = vec![vec![CROWDED << 16]];
+    lists.resize(9, list);
+    Lists::new(&lists)
+}
+
+/// Plans over `all_match` for which all tuples pass.
+pub fn all_plans() -> [Plan; 4] {
+    let lists = [1, 2, 3, 4, 5, 6, 7, 8];
+    let plan =
+        |name, lists: &[u32], predicates: &[Row]| Plan { name, rows: pattern(lists, predicates) };
+    let met = [near(0, 1, 65_535), span(65_536)];
+    let ties: Vec<Row> =
+        (1..8).map(|var| near(0, var, 65_535)).chain([same_title(0, 7), span(65_536)]).collect();
+    [
+        plan("two variables", &lists[..2], &[]),
+        plan("two variables, predicates that all meet", &lists[..2], &met),
+        plan("eight variables", &lists, &[]),
+        plan("eight variables, predicates that all meet", &lists, &ties),
+    ]
+}

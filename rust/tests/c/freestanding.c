@@ -18,5 +18,6 @@ int main(void) {
     static const uint32_t plan[1];
     static const uint8_t volume[1];
     static uint32_t out[1];
-    return (int)lhz_list(volume, 0, plan, 0, 0, out, 0).refusal;
+    return (int)(lhz_list(volume, 0, plan, 0, 0, out, 0).refusal +
+                 lhz_list_matches(volume, 0, plan, 0, 0, 0, plan, 0, out, 0).refusal);
 }

@@ -9,6 +9,8 @@
 #define CHECK lhz_check_volume(volume, sizeof volume)
 #define PLAN lhz_check_plan(volume, sizeof volume, plan, plan_len)
 #define LIST(start, room) lhz_list(volume, sizeof volume, plan, plan_len, start, out, room)
+#define MATCHES(doc, room) \
+    lhz_list_matches(volume, sizeof volume, plan, plan_len, 0, doc, out, LHZ_MAX_VARS, tuple, room)
 #define READ(list, room) lhz_read_list(volume, sizeof volume, list, out, room)
 #define WRITE(lists, sum, room) lhz_write_volume(counts, lists, postings, sum, written, room)
 
@@ -17,6 +19,7 @@ static uint32_t counts[2] = {0, 130};
 static uint32_t postings[LHZ_MAX_WORDS];
 static uint8_t volume[2 * LHZ_BLOCK_BYTES], written[2 * LHZ_BLOCK_BYTES];
 static uint32_t plan[LHZ_MAX_PLAN_WORDS + LHZ_ROW_WORDS], out[LHZ_MAX_ROW_WORDS];
+static uint32_t tuple[LHZ_MAX_VARS];
 static size_t plan_len;
 
 static void show(const char *name, unsigned number, uint32_t refusal, uint32_t at) {
@@ -121,6 +124,10 @@ int main(void) {
     out[LHZ_MAX_VARS - 1] = LHZ_LAST_POS + 1;
     SHOW(LHZ_REFUSED_OUT_OF_RANGE, lhz_test_positions(volume, sizeof volume, plan, plan_len, 0,
                                                       LHZ_LAST_DOC, out, LHZ_MAX_VARS));
+    SHOW(LHZ_REFUSED_OUT_OF_RANGE, MATCHES(LHZ_LAST_DOC, LHZ_MAX_VARS));
+    out[LHZ_MAX_VARS - 1] = LHZ_LAST_POS;
+    SHOW(LHZ_REFUSED_OUT_OF_RANGE, MATCHES(LHZ_LAST_DOC + 1, LHZ_MAX_VARS - 1));
+    SHOW(LHZ_REFUSED_SHORT_BUFFER, MATCHES(LHZ_LAST_DOC, LHZ_MAX_VARS - 1));
 
     SHOW(LHZ_REFUSED_COUNT_SUM, WRITE(2, 129, sizeof written));
     counts[0] = LHZ_MAX_WORDS - 4 - counts[1];

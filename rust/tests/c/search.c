@@ -1,7 +1,7 @@
 /* Searches through the C interface, over the sample volume of document 01: each answer, field by
- * field, and each row. Volume, plan, positions and buffer are lent out of the middle of other bytes
- * and words; all but the buffer are compared after each call with how they were, and the words
- * before and behind the rows with 7. */
+ * field, each row, and each tuple that passes. Volume, plan, positions and buffer are lent out of
+ * the middle of other bytes and words; all but the buffer are compared after each call with how
+ * they were, and the words before and behind the rows and tuples with 7. */
 #include "lihambozy.h"
 
 #include <stdio.h>
@@ -73,6 +73,53 @@ static lhz_list_answer show_list(uint32_t start, size_t room) {
     return answer;
 }
 
+/* Lists matches from the positions, so many of them, into so many words: the answer with all words
+ * of `next`, and the tuples written. */
+static lhz_list_matches_answer show_matches(uint32_t pattern, uint32_t doc, size_t count,
+                                            size_t room) {
+    uint32_t memory[SIDE + ROOM + SIDE];
+    uint32_t *out = memory + SIDE;
+    size_t words, touched = 0, i;
+    memset(memory, 7, sizeof memory);
+    kept = lent;
+    lhz_list_matches_answer answer = lhz_list_matches(
+        volume, LHZ_BLOCK_BYTES, plan, plan_len, pattern, doc, positions, count, out, room);
+    printf("matches %u %u %llu %u,", (unsigned)answer.refusal, (unsigned)answer.at,
+           (unsigned long long)answer.count, (unsigned)answer.more);
+    for (i = 0; i < LHZ_MAX_VARS; i++) printf(" %u", (unsigned)answer.next[i]);
+    words = (size_t)answer.count * count;
+    for (i = 0; i < words; i++) printf("%s%u", i % count ? " " : ": ", (unsigned)out[i]);
+    for (i = 0; i < SIDE; i++) touched += memory[i] != SEVENS;
+    for (i = SIDE + words; i < SIDE + ROOM + SIDE; i++) touched += memory[i] != SEVENS;
+    if (touched) printf(" %u touched", (unsigned)touched);
+    show_kept();
+    return answer;
+}
+
+/* All tuples of a pattern in a document through buffers of one length, from zeros: how many. The
+ * loop is that of the header. No enumeration here has more than five calls. */
+static void enumerate(uint32_t pattern, uint32_t doc, size_t vars, size_t room) {
+    lhz_list_matches_answer answer;
+    uint64_t tuples = 0;
+    int calls = 0;
+    printf("all of %u in %u, %u words\n", (unsigned)pattern, (unsigned)doc, (unsigned)room);
+    memset(positions, 0, LHZ_MAX_VARS * sizeof *positions);
+    do {
+        answer = show_matches(pattern, doc, vars, room);
+        if (answer.refusal != 0) return;
+        tuples += answer.count;
+        memcpy(positions, answer.next, sizeof answer.next);
+    } while (answer.more && ++calls < 5);
+    printf("%s %llu\n", answer.more ? "more" : "done", (unsigned long long)tuples);
+}
+
+static void show_matches_from(uint32_t pattern, uint32_t doc, uint32_t p, uint32_t q, size_t count,
+                              size_t room) {
+    positions[0] = p;
+    positions[1] = q;
+    show_matches(pattern, doc, count, room);
+}
+
 /* A search to DONE through buffers of one length: how many rows, and the sum of the tallies. No
  * search here has more than three calls. */
 static void search(const char *name, size_t room) {
@@ -101,10 +148,17 @@ int main(void) {
            (unsigned)offsetof(lhz_list_answer, refusal), (unsigned)offsetof(lhz_list_answer, at),
            (unsigned)offsetof(lhz_list_answer, rows), (unsigned)offsetof(lhz_list_answer, tally),
            (unsigned)offsetof(lhz_list_answer, next));
+    printf("matches answer %u: %u %u %u %u %u\n", (unsigned)sizeof(lhz_list_matches_answer),
+           (unsigned)offsetof(lhz_list_matches_answer, refusal),
+           (unsigned)offsetof(lhz_list_matches_answer, at),
+           (unsigned)offsetof(lhz_list_matches_answer, count),
+           (unsigned)offsetof(lhz_list_matches_answer, more),
+           (unsigned)offsetof(lhz_list_matches_answer, next));
     printf("DONE %d\n", LHZ_DONE);
 
     show_list(0, ROOM);
     show_test(0, 1, 2, 5, 2);
+    show_matches_from(0, 1, 0, 0, 2, ROOM);
     add(LHZ_VOICE, 1, 0, 0);
     add(LHZ_VOICE, 2, 0, 0);
     add(LHZ_BEFORE, 0, 1, 0);
@@ -130,6 +184,18 @@ int main(void) {
     show_test(0, 1, 2, 5, 1);
     show_test(0, 1, 2, 65541, 2);
 
+    enumerate(0, 1, 2, 2);
+    show_matches_from(0, 1, 2, 5, 2, ROOM);
+    show_matches_from(0, 1, 2, 6, 2, ROOM);
+    show_matches_from(0, 2, 0, 0, 2, ROOM);
+    show_matches_from(1, 1, 0, 0, 2, ROOM);
+    show_matches_from(0, 65536, 0, 0, 2, ROOM);
+    show_matches_from(0, 1, 0, 0, 1, ROOM);
+    show_matches_from(0, 1, 0, 0, 3, 1);
+    show_matches_from(0, 1, 0, 65536, 2, 1);
+    show_matches_from(0, 1, 0, 0, 2, 1);
+    show_matches_from(0, 65535, 65535, 65535, 2, 0);
+
     /* The fourth row as SAME TITLE 0 0, and as BEFORE 0 1, like the third. */
     plan[14] = 0;
     search("SAME TITLE 0 0", width());
@@ -151,6 +217,11 @@ int main(void) {
     plan[plan_len - 4] = LHZ_EITHER;
     search("EITHER", width());
     show_test(1, 1, 7, 8, 2);
+    enumerate(0, 1, 2, 2);
+    enumerate(0, 1, 2, 5);
+    enumerate(1, 1, 2, 2);
+    enumerate(1, 2, 2, 2);
+    show_matches_from(2, 1, 0, 0, 2, ROOM);
     plan[plan_len - 4] = LHZ_APART + 1;
     show_list(65536, 0);
 
@@ -170,8 +241,29 @@ int main(void) {
     plan[11] = LHZ_APART_LIMITS(4, 3);
     show_list(0, ROOM);
 
+    show_matches_from(9, 65536, 0, 0, 0, 0);
+
+    /* All tuples of one variable, of two and of eight. */
+    plan_len = 0;
+    add(LHZ_VOICE, 2, 0, 0);
+    add(LHZ_END, 0, 0, 0);
+    enumerate(0, 1, 1, 1);
+    plan_len -= LHZ_ROW_WORDS;
+    add(LHZ_VOICE, 1, 0, 0);
+    add(LHZ_END, 0, 0, 0);
+    enumerate(0, 1, 2, 3);
+    enumerate(0, 1, 2, 8);
+    plan_len -= LHZ_ROW_WORDS;
+    while (plan_len < LHZ_MAX_VARS * LHZ_ROW_WORDS) add(LHZ_VOICE, 1, 0, 0);
+    add(LHZ_END, 0, 0, 0);
+    enumerate(0, 2, LHZ_MAX_VARS, LHZ_MAX_VARS);
+    for (size_t i = 0; i < LHZ_MAX_VARS; i++) positions[i] = i < 6 ? 7 : 2;
+    show_matches(0, 1, LHZ_MAX_VARS, 2 * LHZ_MAX_VARS - 1);
+    show_matches(0, 1, LHZ_MAX_VARS, LHZ_MAX_VARS - 1);
+
     volume[LHZ_BLOCK_BYTES - 1] ^= 1;
     show_list(65536, 0);
     show_test(9, 65536, 2, 5, 0);
+    show_matches_from(9, 65536, 2, 65536, 0, 0);
     return 0;
 }

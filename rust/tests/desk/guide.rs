@@ -9,7 +9,7 @@ use crate::support::files::{bytes, files, names, repository, text, Folder};
 use std::fs;
 
 /// The commands of `lhz`.
-const COMMANDS: [&str; 7] = ["check", "list", "read", "test", "write", "plan", "show"];
+const COMMANDS: [&str; 8] = ["check", "list", "matches", "read", "test", "write", "plan", "show"];
 /// What the guide's commands that are not run start with.
 const NOT_RUN: [&str; 5] = ["make", "export", "cp", "cd", "cc"];
 /// The plans of the archive.

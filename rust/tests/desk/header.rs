@@ -83,9 +83,11 @@ fn searches() {
     let expected = "\
 test answer 12: 0 4 8
 list answer 20: 0 4 8 12 16
+matches answer 56: 0 4 8 16 20
 DONE 65536
 list 9 0 0 0 0
 test 9 0 0
+matches 9 0 0 0, 0 0 0 0 0 0 0 0
 list 14 0 0 0 0
 sample, 4 words
 list 0 0 1 6 65536: 1 1 2 5
@@ -111,6 +113,19 @@ test 17 0 0
 test 17 0 0
 test 17 0 0
 test 17 0 0
+all of 0 in 1, 2 words
+matches 0 0 1 0, 0 0 0 0 0 0 0 0: 2 5
+done 1
+matches 0 0 1 0, 0 0 0 0 0 0 0 0: 2 5
+matches 0 0 0 0, 0 0 0 0 0 0 0 0
+matches 0 0 0 0, 0 0 0 0 0 0 0 0
+matches 17 0 0 0, 0 0 0 0 0 0 0 0
+matches 17 0 0 0, 0 0 0 0 0 0 0 0
+matches 17 0 0 0, 0 0 0 0 0 0 0 0
+matches 17 0 0 0, 0 0 0 0 0 0 0 0
+matches 17 0 0 0, 0 0 0 0 0 0 0 0
+matches 16 0 0 0, 0 0 0 0 0 0 0 0
+matches 16 0 0 0, 0 0 0 0 0 0 0 0
 SAME TITLE 0 0, 4 words
 list 0 0 1 6 65536: 1 1 2 5
 done 1 6
@@ -133,6 +148,20 @@ list 0 0 1 8 2: 1 1 2 5 1 7 8
 list 0 0 1 4 65536: 2 1 4 9 0 0 0
 done 2 12
 test 0 0 1
+all of 0 in 1, 2 words
+matches 0 0 1 1, 2 7 0 0 0 0 0 0: 2 5
+matches 0 0 1 0, 0 0 0 0 0 0 0 0: 2 7
+done 2
+all of 0 in 1, 5 words
+matches 0 0 2 0, 0 0 0 0 0 0 0 0: 2 5: 2 7
+done 2
+all of 1 in 1, 2 words
+matches 0 0 1 0, 0 0 0 0 0 0 0 0: 7 8
+done 1
+all of 1 in 2, 2 words
+matches 0 0 0 0, 0 0 0 0 0 0 0 0
+done 0
+matches 17 0 0 0, 0 0 0 0 0 0 0 0
 list 10 9 0 0 0
 APART 2 4, 8 words
 list 0 0 2 6 65536: 1 1 2 5: 2 1 4 9
@@ -147,8 +176,28 @@ APART 4 and no upper end, 8 words
 list 0 0 2 6 65536: 1 1 2 7: 2 1 4 9
 done 2 6
 list 10 2 0 0 0
+matches 10 2 0 0, 0 0 0 0 0 0 0 0
+all of 0 in 1, 1 words
+matches 0 0 1 1, 7 0 0 0 0 0 0 0: 5
+matches 0 0 1 0, 0 0 0 0 0 0 0 0: 7
+done 2
+all of 0 in 1, 3 words
+matches 0 0 1 1, 5 8 0 0 0 0 0 0: 5 2
+matches 0 0 1 1, 7 2 0 0 0 0 0 0: 5 8
+matches 0 0 1 1, 7 8 0 0 0 0 0 0: 7 2
+matches 0 0 1 0, 0 0 0 0 0 0 0 0: 7 8
+done 4
+all of 0 in 1, 8 words
+matches 0 0 4 0, 0 0 0 0 0 0 0 0: 5 2: 5 8: 7 2: 7 8
+done 4
+all of 0 in 2, 8 words
+matches 0 0 1 0, 0 0 0 0 0 0 0 0: 9 4 4 4 4 4 4 4
+done 1
+matches 0 0 1 1, 7 8 2 2 2 2 2 8: 7 8 2 2 2 2 2 2
+matches 16 0 0 0, 0 0 0 0 0 0 0 0
 list 3 0 0 0 0
 test 3 0 0
+matches 3 0 0 0, 0 0 0 0 0 0 0 0
 ";
     assert_eq!(printed("search"), expected);
 }
@@ -180,6 +229,9 @@ LHZ_REFUSED_SHORT_BUFFER 16: 16 0
 LHZ_REFUSED_SHORT_BUFFER 16: 16 0
 LHZ_REFUSED_OUT_OF_RANGE 17: 17 0
 LHZ_REFUSED_OUT_OF_RANGE 17: 17 0
+LHZ_REFUSED_OUT_OF_RANGE 17: 17 0
+LHZ_REFUSED_OUT_OF_RANGE 17: 17 0
+LHZ_REFUSED_SHORT_BUFFER 16: 16 0
 LHZ_REFUSED_COUNT_SUM 18: 18 0
 LHZ_REFUSED_SHORT_OUTPUT 20: 20 0
 LHZ_REFUSED_TOO_LARGE 19: 19 0

@@ -14,6 +14,14 @@ fn answers_on_the_sample() {
         ("check titles.vol", "lists 3 postings 8\n"),
         ("check titles.vol sample.plan", "lists 3 postings 8\nfigures 1 voices 2\n"),
         ("list titles.vol sample.plan", SAMPLE_LISTING),
+        ("matches titles.vol sample.plan 0 1", "places 2 5\ndone 1\n"),
+        ("matches titles.vol sample.plan 0 1 0 0", "places 2 5\ndone 1\n"),
+        ("matches titles.vol sample.plan 0 1 2 5", "places 2 5\ndone 1\n"),
+        ("matches titles.vol sample.plan 0 1 2 6", "done 0\n"),
+        ("matches titles.vol sample.plan 0 1 65535 65535", "done 0\n"),
+        ("matches titles.vol sample.plan 0 0", "done 0\n"),
+        ("matches titles.vol sample.plan 0 2", "done 0\n"),
+        ("matches titles.vol sample.plan 0 65535", "done 0\n"),
         ("read titles.vol", SAMPLE_LISTS),
         ("read titles.vol 0", "1:0 1:6\n"),
         ("read titles.vol 1", "1:2 1:8 2:4\n"),
@@ -56,6 +64,8 @@ fn standard_input_and_output() {
         ("read - 1", &volume, b"1:2 1:8 2:4\n"),
         ("test - sample.plan 0 1 2 5", &volume, b"yes\n"),
         ("test titles.vol - 0 1 2 5", &plan, b"yes\n"),
+        ("matches - sample.plan 0 1", &volume, b"places 2 5\ndone 1\n"),
+        ("matches titles.vol - 0 1 2 6", &plan, b"done 0\n"),
         ("write lists.txt -", b"", &volume),
         ("write - -", lists, &volume),
         ("plan sample.txt -", b"", &plan),
@@ -82,7 +92,7 @@ fn standard_input_and_output() {
 #[test]
 fn standard_input_twice() {
     let folder = Folder::with_sample();
-    for line in ["check - -", "list - -", "test - - 0 1 2 5", "show - - 0"] {
+    for line in ["check - -", "list - -", "test - - 0 1 2 5", "matches - - 0 1", "show - - 0"] {
         let sentence = folder.lhz_given(line, &sample().volume()).failure(2, "").to_string();
         assert!(sentence.contains("standard input"), "lhz {line}: {sentence}");
     }
@@ -178,6 +188,11 @@ fn a_plan_of_two_figures() {
         ("test titles.vol two.plan 0 1 8 7", "no\n"),
         ("test titles.vol two.plan 1 1 7 8 2", "yes\n"),
         ("test titles.vol two.plan 1 1 7 2 8", "no\n"),
+        ("matches titles.vol two.plan 0 1", "places 2 5\nplaces 2 7\ndone 2\n"),
+        ("matches titles.vol two.plan 0 1 2 6", "places 2 7\ndone 1\n"),
+        ("matches titles.vol two.plan 1 1", "places 7 8 2\nplaces 7 8 8\ndone 2\n"),
+        ("matches titles.vol two.plan 1 1 7 8 3", "places 7 8 8\ndone 1\n"),
+        ("matches titles.vol two.plan 1 2", "done 0\n"),
     ] {
         assert_eq!(folder.lhz(line).told(), (0, stdout, ""), "lhz {line}");
     }

@@ -32,6 +32,10 @@ fn arguments_that_are_not_taken() {
         "list",
         "list titles.vol",
         "list titles.vol sample.plan 0",
+        "matches",
+        "matches titles.vol",
+        "matches titles.vol sample.plan",
+        "matches titles.vol sample.plan 0",
         "read",
         "read titles.vol 0 1",
         "test",
@@ -53,6 +57,8 @@ fn arguments_that_are_not_taken() {
         "list --start titles.vol sample.plan",
         "read titles.vol --list=1",
         "test titles.vol sample.plan 0 1 2 -5",
+        "matches titles.vol sample.plan 0 1 -2 5",
+        "matches --all titles.vol sample.plan 0 1",
         "write -f lists.txt new.vol",
         "check --version",
         "list ---",
@@ -77,6 +83,10 @@ fn what_is_wrong_is_named() {
         ("test titles.vol sample.plan x 1 2 5", "FIGURE `x`"),
         ("test titles.vol sample.plan 0 1: 2 5", "SCENE `1:`"),
         ("test titles.vol sample.plan 0 1 2 5,", "PLACE `5,`"),
+        ("matches titles.vol sample.plan 0", "lhz matches VOLUME PLAN FIGURE SCENE [PLACE..]"),
+        ("matches titles.vol sample.plan x 1", "FIGURE `x`"),
+        ("matches titles.vol sample.plan 0 1:", "SCENE `1:`"),
+        ("matches titles.vol sample.plan 0 1 2 5,", "PLACE `5,`"),
         ("show titles.vol sample.plan first", "FIGURE `first`"),
     ] {
         let sentence = folder.lhz(line).failure(2, "").to_string();
@@ -101,6 +111,10 @@ fn numbers_that_are_none() {
                 &[b"test", volume, b"sample.plan", b"0", number, b"2", b"5"],
                 &[b"test", volume, b"sample.plan", b"0", b"1", number, b"5"],
                 &[b"test", volume, b"sample.plan", b"0", b"1", b"2", number],
+                &[b"matches", volume, b"sample.plan", number, b"1"],
+                &[b"matches", volume, b"sample.plan", b"0", number],
+                &[b"matches", volume, b"sample.plan", b"0", b"1", number, b"5"],
+                &[b"matches", volume, b"sample.plan", b"0", b"1", b"2", number],
             ] {
                 let ended = lhz(&folder, arguments);
                 let sentence = ended.failure(2, "");
@@ -122,6 +136,8 @@ fn numbers_of_every_length() {
         (format!("read titles.vol {zeros}1"), "1:2 1:8 2:4\n"),
         (format!("test titles.vol sample.plan {zeros} 01 002 {zeros}5"), "yes\n"),
         (format!("show titles.vol sample.plan {zeros}"), SAMPLE_PLAN),
+        (format!("matches titles.vol sample.plan {zeros} 01"), "places 2 5\ndone 1\n"),
+        (format!("matches titles.vol sample.plan 0 1 002 {zeros}5"), "places 2 5\ndone 1\n"),
     ] {
         assert_eq!(folder.lhz(&line).answer(), stdout, "lhz {line}");
     }
@@ -136,6 +152,11 @@ fn numbers_of_every_length() {
             format!("test titles.vol sample.plan 0 {number} 2 5"),
             format!("test titles.vol sample.plan 0 1 {number} 5"),
             format!("test titles.vol sample.plan 0 1 2 {number}"),
+            format!("matches titles.vol sample.plan {number} 1"),
+            format!("matches titles.vol sample.plan 0 {number}"),
+            format!("matches titles.vol sample.plan 0 {number} 2 5"),
+            format!("matches titles.vol sample.plan 0 1 {number} 5"),
+            format!("matches titles.vol sample.plan 0 1 2 {number}"),
         ] {
             let sentence = folder.lhz(&line).failure(1, "refused 17 0\n").to_string();
             let told = sentence.split(|sign: char| !sign.is_ascii_digit());
@@ -156,6 +177,7 @@ fn names_behind_two_hyphens() {
         ("check -- --", "lists 3 postings 8\n"),
         ("list -- -x --help", SAMPLE_LISTING),
         ("list titles.vol -- --help", SAMPLE_LISTING),
+        ("matches -- -x --help 0 1", "places 2 5\ndone 1\n"),
         ("read -- -x 0", "1:0 1:6\n"),
         ("read titles.vol --", SAMPLE_LISTS),
         ("show -- --help", SAMPLE_PLAN),

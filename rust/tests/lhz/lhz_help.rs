@@ -5,12 +5,13 @@ use crate::support::files::plan_bytes;
 use crate::support::plans::*;
 use crate::support::*;
 
-const COMMANDS: [&str; 7] = ["check", "list", "read", "test", "write", "plan", "show"];
+const COMMANDS: [&str; 8] = ["check", "list", "matches", "read", "test", "write", "plan", "show"];
 
 /// How each command is used.
-const USES: [&str; 8] = [
+const USES: [&str; 9] = [
     "lhz check VOLUME [PLAN]",
     "lhz list VOLUME PLAN",
+    "lhz matches VOLUME PLAN FIGURE SCENE [PLACE..]",
     "lhz read VOLUME [LIST]",
     "lhz test VOLUME PLAN FIGURE SCENE PLACE..",
     "lhz write TEXT VOLUME",
@@ -47,6 +48,7 @@ fn examples(page: &str) -> Vec<Example> {
 fn pages() {
     let folder = Folder::new();
     let all = folder.lhz("--help").answer().to_string();
+    assert!(all.lines().all(|line| line.len() <= 80), "{all}");
     for line in ["-h", "help"] {
         assert_eq!(folder.lhz(line).answer(), all, "lhz {line}");
     }

@@ -11,8 +11,15 @@ use crate::support::*;
 /// The commands that read a volume alone, and those that read a plan too, with what they are asked
 /// of the sample. All of them answer where nothing is refused.
 const OF_VOLUME: [&str; 3] = ["check V", "read V", "read V 1"];
-const OF_BOTH: [&str; 5] =
-    ["check V P", "list V P", "test V P 0 1 2 5", "test V P 0 70000 2 5", "show V P 0"];
+const OF_BOTH: [&str; 7] = [
+    "check V P",
+    "list V P",
+    "test V P 0 1 2 5",
+    "test V P 0 70000 2 5",
+    "matches V P 0 1",
+    "matches V P 0 70000 2 5",
+    "show V P 0",
+];
 
 /// Each of the commands over these files refuses so, and says it of one of them: the sentences.
 #[track_caller]
@@ -100,7 +107,7 @@ fn of_a_plan() {
     for (row, (plan, refused)) in lengths.chain(others).enumerate() {
         folder.write("bad.plan", &plan);
         let files = ("titles.vol", "bad.plan");
-        let asked = [&OF_BOTH[..], &["test V P 9 1", "show V P 9"]].concat();
+        let asked = [&OF_BOTH[..], &["test V P 9 1", "matches V P 9 1", "show V P 9"]].concat();
         let sentences = refuses(&folder, &asked, files, refused, "bad.plan");
         let mut words = vec![words_of(refused)];
         if refused.0 == 9 {
@@ -163,6 +170,11 @@ fn of_a_number() {
             ["voices of figure 0 is 2", "places", "is 0"],
         ),
         (
+            "test titles.vol sample.plan 0 65536",
+            "sample.plan",
+            ["voices of figure 0 is 2", "places", "is 0"],
+        ),
+        (
             "test titles.vol sample.plan 0 1 2",
             "sample.plan",
             ["voices of figure 0 is 2", "places", "is 1"],
@@ -191,6 +203,42 @@ fn of_a_number() {
             "test titles.vol sample.plan 0 1 2 99999",
             "sample.plan",
             ["99999 is over 65535", "scene", "place"],
+        ),
+        (
+            "matches titles.vol sample.plan 1 1",
+            "sample.plan",
+            ["no figure 1;", "only figure", "figure 0"],
+        ),
+        ("matches titles.vol two.plan 2 1 2", "two.plan", ["no figure 2;", "figures", "0 to 1"]),
+        (
+            "matches titles.vol sample.plan 0 1 2",
+            "sample.plan",
+            ["voices of figure 0 is 2", "places", "is 1"],
+        ),
+        (
+            "matches titles.vol sample.plan 0 1 2 5 7",
+            "sample.plan",
+            ["voices of figure 0 is 2", "places", "is 3"],
+        ),
+        (
+            "matches titles.vol two.plan 0 1 2 5",
+            "two.plan",
+            ["voices of figure 0 is 1", "places", "is 2"],
+        ),
+        (
+            "matches titles.vol sample.plan 0 65536",
+            "sample.plan",
+            ["65536 is over 65535", "scene", "place"],
+        ),
+        (
+            "matches titles.vol sample.plan 0 65536 2 5",
+            "sample.plan",
+            ["65536 is over 65535", "scene", "place"],
+        ),
+        (
+            "matches titles.vol sample.plan 0 1 2 65536",
+            "sample.plan",
+            ["65536 is over 65535", "scene", "place"],
         ),
     ] {
         for sentence in refuses(&folder, &[line], ("", ""), (17, 0), file) {

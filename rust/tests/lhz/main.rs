@@ -10,6 +10,7 @@ mod lhz_arguments;
 mod lhz_files;
 mod lhz_help;
 mod lhz_listing;
+mod lhz_matches;
 mod lhz_output;
 mod lhz_plan;
 mod lhz_refusals;

@@ -1,7 +1,8 @@
-//! A naive searcher, straight from document 01 ("Plan" and "Calls") and from requests N2 (APART)
-//! and N3 (SAME TITLE before the first title) of document 02. It shares nothing with the library or
-//! its wrappers: in each document it tries every choice of positions and keeps those that pass; it
-//! settles all documents before the first call, and reads each answer off their rows.
+//! A naive searcher, straight from document 01 ("Plan" and "Calls") and from requests N2 (APART),
+//! N3 (SAME TITLE before the first title) and N4 (all the places in a scene) of document 02. It
+//! shares nothing with the library or its wrappers: in each document it tries every choice of
+//! positions and keeps those that pass; it settles all documents before the first call, and reads
+//! each answer off their rows.
 
 use super::plan::{self, Row};
 use super::{lists, Refused};
@@ -33,6 +34,15 @@ pub struct Listed {
     pub tally: u32,
     /// MORE and the document, or DONE.
     pub more: Option<u32>,
+}
+
+/// What a call that lists matches answers.
+#[derive(Clone, Debug, PartialEq, Eq)]
+pub struct Matched {
+    /// The choices written.
+    pub count: u64,
+    /// MORE and the choice, or DONE.
+    pub more: Option<Vec<u32>>,
 }
 
 /// How many postings of a list are in documents from `from` up to `to`, which is not counted.
@@ -84,6 +94,11 @@ fn all_hold(pattern: &Pattern, starts: &[u32], choice: &[u32]) -> bool {
     pattern.predicates.iter().all(|&predicate| holds(predicate, starts, choice))
 }
 
+/// Whether one choice comes before another: it has the smaller position where they first differ.
+pub fn comes_before(one: &[u32], other: &[u32]) -> bool {
+    one.iter().zip(other).find(|(p, q)| p != q).is_some_and(|(p, q)| p < q)
+}
+
 /// The smallest position of each variable among the choices. It is one of them.
 pub fn least(choices: &[Vec<u32>]) -> Option<Vec<u32>> {
     let vars = 0..choices.first()?.len();
@@ -132,12 +147,19 @@ impl Searcher {
         pattern.lists.iter().map(|&list| self.positions(list, doc)).collect()
     }
 
-    /// The earliest positions of a pattern in a document, if it is found there.
-    pub fn earliest(&self, pattern: &Pattern, doc: u32) -> Option<Vec<u32>> {
+    /// Every choice that passes for a pattern in a document: smallest first position first, then
+    /// second, and so on.
+    pub fn passing(&self, pattern: &Pattern, doc: u32) -> Vec<Vec<u32>> {
         let starts = self.positions(0, doc);
         let mut passing = choices(&self.of_vars(pattern, doc));
         passing.retain(|choice| all_hold(pattern, &starts, choice));
-        least(&passing)
+        assert!(passing.windows(2).all(|pair| comes_before(&pair[0], &pair[1])), "{passing:?}");
+        passing
+    }
+
+    /// The earliest positions of a pattern in a document, if it is found there.
+    pub fn earliest(&self, pattern: &Pattern, doc: u32) -> Option<Vec<u32>> {
+        least(&self.passing(pattern, doc))
     }
 
     /// Whether the one answer left at the end of the plan is yes, where these patterns are found.
@@ -242,5 +264,33 @@ impl Searcher {
         let of_vars = self.of_vars(pattern, doc);
         let in_lists = choice.iter().zip(&of_vars).all(|(pos, of_var)| of_var.contains(pos));
         Ok(in_lists && all_hold(pattern, &self.positions(0, doc), choice))
+    }
+
+    /// The call that lists matches.
+    pub fn matches(
+        &self,
+        pattern: u32,
+        doc: u32,
+        from: &[u32],
+        out: &mut [u32],
+    ) -> Result<Matched, Refused> {
+        let Some(pattern) = self.patterns.get(pattern as usize) else {
+            return Err((17, 0));
+        };
+        let vars = pattern.lists.len();
+        if from.len() != vars || doc > 65_535 || from.iter().any(|&pos| pos > 65_535) {
+            return Err((17, 0));
+        }
+        if out.len() < vars {
+            return Err((16, 0));
+        }
+        let mut left = self.passing(pattern, doc);
+        left.retain(|choice| !comes_before(choice, from));
+        let fit = out.len() / vars;
+        let written = left.len().min(fit);
+        for (i, choice) in left[..written].iter().enumerate() {
+            out[i * vars..(i + 1) * vars].copy_from_slice(choice);
+        }
+        Ok(Matched { count: written as u64, more: left.get(fit).cloned() })
     }
 }

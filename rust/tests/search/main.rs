@@ -1,10 +1,16 @@
-//! Searches: documents listed, and positions tested.
+//! Searches: documents listed, positions tested, and all tuples listed that pass in a document.
 
 #[path = "../plain/mod.rs"]
 mod plain;
 #[path = "../support/mod.rs"]
 mod support;
 
+mod matches_document;
+mod matches_edges;
+mod matches_pages;
+mod matches_random;
+mod matches_refusals;
+mod matches_relations;
 mod search_apart;
 mod search_document;
 mod search_edges;

@@ -101,29 +101,7 @@ fn random_faults() {
     let mut rng = Rng::new(seed);
     let mut trial = Trial::default();
     for round in 0..30_000 {
-        let (docs, positions): ([u32; 5], [u32; 6]) =
-            ([0, 1, 2, 500, 65_535], [0, 1, 2, 9, 10, 65_535]);
-        let count = 2 + rng.below(6);
-        let lists: Vec<Vec<u32>> =
-            (0..count).map(|_| random_positions(&mut rng, &docs, &positions, 2)).collect();
-        let lists = Lists::new(&lists);
-        let mut volume = lists.volume();
-        let (mut rows, _) = random_query(&mut rng);
-        for row in rows.iter_mut().filter(|row| row[0] == lihambozy::kind::VOICE) {
-            row[1] = 1 + rng.below(count - 1) as u32;
-        }
-        for _ in 0..rng.pick(&[0, 0, 0, 1, 2]) {
-            damage(&mut rng, &lists, &mut volume);
-        }
-        for _ in 0..rng.pick(&[0, 0, 1, 2]) {
-            spoil(&mut rng, &mut rows, count);
-        }
-        let mut plan = rows.concat();
-        match rng.below(20) {
-            0 => plan.truncate(rng.below(plan.len() + 1)),
-            1 => plan.extend([1, 1, 0, 0].repeat(rng.below(70))),
-            _ => {}
-        }
+        let (volume, plan) = random_fault(&mut rng);
         trial.case = format!("seed {seed}, round {round}, {plan:?}");
         let subject = Subject::new(&volume, &plan);
         for _ in 0..3 {

@@ -1,14 +1,16 @@
 //! What the tests share: a seeded generator, lists and damage made with it, plans (in `plans`), and
 //! the comparison of the library with the plain reader and writer, call by call. `searches` has the
-//! same for listing documents and testing positions, and whole searches. `refused` has volumes and
-//! plans that are refused, `files` those of the repository and fresh folders; `command` runs
-//! programs, and `cc` compiles those in C.
+//! same for listing documents and testing positions, and whole searches; `matches` has it for
+//! listing the tuples that pass in a document. `refused` has volumes and plans that are refused,
+//! `files` those of the repository and fresh folders; `command` runs programs, and `cc` compiles
+//! those in C.
 
 #![allow(dead_code)]
 
 pub mod cc;
 pub mod command;
 pub mod files;
+pub mod matches;
 pub mod plans;
 pub mod refused;
 pub mod searches;
@@ -360,6 +362,7 @@ pub enum Call {
     Rows,
     List,
     Test,
+    Matches,
 }
 
 /// Makes calls of the library and of the plain reader and writer, compares them in the answer and
@@ -371,6 +374,8 @@ pub struct Trial {
     met: BTreeMap<(Call, u32), BTreeMap<u32, usize>>,
     /// The rows that listing calls have written.
     pub listed: usize,
+    /// The tuples that calls which list matches have written.
+    pub matched: usize,
 }
 
 impl Trial {

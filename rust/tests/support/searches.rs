@@ -2,7 +2,7 @@
 //! library with the naive searcher, call by call, and whole searches.
 
 use super::plans::*;
-use super::{amid, pair, Call, Fill, Lists, Met, Rng, Trial, AMID};
+use super::{amid, damage, pair, Call, Fill, Lists, Met, Rng, Trial, AMID};
 use crate::plain::search::{Listed, Searcher};
 use crate::plain::{self, Refused};
 use lihambozy::calls::{Listing, Next};
@@ -33,7 +33,16 @@ impl Subject {
         Subject::new(&Lists::new(&lists).volume(), &rows.concat())
     }
 
-    /// The same, where the naive searcher has only so many steps to take.
+    /// One pattern, variable i on list i + 1, over documents that all have the same positions.
+    pub fn one_pattern(docs: &[u32], starts: Of, lists: &[Of], predicates: &[Row]) -> Subject {
+        let voices: Vec<Row> = (1..=lists.len() as u32).map(voice).collect();
+        let rows = [&voices[..], predicates, &[END]].concat();
+        let all: Vec<Vec<u32>> =
+            [&[starts], lists].concat().iter().map(|positions| list_in(docs, positions)).collect();
+        Subject::new(&Lists::new(&all).volume(), &rows.concat())
+    }
+
+    /// A plan over a volume, where the naive searcher has only so many steps to take.
     pub fn within(volume: &[u8], plan: &[u32], most: u64) -> Option<Subject> {
         (naive_steps(volume, plan) <= most).then(|| Subject::new(volume, plan))
     }
@@ -64,7 +73,7 @@ impl Subject {
 
     /// Nothing is written in volume or plan, nor beside them.
     #[track_caller]
-    fn assert_kept(&self, case: &str) {
+    pub fn assert_kept(&self, case: &str) {
         assert!(self.bytes == self.kept.0, "{case}: written in the volume or beside it");
         assert!(self.words == self.kept.1, "{case}: written in the plan or beside it");
     }
@@ -270,8 +279,8 @@ pub fn rising(mut list: Vec<(u32, u32)>) -> Vec<(u32, u32)> {
     list
 }
 
-/// One pattern, variable i on list i + 1, over documents that all have the same positions. It is
-/// found at the least positions given, or not found.
+/// One pattern over documents that all have the same positions. It is found at the least positions
+/// given, or not found.
 #[track_caller]
 pub fn settles(
     trial: &mut Trial,
@@ -280,15 +289,11 @@ pub fn settles(
     predicates: &[Row],
     least: Option<&[u32]>,
 ) {
-    let voices: Vec<Row> = (1..=lists.len() as u32).map(voice).collect();
-    let plan = [&voices[..], predicates, &[END]].concat().concat();
     trial.case = format!("starts {starts:?}, lists {lists:?}, {predicates:?}");
     let of_doc = |doc: u32| least.map_or(vec![], |least| [&[doc, 1], least].concat());
     let postings: usize = lists.iter().map(|list| list.len()).sum();
     for docs in [&DOCS[..], &DOCS[..1], &DOCS[2..]] {
-        let all: Vec<Vec<u32>> =
-            [&[starts], lists].concat().iter().map(|positions| list_in(docs, positions)).collect();
-        let subject = Subject::new(&Lists::new(&all).volume(), &plan);
+        let subject = Subject::one_pattern(docs, starts, lists, predicates);
         let rows: Vec<u32> = docs.iter().copied().flat_map(of_doc).collect();
         let tally = (docs.len() * postings) as u32;
         for fit in [1, 2, 5] {
@@ -458,6 +463,34 @@ pub fn small_predicate(rng: &mut Rng, vars: usize) -> Row {
     }
 }
 
+/// A small volume and a plan over it, each damaged or spoiled now and then, or both.
+pub fn random_fault(rng: &mut Rng) -> (Vec<u8>, Vec<u32>) {
+    let (docs, positions): ([u32; 5], [u32; 6]) =
+        ([0, 1, 2, 500, 65_535], [0, 1, 2, 9, 10, 65_535]);
+    let count = 2 + rng.below(6);
+    let lists: Vec<Vec<u32>> =
+        (0..count).map(|_| random_positions(rng, &docs, &positions, 2)).collect();
+    let lists = Lists::new(&lists);
+    let mut volume = lists.volume();
+    let (mut rows, _) = random_query(rng);
+    for row in rows.iter_mut().filter(|row| row[0] == lihambozy::kind::VOICE) {
+        row[1] = 1 + rng.below(count - 1) as u32;
+    }
+    for _ in 0..rng.pick(&[0, 0, 0, 1, 2]) {
+        damage(rng, &lists, &mut volume);
+    }
+    for _ in 0..rng.pick(&[0, 0, 1, 2]) {
+        spoil(rng, &mut rows, count);
+    }
+    let mut plan = rows.concat();
+    match rng.below(20) {
+        0 => plan.truncate(rng.below(plan.len() + 1)),
+        1 => plan.extend([1, 1, 0, 0].repeat(rng.below(70))),
+        _ => {}
+    }
+    (volume, plan)
+}
+
 /// A plan of few predicates, so that its patterns are often found: the rows, and the variables of
 /// its largest pattern.
 pub fn random_query(rng: &mut Rng) -> (Vec<Row>, usize) {
@@ -554,6 +587,11 @@ impl RandomPattern {
         let voices = (0..vars).map(|_| voice(rng.pick(&archive.named))).collect();
         let others = (0..rng.pick(&[0, 0, 1, 2])).map(|_| small_predicate(rng, vars)).collect();
         RandomPattern { lists: archive.lists, voices, others }
+    }
+
+    /// The documents that have a posting.
+    pub fn docs(&self) -> BTreeSet<u32> {
+        self.lists.postings.iter().map(|posting| posting / 65_536).collect()
     }
 
     /// The same pattern over other lists.
