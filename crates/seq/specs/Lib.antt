@@ -1,5 +1,5 @@
 -- The words that the definitions of every crate use, in reading order.
---     Lists      keep, all, any, total, joined, elem, rises: lists and tests on them
+--     Lists      keep, all, any, total, joined, Permutation, elem, rises: lists, tests on them, and their order
 --     Numbers    firstFrom, run, sumTo: a test's first index, a function's values as a list, and their sum
 --     Refusals   Said, laid, FirstRefusalOf, stageIn, FirstRefusal: what a call answers, what it leaves in a lent buffer, and which refusal
 --                comes first

@@ -1,4 +1,5 @@
--- Words for lists: the elements that pass a test, whether all or some do, sums and joins over a list, its elements, and lists that rise.
+-- Words for lists: the elements that pass a test, whether all or some do, sums and joins over a list, its elements, the same elements in
+-- another order, and lists that rise.
 -- Assumes nothing.
 use Prim.Native.Nat.{ℕ, _+_, _<_, _≤_}
 use mathlib.Core.Bool.{Bool, true, false, _&&_, _||_}
@@ -42,6 +43,13 @@ module _ {A : Type 0} where
   abbrev pub first : List A → Option A
   first [] = none
   first (x ∷ xs) = some x
+
+-- the same elements, each as often, in any order: what neighbours that change places can reach
+pub data Permutation {A : Type 0} : List A → List A → Type 0 where
+  same : (xs : List A) → Permutation xs xs
+  next : (x : A) (xs ys : List A) → Permutation xs ys → Permutation (x ∷ xs) (x ∷ ys)
+  swap : (x y : A) (xs : List A) → Permutation (x ∷ y ∷ xs) (y ∷ x ∷ xs)
+  then : (xs ys zs : List A) → Permutation xs ys → Permutation ys zs → Permutation xs zs
 
 -- element i of a list; behind its end 0
 abbrev pub at : List ℕ → ℕ → ℕ

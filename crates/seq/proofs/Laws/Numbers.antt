@@ -4,7 +4,7 @@
 --     first-le, first-ge, first-at, first-before     where it ends; the test holds there; and at no index before
 --     search-found, search-clear           a search that ends in front of n, and one that does not
 --     run-end, run-step, run-snoc, run-append, run-ext, length-run, getD-run
---     sum-step, sum-more, sum-le, sum-mono, sum-within, sum-ext
+--     sum-step, sum-front, sum-more, sum-le, sum-mono, sum-within, sum-ext
 -- Assumes nothing.
 use Prim.Native.Nat.{ℕ, zero, suc, _+_, _-_, _<_, _≤_}
 use native.Mathlib.Nat.{add-zero, zero-add, suc-add, add-suc, le-refl, eq-or-lt-of-le}
@@ -139,6 +139,12 @@ module _ {A : Type 0} where
 pub sum-step : (f : ℕ → ℕ) (i : ℕ) → sumTo f (i + 1) ≡ sumTo f i + f i
 unfolding sumTo
 sum-step f i = rw add-one
+
+-- the first value apart
+pub sum-front : (f : ℕ → ℕ) (m : ℕ) → sumTo f (suc m) ≡ f 0 + sumTo (λ i. f (suc i)) m
+unfolding sumTo
+sum-front f zero = omega arith
+sum-front f (suc m) = let e = sum-front f m in omega arith
 
 pub sum-more : (f : ℕ → ℕ) (i s w : ℕ) → s ≡ sumTo f i → w ≡ f i → s + w ≡ sumTo f (i + 1)
 sum-more f i s w a b = rw (a, b) (sym (sum-step f i))

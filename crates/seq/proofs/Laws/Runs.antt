@@ -19,7 +19,7 @@ use Rattle.seq.specs.Lists.{total, joined}
 use Rattle.seq.specs.Numbers.{firstFrom, run, sumTo}
 use Rattle.seq.proofs.Laws.Tests.{below-or, contrary}
 use Rattle.seq.proofs.Laws.Lists.{joined-append}
-use Rattle.seq.proofs.Laws.Numbers.{first-at, first-before, first-none, run-append, run-snoc, run-ext}
+use Rattle.seq.proofs.Laws.Numbers.{first-at, first-before, first-none, run-append, run-snoc, run-ext, sum-front}
 
 -- the first index that passes a test
 pub first-is : (test : ℕ → Bool) (n k : ℕ) → k < n → test k ≡ true → ((j : ℕ) → j < k → test j ≡ false) → firstFrom test 0 n ≡ k
@@ -70,9 +70,7 @@ run-behind xs ys k m = run-ext (λ i. getD (xs ++ ys) i 0) (λ i. getD ys i 0) (
 
 -- one more element in front
 pub sum-cons : (x : ℕ) (xs : List ℕ) (m : ℕ) → sumTo (λ i. getD (x ∷ xs) i 0) (suc m) ≡ x + sumTo (λ i. getD xs i 0) m
-unfolding sumTo
-sum-cons x xs zero = omega arith
-sum-cons x xs (suc m) = let e = sum-cons x xs m in omega arith
+sum-cons x xs m = sum-front (λ i. getD (x ∷ xs) i 0) m
 
 -- the sum of a list's elements, over its indices
 pub sum-total : (xs : List ℕ) → sumTo (λ i. getD xs i 0) (length xs) ≡ total (λ x. x) xs

@@ -3,13 +3,14 @@
 --     total-map, total-append, total-joined     of a mapped list, of one in two parts, of joined lists
 --     total-same, total-ext            of functions that agree on the elements, or everywhere
 --     total-zero                       a sum that is 0
+--     total-permuted                   of the same elements in another order
 -- Assumes nothing.
 use Prim.Native.Nat.{ℕ, zero, suc, _+_, _<_}
 use native.Mathlib.Omega.{arith}
 use mathlib.Core.Path.{_≡_, refl, ap, ap₂, _∙_}
 use mathlib.Core.List.{List, [], _∷_, _++_, map}
 use lib.ListN.{length, getD}
-use Rattle.seq.specs.Lists.{total, joined}
+use Rattle.seq.specs.Lists.{total, joined, Permutation, same, next, swap, then}
 
 module _ {A : Type 0} where
   pub total-add : (f g : A → ℕ) (xs : List A) → total f xs + total g xs ≡ total (λ x. f x + g x) xs
@@ -22,7 +23,7 @@ module _ {A : Type 0} where
   total-ones [] = refl
   total-ones (x ∷ xs) = let e = total-ones xs in omega arith
 
-  total-append : (f : A → ℕ) (xs ys : List A) → total f (xs ++ ys) ≡ total f xs + total f ys
+  pub total-append : (f : A → ℕ) (xs ys : List A) → total f (xs ++ ys) ≡ total f xs + total f ys
   unfolding total
   total-append f [] ys = omega arith
   total-append f (x ∷ xs) ys = let e = total-append f xs ys in omega arith
@@ -48,6 +49,13 @@ module _ {A : Type 0} where
   total-zero f d [] e i h = absurd (let z : ⊥ = omega arith in z)
   total-zero f d (x ∷ xs) e zero h = omega arith
   total-zero f d (x ∷ xs) e (suc i) h = total-zero f d xs (omega arith) i (omega arith)
+
+pub total-permuted : {A : Type 0} (f : A → ℕ) (xs ys : List A) → Permutation xs ys → total f xs ≡ total f ys
+unfolding total
+total-permuted f xs ys (same zs) = refl
+total-permuted f xs ys (next x ps qs s) = ap (λ (n : ℕ). f x + n) (total-permuted f ps qs s)
+total-permuted f xs ys (swap x y zs) = omega arith
+total-permuted f xs ys (then ps qs rs s t) = total-permuted f ps qs s ∙ total-permuted f qs rs t
 
 pub total-map : {A B : Type 0} (f : B → ℕ) (g : A → B) (xs : List A) → total f (map g xs) ≡ total (λ x. f (g x)) xs
 unfolding total
