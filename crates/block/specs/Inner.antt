@@ -1,3 +1,3 @@
 -- For the contracts inside the crate.
---     Sums    the sums of a block by columns of eight bytes, for `src/checksum.rt`
+--     Sums    the sums of bytes by columns of eight, for `src/rows.rt`
 pub mod Sums

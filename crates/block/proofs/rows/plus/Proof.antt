@@ -1,9 +1,9 @@
--- `checksum::plus` meets its contract: no column wraps, by `Room`. Assumes nothing.
+-- `rows::plus` meets its contract: no column wraps, by `Room`. Assumes nothing.
 use native.Mathlib.Omega.{arith}
 use mathlib.Core.Path.{refl}
 use Rattle.block.specs.Inner.Sums.{plus}
-use Rattle.block.proofs.checksum.plus.Statement.{statement}
-use Rattle.block.proofs.checksum.plus.Tie as tie
+use Rattle.block.proofs.rows.plus.Statement.{statement}
+use Rattle.block.proofs.rows.plus.Tie as tie
 
 -- the places that the answers speak of, each from the one behind it
 abbrev start-of : tie.After-struct-known4 → tie.Start
