@@ -116,13 +116,22 @@ fn put_words(counts: &[u32], postings: &[u32], first: usize, out: &mut [u8])
     }
 }
 
-// Stores the postings from `from` on as the words of a block.
+// Stores the postings from `from` on as the words of a block. The first six are stored by
+// themselves: what is left is a multiple of eight, which a compiler copies in vectors with nothing
+// over. The checksum reads these words back at once, the last ones first, and would have to wait for
+// words that were stored one by one.
 fn put_postings(postings: &[u32], from: usize, out: &mut [u8])
     requires { ⌜ from + 126 ≤ length (now postings) ⌝ }
     requires { ⌜ length (now out) ≡ 512 ⌝ }
     ensures { λ _. ⌜ now (out .exit) ≡ filled (at (now (postings .entry))) from (now (out .entry)) ⌝ }
 {
     let mut j: usize = 0;
+    while j < 6 {
+        let x = postings[from + j];
+        let to = 4 + 4 * j;
+        put32(out, to, x);
+        j += 1;
+    }
     while j < BLOCK_WORDS {
         let x = postings[from + j];
         let to = 4 + 4 * j;

@@ -1,5 +1,6 @@
 -- The stores of `src/writing.rt`: the words of a block, a block, and all blocks. No contract cites this file.
 --     Filling, filling-first, filling-again, filling-done      a block's words, stored one by one
+--     Onward, onward-first, onward-again                       the same, from a list in which some are stored
 --     put-body, put-sealed                                     a block's number and words, and its checksum behind them
 --     Laying, laying-first, laying-again, laying-done          blocks, stored one by one
 --     put-three                                                all blocks, stored in three runs
@@ -48,6 +49,24 @@ module _ (f : ℕ → ℕ) (from : ℕ) (out₀ : List ℕ) where
 
   pub filling-done : (out : List ℕ) (j : ℕ) → Filling f from out₀ out j → 126 ≤ j → out ≡ take 4 out₀ ++ wordBytes f from 126 ++ drop 508 out₀
   filling-done out j s h = let e : j ≡ 126 = omega arith in rw e at (s .stored)
+
+-- from a list in which j₀ words are stored to one in which j are, whatever the list was at first
+pub record Onward (f : ℕ → ℕ) (from : ℕ) (out₀ : List ℕ) (j₀ : ℕ) (out : List ℕ) (j : ℕ) : Type 0 where
+  pub within : j ≤ 126
+  pub long : length out ≡ 512
+  pub carries : (first : List ℕ) → Filling f from first out₀ j₀ → Filling f from first out j
+
+module _ (f : ℕ → ℕ) (from : ℕ) where
+  pub onward-first : (first out₀ : List ℕ) (j₀ : ℕ) → Filling f from first out₀ j₀ → Onward f from out₀ j₀ out₀ j₀
+  onward-first first out₀ j₀ s = record { within = s .within; long = s .same ∙ s .long; carries = λ e t. t }
+
+  pub onward-again : (out₀ : List ℕ) (j₀ : ℕ) (out next : List ℕ) (j x : ℕ) → Onward f from out₀ j₀ out j → j < 126 → x ≡ f (from + j)
+      → length next ≡ length out → next ≡ take (4 + 4 * j) out ++ bytes32 x ++ drop (4 + 4 * j + 4) out → Onward f from out₀ j₀ next (j + 1)
+  onward-again out₀ j₀ out next j x o h e l n = record {
+    within = omega arith;
+    long = l ∙ o .long;
+    carries = λ first s. filling-again f from first out next j x (o .carries first s) h e l n;
+  }
 
 -- its number and then its words
 pub put-body : (f : ℕ → ℕ) (k : ℕ) (rest a b : List ℕ) → a ≡ bytes32 k ++ rest → b ≡ take 4 a ++ wordBytes f (126 * k) 126 ++ drop 508 a
