@@ -9,6 +9,7 @@ mod yardstick;
 
 mod damage;
 mod document;
+mod halves;
 mod late;
 mod limits;
 mod round_trip;
