@@ -1,23 +1,8 @@
--- Text as bytes (ASCII): numbers in base ten, and lines of words with one space between them. Assumes nothing.
-use Prim.Native.Nat.{ℕ, zero, suc, _+_, _/_, _%_}
-use mathlib.Core.Bool.{cond}
+-- Text as bytes (ASCII): lines of words with one space between them. Assumes nothing.
+use Prim.Native.Nat.{ℕ}
 use mathlib.Core.List.{List, [], _∷_, _++_, map}
-use lib.Dec.{ltb}
 use Rattle.seq.specs.Lists.{joined}
-
--- a digit
-abbrev pub digit : ℕ → ℕ
-digit d = 48 + d
-
--- a number in base ten, with no zero in front, in at most k digits
-unfoldable pub decimalF : ℕ → ℕ → List ℕ
-decimalF zero n = []
-decimalF (suc k) n = let more = decimalF k (n / 10) ++ (digit (n % 10) ∷ []) in cond (ltb n 10) (digit n ∷ []) more
-
--- a number in base ten, with no zero in front
-unfoldable pub decimal : ℕ → List ℕ
-unfolding decimalF
-decimal n = decimalF (suc n) n
+use Rattle.seq.specs.Decimal.{decimal}
 
 abbrev pub space : ℕ
 space = 32

@@ -6,6 +6,7 @@
 --     Keep       the elements that pass a test
 --     Members    elements, and facts of each, by recursion
 --     Numbers    firstFrom, run and sumTo
+--     Decimal    numbers in base ten
 --     Runs       runs, sums and searches of lists
 --     Slices     parts of lists, as runs of their values
 --     Rising     lists and runs that rise
@@ -22,6 +23,7 @@ pub mod Totals
 pub mod Keep
 pub mod Members
 pub mod Numbers
+pub mod Decimal
 pub mod Runs
 pub mod Slices
 pub mod Rising

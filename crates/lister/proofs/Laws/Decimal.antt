@@ -1,31 +1,19 @@
 -- The laws of `decimal`. No contract cites this file.
 --     digits-decimal      the fewest digits that hold a number are those of `decimal`
---     length-decimal      a number below 10 ^ k has at most k digits
 -- Assumes nothing.
 use Prim.Native.Nat.{ℕ, zero, suc, _-_, _*_, _/_, _%_, _^_, _<_, _≤_}
 use native.Mathlib.Nat.{pow-suc, mod-eq-of-lt}
 use native.Mathlib.Omega.{arith}
 use mathlib.Core.Path.{_≡_, sym, ap, ap₂, _∙_}
-use mathlib.Core.Logic.{⊎-elim}
 use mathlib.Core.List.{List, [], _∷_, _++_}
-use lib.ListN.{length}
 use borrow.Author.Tests.{lt-ltb, le-ltb}
 use Rattle.io.specs.Digits.{digits, glyph, Fewest}
-use Rattle.seq.proofs.Laws.Tests.{below-or}
-use Rattle.seq.proofs.Laws.Lists.{length-snoc}
-use Rattle.lister.specs.Text.{digit, decimalF, decimal}
+use Rattle.seq.specs.Decimal.{digit, decimalF, decimal}
+use Rattle.seq.proofs.Laws.Decimal.{decimal-one, decimal-more}
 
 -- a digit below 10 as it is written
 glyph-digit : (d : ℕ) → d < 10 → glyph d ≡ digit d
 glyph-digit d h = rw (lt-ltb d 10 h)
-
-decimal-one : (f n : ℕ) → n < 10 → decimalF (suc f) n ≡ digit n ∷ []
-unfolding decimalF
-decimal-one f n h = rw (lt-ltb n 10 h)
-
-decimal-more : (f n : ℕ) → 10 ≤ n → decimalF (suc f) n ≡ decimalF f (n / 10) ++ (digit (n % 10) ∷ [])
-unfolding decimalF
-decimal-more f n h = rw (le-ltb n 10 h)
 
 pow-pos : (k : ℕ) → 0 < 10 ^ k
 pow-pos zero = omega arith
@@ -54,21 +42,3 @@ pub digits-decimal : (k n : ℕ) → Fewest 10 1 n k → digits 10 k n ≡ decim
 unfolding decimal
 digits-decimal zero n w = absurd (let a = w .0 in let z : ⊥ = omega arith in z)
 digits-decimal (suc k) n w = digits-enough k (suc n) n w (omega arith)
-
-length-enough : (k f n : ℕ) → n < 10 ^ (suc k) → length (decimalF f n) ≤ suc k
-unfolding decimalF
-length-enough k zero n h = omega arith
-length-enough zero (suc f) n h = rw (decimal-one f n (omega arith)) (omega arith)
-length-enough (suc k) (suc f) n h =
-    ⊎-elim
-    (λ (l : n < 10). rw (decimal-one f n l) (omega arith))
-    (λ (l : 10 ≤ n).
-    let top : 10 ^ suc (suc k) ≡ 10 ^ suc k * 10 = pow-suc 10 (suc k) in
-    let b : length (decimalF f (n / 10)) ≤ suc k = length-enough k f (n / 10) (omega arith) in
-    rw (decimal-more f n l, length-snoc) (omega arith))
-    (below-or n 10)
-
--- a number below 10 ^ k has at most k digits, and at least one where k is not 0
-pub length-decimal : (k n : ℕ) → n < 10 ^ (suc k) → length (decimal n) ≤ suc k
-unfolding decimal
-length-decimal k n h = length-enough k (suc n) n h

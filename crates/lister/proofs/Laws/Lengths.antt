@@ -18,7 +18,7 @@ use Rattle.lister.specs.Text.{spaced, line, sceneWord}
 use Rattle.lister.specs.Inner.Pages.{rowLines}
 use Rattle.lister.proofs.Laws.Stored.{length-pieces}
 use Rattle.lister.proofs.Laws.Text.{length-line}
-use Rattle.lister.proofs.Laws.Decimal.{length-decimal}
+use Rattle.seq.proofs.Laws.Decimal.{length-decimal}
 
 spaced-short : (n : ℕ) → n < 4294967296 → length (spaced n) ≤ 11
 unfolding spaced

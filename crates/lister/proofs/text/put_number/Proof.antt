@@ -4,7 +4,8 @@ use mathlib.Core.Path.{_≡_, _∙_}
 use mathlib.Core.List.{[], _∷_}
 use denote.Ref.{now}
 use lib.ListN.{take, length-set}
-use Rattle.lister.specs.Text.{decimal, space, spaced}
+use Rattle.seq.specs.Decimal.{decimal}
+use Rattle.lister.specs.Text.{space, spaced}
 use Rattle.lister.proofs.Laws.Stored.{stored-one, stored-more}
 use Rattle.lister.proofs.Laws.Decimal.{digits-decimal}
 use Rattle.lister.proofs.text.put_number.Statement.{statement}
