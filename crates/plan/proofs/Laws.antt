@@ -19,9 +19,9 @@ pub mod Kinds
 pub mod Rows
 pub mod State
 mod Counts
-mod Passed
+pub mod Passed
 pub mod Check
-mod Patterns
+pub mod Patterns
 pub mod Given
 pub mod Spans
 mod Reading

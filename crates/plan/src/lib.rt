@@ -22,6 +22,7 @@ pub use answers::Fault;
 pub use answers::Refusal;
 pub use checking::check;
 pub use codes::code_of;
+pub use limits::LEAST_UNIT;
 pub use limits::MOST_FOUND_SETS;
 pub use limits::MOST_PATTERN_VARS;
 pub use limits::MOST_PATTERNS;

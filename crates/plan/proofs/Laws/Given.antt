@@ -61,7 +61,8 @@ module _ (t : ℕ) (p : List ℕ) (ok : Passed t p) where
       next : stateAt p (suc i) ≡ after (stateAt p i) (rowAt p i .kind)
       next = ap (stateAt p) (sym (add-one i)) ∙ stateAt-next p i
 
-  all-pass : PassAll t initial (rowsOf p)
+  -- all rows
+  pub all-pass : PassAll t initial (rowsOf p)
   all-pass = rw (stateAt-first p) at (rows-pass 0 (rowCount p) (omega arith))
 
   pub well-made : (k : ℕ) → k < sizes p .patterns → WellMade t (patternAt p k)

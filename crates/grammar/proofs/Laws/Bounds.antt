@@ -1,0 +1,350 @@
+-- The line of an accepted plan keeps to every limit, so that it is read as the plan.
+use Prim.Native.Nat.{ℕ, zero, suc, _+_, _-_, _*_, _/_, _%_, _^_, max, _<_, _≤_}
+use native.Mathlib.Nat.{pow-suc}
+use native.Mathlib.Omega.{arith}
+use native.Mathlib.Numerals.{add-one}
+use mathlib.Core.Path.{_≡_, refl, sym, ap, ap₂, _∙_, subst}
+use mathlib.Core.Bool.{Bool, true, false, cond, _&&_}
+use mathlib.Core.Logic.{⊎-elim}
+use mathlib.Core.List.{List, [], _∷_, _++_, map, append-assoc, append-nil}
+use mathlib.Core.Option.{Option, none, some}
+use lib.Dec.{ltb}
+use lib.ListN.{length, getD, length-append, length-map, List·getD-map, List·getD-append}
+use lib.Seq.{getD-append-add}
+use borrow.Author.Tests.{le-ltb, ltb-true}
+use Rattle.seq.specs.Lists.{joined}
+use Rattle.seq.proofs.Laws.Tests.{below-or, both}
+use Rattle.seq.proofs.Laws.Lists.{length-snoc, Each}
+use Rattle.seq.specs.Refusals.{Said, refused, answered}
+use Rattle.plan.specs.declared.row.Predicate.{Predicate}
+use Rattle.plan.specs.declared.row.Predicate.the-variants.{Distance, Ordered, Samepara, Window, Proximity}
+use Rattle.plan.specs.declared.row.Operator.{Operator}
+use Rattle.plan.specs.declared.row.Operator.the-variants.{Both, Either, FirstNotSecond}
+use Rattle.plan.specs.declared.row.Kind.the-variants as kind
+use Rattle.plan.specs.declared.row.Row.{Row}
+use Rattle.seq.proofs.Laws.Numbers.{length-run}
+use Rattle.plan.specs.Rows.{rowCount, rowAt, rowsOf, planOf, InRange}
+use Rattle.plan.specs.State.{namesBelow}
+use Rattle.plan.specs.Patterns.{Pattern, noRow, patternsFrom, patternsOf}
+use Rattle.plan.specs.Parts.{patternRows}
+use Rattle.plan.specs.Check.{sizes, Accepted}
+use Rattle.plan.specs.Accepted.{WellMade, Given, patternAt}
+use Rattle.plan.proofs.Laws.Check.{verdict-passed}
+use Rattle.plan.proofs.Laws.Accepted.{given}
+use Rattle.volume.specs.Layout.{listCount}
+use Rattle.volume.proofs.Laws.Check.{good}
+use Rattle.seq.specs.Decimal.{decimalF, decimal}
+use Rattle.grammar.specs.Text.{lead}
+use Rattle.grammar.specs.Grammar as g
+use Rattle.grammar.specs.Grammar.{Condition, Figure, Line, Part, Item, conditionText, openText, figureText, written, partText, itemText, ConditionFits, FigureFits, Fits, PartFits, ItemFits, noCondition, arity, mostOf, Within}
+use Rattle.grammar.specs.Brackets.{rounds, depth, partDepth, itemDepth}
+use Rattle.grammar.specs.Meaning.{lineRows, operatorRow}
+use Rattle.grammar.specs.Query.{Query, leaf, node, queryRows, queryOf, conditionOf, figureOf, typed, planLine, planText}
+use Rattle.grammar.specs.Reading.{Config, after, start, step, openIn, Outcome, whole, deep, outcome, reading, ended, continued, lineOf}
+use Rattle.grammar.specs.Words.{wordsBy, wordsOfLine}
+use Rattle.grammar.proofs.Laws.Query.{voice, condition, end, typed-rows, fewest as fewest-rounds}
+use Rattle.seq.proofs.Laws.Decimal.{length-decimal}
+use Rattle.grammar.proofs.Laws.Steps.{Steps, line-steps, frontOf, lastOf, line-again}
+use Rattle.grammar.proofs.Laws.Written.{plan-tree}
+
+-- the patterns of a tree
+unfoldable leaves : Query → List Pattern
+leaves (leaf f) = f ∷ []
+leaves (node o a b) = leaves a ++ leaves b
+
+voices-leave : (ls vs : List ℕ) (cs : List Predicate) (rest : List Row) → patternsFrom (record { vars = vs; predicates = cs }) (map voice ls ++ rest) ≡ patternsFrom (record { vars = vs ++ ls; predicates = cs }) rest
+unfolding patternsFrom
+voices-leave [] vs cs rest = ap (λ (l : List ℕ). patternsFrom (record { vars = l; predicates = cs }) rest) (sym (append-nil vs))
+voices-leave (x ∷ ls) vs cs rest = voices-leave ls (vs ++ (x ∷ [])) cs rest ∙ ap (λ (l : List ℕ). patternsFrom (record { vars = l; predicates = cs }) rest) (append-assoc vs (x ∷ []) ls)
+
+conditions-leave : (ds cs : List Predicate) (vs : List ℕ) (rest : List Row) → patternsFrom (record { vars = vs; predicates = cs }) (map condition ds ++ rest) ≡ patternsFrom (record { vars = vs; predicates = cs ++ ds }) rest
+unfolding patternsFrom
+conditions-leave [] cs vs rest = ap (λ (l : List Predicate). patternsFrom (record { vars = vs; predicates = l }) rest) (sym (append-nil cs))
+conditions-leave (x ∷ ds) cs vs rest = conditions-leave ds (cs ++ (x ∷ [])) vs rest ∙ ap (λ (l : List Predicate). patternsFrom (record { vars = vs; predicates = l }) rest) (append-assoc cs (x ∷ []) ds)
+
+patterns-leave : (q : Query) (rest : List Row) → patternsFrom noRow (queryRows q ++ rest) ≡ leaves q ++ patternsFrom noRow rest
+unfolding queryRows patternsFrom leaves
+patterns-leave (leaf f) rest =
+    ap (patternsFrom noRow) (append-assoc (map voice (f .vars) ++ map condition (f .predicates)) (end ∷ []) rest ∙ append-assoc (map voice (f .vars)) (map condition (f .predicates)) (end ∷ rest))
+    ∙ voices-leave (f .vars) [] [] (map condition (f .predicates) ++ (end ∷ rest))
+    ∙ conditions-leave (f .predicates) [] (f .vars) (end ∷ rest)
+patterns-leave (node o a b) rest =
+    ap (patternsFrom noRow) (append-assoc (queryRows a) (queryRows b ++ operatorRow o) rest ∙ ap (λ (l : List Row). queryRows a ++ l) (append-assoc (queryRows b) (operatorRow o) rest))
+    ∙ patterns-leave a (queryRows b ++ (operatorRow o ++ rest))
+    ∙ ap (λ (l : List Pattern). leaves a ++ l) (patterns-leave b (operatorRow o ++ rest))
+    ∙ sym (append-assoc (leaves a) (leaves b) (patternsFrom noRow rest))
+
+patterns-are : (q : Query) → patternsOf (queryRows q) ≡ leaves q
+unfolding patternsFrom
+patterns-are q = ap (patternsFrom noRow) (sym (append-nil (queryRows q))) ∙ patterns-leave q [] ∙ append-nil (leaves q)
+
+-- each pattern of a tree is well made
+unfoldable Made : ℕ → Query → Type 0
+Made t (leaf f) = WellMade t f
+Made t (node o a b) = Made t a × Made t b
+
+made : (t : ℕ) (q : Query) → Each (WellMade t) noRow (leaves q) → Made t q
+unfolding Made leaves
+made t (leaf f) h = h 0 (omega arith)
+made t (node o a b) h = (
+  made t a (λ i l. subst (WellMade t) (List·getD-append (leaves a) (leaves b) noRow i l) (h i (let e = length-append (leaves a) (leaves b) in omega arith))),
+  made t b (λ i l. subst (WellMade t) (getD-append-add (leaves a) (leaves b) i noRow) (h (length (leaves a) + i) (let e = length-append (leaves a) (leaves b) in omega arith))),
+)
+
+condition-fits : (n : ℕ) (c : Predicate) → namesBelow n c ≡ true → n ≤ 8 → InRange (kind.Condition c) → ConditionFits (conditionOf c)
+condition-fits n (Distance a b limit) e l r =
+    let w = both (ltb a n) (ltb b n) e in
+    let x = ltb-true a n (w .0) in
+    let y = ltb-true b n (w .1) in
+    record { count = refl; within = three }
+  where
+    x : a < n
+    x = ltb-true a n (both (ltb a n) (ltb b n) e .0)
+
+    y : b < n
+    y = ltb-true b n (both (ltb a n) (ltb b n) e .1)
+
+    three : Within (mostOf g.near) (a ∷ b ∷ limit ∷ [])
+    three zero h = omega (arith, x)
+    three (suc zero) h = omega (arith, y)
+    three (suc (suc zero)) h = omega arith
+    three (suc (suc (suc i))) h = absurd (let z : ⊥ = omega arith in z)
+condition-fits n (Ordered a b) e l r = record { count = refl; within = pair }
+  where
+    pair : Within (mostOf g.before) (a ∷ b ∷ [])
+    pair zero h = omega (arith, ltb-true a n (both (ltb a n) (ltb b n) e .0))
+    pair (suc zero) h = omega (arith, ltb-true b n (both (ltb a n) (ltb b n) e .1))
+    pair (suc (suc i)) h = absurd (let z : ⊥ = omega arith in z)
+condition-fits n (Samepara a b) e l r = record { count = refl; within = pair }
+  where
+    pair : Within (mostOf g.same) (a ∷ b ∷ [])
+    pair zero h = omega (arith, ltb-true a n (both (ltb a n) (ltb b n) e .0))
+    pair (suc zero) h = omega (arith, ltb-true b n (both (ltb a n) (ltb b n) e .1))
+    pair (suc (suc i)) h = absurd (let z : ⊥ = omega arith in z)
+condition-fits n (Window limit) e l r = record { count = refl; within = single }
+  where
+    single : Within (mostOf g.span) (limit ∷ [])
+    single zero h = r .1
+    single (suc i) h = absurd (let z : ⊥ = omega arith in z)
+condition-fits n (Proximity a b least most) e l r = record { count = refl; within = four }
+  where
+    four : Within (mostOf g.apart) (a ∷ b ∷ least ∷ most ∷ [])
+    four zero h = omega (arith, ltb-true a n (both (ltb a n) (ltb b n) e .0))
+    four (suc zero) h = omega (arith, ltb-true b n (both (ltb a n) (ltb b n) e .1))
+    four (suc (suc zero)) h = omega (arith, r .0, r .1)
+    four (suc (suc (suc zero))) h = r .1
+    four (suc (suc (suc (suc i)))) h = absurd (let z : ⊥ = omega arith in z)
+
+figure-fits : (t : ℕ) (f : Pattern) → t ≤ 65536 → WellMade t f → FigureFits (figureOf f)
+figure-fits t f l h = record {
+  some-list = h .some-vars;
+  within = λ i k. let w : getD (f .vars) i 0 < t = h .lists i k .1 in omega arith;
+  conditions = λ i k.
+      let n : i < length (f .predicates) = subst (λ (m : ℕ). i < m) (length-map (f .predicates) conditionOf) k in
+      subst ConditionFits (sym (List·getD-map conditionOf (f .predicates) i (Window 1))) (condition-fits (length (f .vars)) (getD (f .predicates) i (Window 1)) (h .names i n) (h .most-vars) (h .ranges i n));
+}
+
+record TypedFits (q : Query) : Type 0 where
+  line : Fits (typed q .line)
+  part : PartFits (typed q .part)
+  item : ItemFits (typed q .item)
+
+typed-fits : (t : ℕ) (q : Query) → t ≤ 65536 → Made t q → TypedFits q
+unfolding typed Fits Made
+typed-fits t (leaf f) l h = let w = figure-fits t f l h in record { line = w; part = w; item = w }
+typed-fits t (node Both a b) l h = let x = typed-fits t a l (h .0) .part in let y = typed-fits t b l (h .1) .item in record { line = (x, y); part = (x, y); item = (x, y) }
+typed-fits t (node Either a b) l h = let x = typed-fits t a l (h .0) .line in let y = typed-fits t b l (h .1) .part in record { line = (x, y); part = (x, y); item = (x, y) }
+typed-fits t (node FirstNotSecond a b) l h = let x = typed-fits t a l (h .0) .part in let y = typed-fits t b l (h .1) .item in record { line = (x, y); part = (x, y); item = (x, y) }
+
+-- brackets lie in one another less deep than there are patterns
+record Shallow (q : Query) : Type 0 where
+  some : 1 ≤ length (leaves q)
+  line : depth (typed q .line) < length (leaves q)
+  part : partDepth (typed q .part) < length (leaves q)
+  item : itemDepth (typed q .item) < length (leaves q)
+
+shallow : (q : Query) → Shallow q
+unfolding typed depth leaves
+shallow (leaf f) = record { some = omega arith; line = omega arith; part = omega arith; item = omega arith }
+shallow (node Both a b) = let x = shallow a in let y = shallow b in let e = length-append (leaves a) (leaves b) in
+    record { some = omega (arith, x .some); line = omega (arith, x .part, y .item, x .some, y .some); part = omega (arith, x .part, y .item, x .some, y .some); item = omega (arith, x .part, y .item, x .some, y .some) }
+shallow (node Either a b) = let x = shallow a in let y = shallow b in let e = length-append (leaves a) (leaves b) in
+    record { some = omega (arith, x .some); line = omega (arith, x .line, y .part, x .some, y .some); part = omega (arith, x .line, y .part, x .some, y .some); item = omega (arith, x .line, y .part, x .some, y .some) }
+shallow (node FirstNotSecond a b) = let x = shallow a in let y = shallow b in let e = length-append (leaves a) (leaves b) in
+    record { some = omega (arith, x .some); line = omega (arith, x .part, y .item, x .some, y .some); part = omega (arith, x .part, y .item, x .some, y .some); item = omega (arith, x .part, y .item, x .some, y .some) }
+
+-- a number of the grammar has at most five digits
+five : (n : ℕ) → n ≤ 65536 → length (decimal n) ≤ 5
+five n h = length-decimal 4 n (omega arith)
+
+lead-length : (b : ℕ) (ns : List ℕ) → Within (λ i. 65536) ns → length (lead b ns) ≤ 6 * length ns
+unfolding lead
+lead-length b [] h = omega arith
+lead-length b (n ∷ ns) h =
+    let d = five n (h 0 (omega arith)) in
+    let r = lead-length 32 ns (λ i l. h (suc i) (omega arith)) in
+    let e = length-append (b ∷ decimal n) (lead 32 ns) in
+    omega arith
+
+small : (w : g.Word) (k : ℕ) → mostOf w k ≤ 65536
+small g.near zero = omega arith
+small g.near (suc zero) = omega arith
+small g.near (suc (suc zero)) = omega arith
+small g.near (suc (suc (suc k))) = omega arith
+small g.before zero = omega arith
+small g.before (suc zero) = omega arith
+small g.before (suc (suc k)) = omega arith
+small g.same zero = omega arith
+small g.same (suc zero) = omega arith
+small g.same (suc (suc k)) = omega arith
+small g.span zero = omega arith
+small g.span (suc k) = omega arith
+small g.apart zero = omega arith
+small g.apart (suc zero) = omega arith
+small g.apart (suc (suc zero)) = omega arith
+small g.apart (suc (suc (suc zero))) = omega arith
+small g.apart (suc (suc (suc (suc k)))) = omega arith
+
+few : (w : g.Word) → arity w ≤ 4
+few g.near = omega arith
+few g.before = omega arith
+few g.same = omega arith
+few g.span = omega arith
+few g.apart = omega arith
+
+condition-length : (c : Condition) → ConditionFits c → length (conditionText c) ≤ 26
+condition-length c h =
+    let n = h .count in
+    let a = few (c .word) in
+    let l = lead-length 32 (c .numbers) (λ i k. let m = h .within i k in let s = small (c .word) i in omega arith) in
+    omega arith
+
+conditions-length : (cs : List Condition) → ((i : ℕ) → i < length cs → ConditionFits (getD cs i noCondition)) → length (joined (map conditionText cs)) ≤ 26 * length cs
+unfolding joined
+conditions-length [] h = omega arith
+conditions-length (c ∷ cs) h =
+    let a = condition-length c (h 0 (omega arith)) in
+    let b = conditions-length cs (λ i l. h (suc i) (omega arith)) in
+    let e = length-append (conditionText c) (joined (map conditionText cs)) in
+    omega arith
+
+figure-length : (f : Pattern) → FigureFits (figureOf f) → length (figureText (figureOf f)) ≤ 26 * length (patternRows f)
+unfolding figureText openText
+figure-length f h =
+    let a = lead-length 91 (f .vars) (h .within) in
+    let b = conditions-length (map conditionOf (f .predicates)) (h .conditions) in
+    let m : length (map conditionOf (f .predicates)) ≡ length (f .predicates) = length-map (f .predicates) conditionOf in
+    let x = length-append (lead 91 (f .vars)) (joined (map conditionText (map conditionOf (f .predicates)))) in
+    let y = length-append (lead 91 (f .vars) ++ joined (map conditionText (map conditionOf (f .predicates)))) (93 ∷ []) in
+    let u = length-append (map voice (f .vars)) (map condition (f .predicates)) in
+    let v = length-append (map voice (f .vars) ++ map condition (f .predicates)) (end ∷ []) in
+    let p : length (map voice (f .vars)) ≡ length (f .vars) = length-map (f .vars) voice in
+    let q : length (map condition (f .predicates)) ≡ length (f .predicates) = length-map (f .predicates) condition in
+    omega arith
+
+record Short (q : Query) : Type 0 where
+  line : length (written (typed q .line)) ≤ 26 * length (queryRows q)
+  part : length (partText (typed q .part)) ≤ 26 * length (queryRows q)
+  item : length (itemText (typed q .item)) ≤ 26 * length (queryRows q)
+
+node-rows : (o : Operator) (a b : Query) → length (queryRows (node o a b)) ≡ length (queryRows a) + length (queryRows b) + 1
+unfolding queryRows
+node-rows o a b = let e = length-append (queryRows a) (queryRows b ++ operatorRow o) in let f = length-append (queryRows b) (operatorRow o) in omega arith
+
+-- two texts with a byte between them, in brackets and without
+bracketed : (x y : List ℕ) (j n : ℕ) → length x + length y + 3 ≤ n → (length (x ++ (j ∷ y)) ≤ n) × (length (40 ∷ ((x ++ (j ∷ y)) ++ (41 ∷ []))) ≤ n)
+bracketed x y j n h = let e = length-append x (j ∷ y) in let f = length-append (x ++ (j ∷ y)) (41 ∷ []) in (omega arith, omega arith)
+
+typed-length : (q : Query) → TypedFits q → (t : ℕ) → t ≤ 65536 → Made t q → Short q
+unfolding typed written Made queryRows Fits
+typed-length (leaf f) w t l h = let e = figure-length f (w .item) in record { line = e; part = e; item = e }
+typed-length (node Both a b) w t l h =
+    let x = typed-length a (typed-fits t a l (h .0)) t l (h .0) .part in
+    let y = typed-length b (typed-fits t b l (h .1)) t l (h .1) .item in
+    let r = node-rows Both a b in
+    let z = bracketed (partText (typed a .part)) (itemText (typed b .item)) 38 (26 * length (queryRows (node Both a b))) (omega arith) in
+    record { line = z .0; part = z .0; item = z .1 }
+typed-length (node Either a b) w t l h =
+    let x = typed-length a (typed-fits t a l (h .0)) t l (h .0) .line in
+    let y = typed-length b (typed-fits t b l (h .1)) t l (h .1) .part in
+    let r = node-rows Either a b in
+    let z = bracketed (written (typed a .line)) (partText (typed b .part)) 124 (26 * length (queryRows (node Either a b))) (omega arith) in
+    record { line = z .0; part = z .1; item = z .1 }
+typed-length (node FirstNotSecond a b) w t l h =
+    let x = typed-length a (typed-fits t a l (h .0)) t l (h .0) .part in
+    let y = typed-length b (typed-fits t b l (h .1)) t l (h .1) .item in
+    let r = node-rows FirstNotSecond a b in
+    let z = bracketed (partText (typed a .part)) (itemText (typed b .item)) 33 (26 * length (queryRows (node FirstNotSecond a b))) (omega arith) in
+    record { line = z .0; part = z .0; item = z .1 }
+
+-- a way through eight brackets is what is read
+pub steps-outcome : (s r : List ℕ) (c d : Config) (q : ℕ) → Steps 8 c s d → outcome c q (s ++ r) ≡ outcome d (q + length s) r
+unfolding Steps outcome
+steps-outcome [] r c d q p = ap₂ (λ (x : Config) (k : ℕ). outcome x k r) p (let e : q ≡ q + 0 = omega arith in e)
+steps-outcome (b ∷ s) r c d q p =
+    ap (λ (o : Option Config). continued o q (λ x. outcome x (suc q) (s ++ r))) (p .1)
+    ∙ ap (λ (t : Bool). cond t (deep q) (outcome (p .0) (suc q) (s ++ r))) (le-ltb 8 (length (openIn (p .0))) (p .2))
+    ∙ steps-outcome s r (p .0) d (suc q) (p .3)
+    ∙ ap (λ (k : ℕ). outcome d k r) (let e : suc q + length s ≡ q + suc (length s) = omega arith in e)
+
+pub line-read : (l : Line) → Fits l → depth l ≤ 8 → reading (written l) ≡ whole l
+unfolding outcome
+line-read l h k =
+    ap (outcome start 0) (sym (append-nil (written l)))
+    ∙ steps-outcome (written l) [] start (after (frontOf l) (lastOf l) []) 0 (line-steps l 8 [] h (omega arith))
+    ∙ ap whole (line-again l)
+
+-- what holds of the line of an accepted plan
+pub record PlanLine (v p : List ℕ) : Type 0 where
+  pub fits : Fits (planLine p)
+  pub shallow : depth (planLine p) ≤ 8
+  pub rows : lineRows (planLine p) ≡ rowsOf p
+  pub short : length (planText p) ≤ 2048
+  pub reads : reading (planText p) ≡ whole (planLine p)
+  pub words : wordsOfLine (planText p) ≡ p
+  -- no line with these rows has fewer round brackets
+  pub fewest : (l : Line) → lineRows l ≡ rowsOf p → rounds (planLine p) ≤ rounds l
+
+module _ (v p : List ℕ) (ok : Accepted v p) (few-lists : listCount v ≤ 1024) where
+  w : Given v p
+  w = given v p ok
+
+  tree : queryRows (queryOf (rowsOf p)) ≡ rowsOf p
+  tree = plan-tree (listCount v) p (verdict-passed v p (sizes p) ok)
+
+  patterns : patternsOf (rowsOf p) ≡ leaves (queryOf (rowsOf p))
+  patterns = ap patternsOf (sym tree) ∙ patterns-are (queryOf (rowsOf p))
+
+  all-made : Made (listCount v) (queryOf (rowsOf p))
+  unfolding sizes
+  all-made = made (listCount v) (queryOf (rowsOf p)) (subst (Each (WellMade (listCount v)) noRow) patterns (w .well-made))
+
+  eight : length (leaves (queryOf (rowsOf p))) ≤ 8
+  unfolding sizes
+  eight = subst (λ (fs : List Pattern). length fs ≤ 8) patterns (w .most-patterns)
+
+  pub plan-line : PlanLine v p
+  unfolding planText planLine wordsOfLine
+  plan-line =
+      let t : listCount v ≤ 65536 = omega arith in
+      let f = typed-fits (listCount v) (queryOf (rowsOf p)) t all-made in
+      let d = shallow (queryOf (rowsOf p)) .line in
+      let e = eight in
+      let s = typed-length (queryOf (rowsOf p)) f (listCount v) t all-made .line in
+      let n = ap length tree in
+      let m = w .most-rows in
+      let c : length (rowsOf p) ≡ rowCount p = length-run (rowAt p) 0 (rowCount p) in
+      let r = line-read (typed (queryOf (rowsOf p)) .line) (f .line) (omega arith) in
+      record {
+        fits = f .line;
+        shallow = omega arith;
+        rows = typed-rows (queryOf (rowsOf p)) ∙ tree;
+        short = omega arith;
+        reads = r;
+        words = ap wordsBy r ∙ ap planOf (typed-rows (queryOf (rowsOf p)) ∙ tree) ∙ sym (w .words);
+        fewest = λ l x. fewest-rounds (queryOf (rowsOf p)) l (x ∙ sym tree);
+      }
+
+-- the same for every accepted plan
+pub accepted-line : (v p : List ℕ) → Accepted v p → PlanLine v p
+accepted-line v p ok = plan-line v p ok (good v (given v p ok .volume-accepted) .lists-most)

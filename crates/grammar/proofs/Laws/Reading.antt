@@ -1,0 +1,303 @@
+-- What has been read is what the text says: the laws of `step` and `shown`.
+use Prim.Native.Nat.{ℕ, zero, suc, _+_, _-_, _*_, _<_, _≤_}
+use native.Mathlib.Omega.{arith}
+use mathlib.Core.Path.{_≡_, refl, sym, ap, ap₂, _∙_}
+use mathlib.Core.Bool.{Bool, true, false, cond, _&&_}
+use mathlib.Core.Logic.{⊎-elim}
+use mathlib.Core.List.{List, [], _∷_, _++_, map, append-assoc, append-nil}
+use mathlib.Core.Option.{Option, none, some}
+use lib.Dec.{eqb, leb, ltb}
+use lib.ListN.{length, getD}
+use borrow.Author.Tests.{ltb-true, ltb-false, leb-true, eqb-true}
+use Rattle.seq.specs.Lists.{joined}
+use Rattle.seq.proofs.Laws.Tests.{both}
+use Rattle.seq.proofs.Laws.Lists.{joined-append, each-snoc, length-snoc}
+use Rattle.seq.specs.Decimal.{digit, decimal}
+use Rattle.grammar.specs.Text.{lead, gapAfter}
+use Rattle.grammar.specs.Grammar as g
+use Rattle.grammar.specs.Grammar.{Word, Condition, Figure, Joint, Line, Part, Item, letterOf, arity, mostOf, conditionText, openText, figureText, written, partText, itemText, Within, ConditionFits, FigureFits, Fits, PartFits, ItemFits, noCondition, jointByte}
+use Rattle.grammar.specs.Reading.{Number, fresh, digits, valueOf, mayGrow, isDigit, grown, grows, Partial, listing, semicolon, lettered, counting, Next, goes, closes, stuck, firstLists, withCondition, behind, ending, stepIn, Front, bare, eithers, Place, first, next, Config, ready, inside, after, start, lineOf, placed, shut, within, step, numberText, partialText, frontText, placeText, openedText, shown}
+use Rattle.seq.proofs.Laws.Decimal.{decimal-digit, decimal-grow}
+use Rattle.grammar.proofs.Laws.Text.{lead-behind}
+
+-- a statement on either branch
+pub split : {A : Type 0} (P : A → Type 0) (t : Bool) (x y : A) → (t ≡ true → P x) → (t ≡ false → P y) → P (cond t x y)
+split P true x y f h = f refl
+split P false x y f h = h refl
+
+-- what `grows` tells
+pub record Grows (most : ℕ) (x : Number) (b : ℕ) : Type 0 where
+  pub low : 48 ≤ b
+  pub high : b ≤ 57
+  pub may : mayGrow x ≡ true
+  pub small : grown x b ≤ most
+
+pub grows-tells : (most : ℕ) (x : Number) (b : ℕ) → grows most x b ≡ true → Grows most x b
+unfolding grows
+grows-tells most x b e =
+    let d = both (isDigit b) (mayGrow x && leb (grown x b) most) e in
+    let r = both (leb 48 b) (leb b 57) (d .0) in
+    let m = both (mayGrow x) (leb (grown x b) most) (d .1) in
+    record { low = leb-true 48 b (r .0); high = leb-true b 57 (r .1); may = m .0; small = leb-true (grown x b) most (m .1) }
+
+grow-text : (a : ℕ) (ns : List ℕ) (most : ℕ) (x : Number) (b : ℕ) → Grows most x b → numberText a ns (digits (grown x b)) ≡ numberText a ns x ++ (b ∷ [])
+grow-text a ns most fresh b w =
+    let l = w .low in
+    let h = w .high in
+    let e : digit (grown fresh b) ≡ b = omega arith in
+    lead-behind a ns (grown fresh b)
+    ∙ ap (λ (xs : List ℕ). lead a ns ++ (gapAfter a ns ∷ xs)) (decimal-digit (grown fresh b) (omega arith) ∙ ap (λ (k : ℕ). k ∷ []) e)
+    ∙ sym (append-assoc (lead a ns) (gapAfter a ns ∷ []) (b ∷ []))
+grow-text a ns most (digits n) b w =
+    let l = w .low in
+    let h = w .high in
+    let p = ltb-true 0 n (w .may) in
+    let e : digit (b - 48) ≡ b = omega arith in
+    lead-behind a ns (grown (digits n) b)
+    ∙ ap (λ (xs : List ℕ). lead a ns ++ (gapAfter a ns ∷ xs)) (decimal-grow n (b - 48) p (omega arith) ∙ ap (λ (k : ℕ). decimal n ++ (k ∷ [])) e)
+    ∙ sym (append-assoc (lead a ns) (gapAfter a ns ∷ decimal n) (b ∷ []))
+    ∙ ap (λ (xs : List ℕ). xs ++ (b ∷ [])) (sym (lead-behind a ns n))
+
+-- numbers within limits, with one more
+pub within-behind : (most : ℕ → ℕ) (ns : List ℕ) (n : ℕ) → Within most ns → n ≤ most (length ns) → Within most (behind ns n)
+within-behind most [] n h k zero l = k
+within-behind most [] n h k (suc i) l = absurd (let z : ⊥ = omega arith in z)
+within-behind most (m ∷ ns) n h k zero l = h 0 (omega arith)
+within-behind most (m ∷ ns) n h k (suc i) l = within-behind (λ j. most (suc j)) ns n (λ j q. h (suc j) (omega arith)) k i (omega arith)
+
+-- what has been read keeps to the grammar's limits
+abbrev pub NumberFits : ℕ → Number → Type 0
+NumberFits most fresh = Unit
+NumberFits most (digits n) = n ≤ most
+
+pub record Listed (ns : List ℕ) (x : Number) : Type 0 where
+  pub numbers : Within (λ i. 65536) ns
+  pub last : NumberFits 65536 x
+
+pub record Counted (f : Figure) (w : Word) (ns : List ℕ) (x : Number) : Type 0 where
+  pub of : FigureFits f
+  pub room : length ns < arity w
+  pub numbers : Within (mostOf w) ns
+  pub last : NumberFits (mostOf w (length ns)) x
+
+abbrev pub PartialFits : Partial → Type 0
+PartialFits (listing ns x) = Listed ns x
+PartialFits (semicolon f) = FigureFits f
+PartialFits (lettered f w) = FigureFits f
+PartialFits (counting f w ns x) = Counted f w ns x
+
+-- the next byte of a figure
+abbrev pub NextTold : List ℕ → Next → Type 0
+NextTold s (goes f) = (partialText f ≡ s) × PartialFits f
+NextTold s (closes f) = (figureText f ≡ s) × FigureFits f
+NextTold s stuck = Unit
+
+lists-fit : (ns : List ℕ) (n : ℕ) → Listed ns (digits n) → FigureFits (firstLists (behind ns n))
+lists-fit ns n h = record {
+  some-list = let e = length-snoc ns n in omega arith;
+  within = within-behind (λ i. 65536) ns n (h .numbers) (h .last);
+  conditions = λ i l. absurd (let z : ⊥ = omega arith in z);
+}
+
+condition-fits : (f : Figure) (w : Word) (ns : List ℕ) (n : ℕ) → Counted f w ns (digits n) → (ltb (length ns + 1) (arity w) ≡ false) → FigureFits (withCondition f w (behind ns n))
+condition-fits f w ns n h e = record {
+  some-list = h .of .some-list;
+  within = h .of .within;
+  conditions = each-snoc ConditionFits noCondition (record { word = w; numbers = behind ns n }) (f .conditions) (h .of .conditions)
+      (record {
+        count = let l = ltb-false (length ns + 1) (arity w) e in let r = h .room in let s = length-snoc ns n in omega arith;
+        within = within-behind (mostOf w) ns n (h .numbers) (h .last);
+      });
+}
+
+open-lists : (ns : List ℕ) → openText (firstLists ns) ≡ lead 91 ns
+unfolding openText joined
+open-lists ns = append-nil (lead 91 ns)
+
+map-snoc : (cs : List Condition) (c : Condition) → joined (map conditionText (cs ++ (c ∷ []))) ≡ joined (map conditionText cs) ++ conditionText c
+unfolding joined
+map-snoc [] c = append-nil (conditionText c)
+map-snoc (d ∷ cs) c = ap (λ (l : List ℕ). conditionText d ++ l) (map-snoc cs c) ∙ sym (append-assoc (conditionText d) (joined (map conditionText cs)) (conditionText c))
+
+open-condition : (f : Figure) (w : Word) (ns : List ℕ) → openText (withCondition f w ns) ≡ openText f ++ (59 ∷ letterOf w ∷ lead 32 ns)
+unfolding openText
+open-condition f w ns =
+    ap (λ (l : List ℕ). lead 91 (f .lists) ++ l) (map-snoc (f .conditions) (record { word = w; numbers = ns }))
+    ∙ sym (append-assoc (lead 91 (f .lists)) (joined (map conditionText (f .conditions))) (59 ∷ letterOf w ∷ lead 32 ns))
+
+ending-told : (f : Figure) (b : ℕ) → FigureFits f → NextTold (openText f ++ (b ∷ [])) (ending f b)
+unfolding partialText figureText
+ending-told f b h =
+    split (NextTold (openText f ++ (b ∷ []))) (eqb b 59) _ _
+    (λ e. (ap (λ (k : ℕ). openText f ++ (k ∷ [])) (sym (eqb-true b 59 e)), h))
+    (λ n. split (NextTold (openText f ++ (b ∷ []))) (eqb b 93) _ _ (λ e. (ap (λ (k : ℕ). openText f ++ (k ∷ [])) (sym (eqb-true b 93 e)), h)) (λ m. tt))
+
+gap-32 : (ns : List ℕ) → gapAfter 32 ns ≡ 32
+gap-32 [] = refl
+gap-32 (x ∷ xs) = refl
+
+gap-behind : (a : ℕ) (ns : List ℕ) (n : ℕ) → gapAfter a (behind ns n) ≡ 32
+gap-behind a [] n = refl
+gap-behind a (x ∷ xs) n = refl
+
+pub stepIn-told : (f : Partial) (b : ℕ) → PartialFits f → NextTold (partialText f ++ (b ∷ [])) (stepIn f b)
+unfolding stepIn partialText
+stepIn-told (listing ns fresh) b h =
+    split (NextTold (numberText 91 ns fresh ++ (b ∷ []))) (grows 65536 fresh b) _ _
+    (λ e. let w = grows-tells 65536 fresh b e in (grow-text 91 ns 65536 fresh b w, record { numbers = h .numbers; last = w .small }))
+    (λ e. tt)
+stepIn-told (listing ns (digits n)) b h =
+    split (NextTold (numberText 91 ns (digits n) ++ (b ∷ []))) (grows 65536 (digits n) b) _ _
+    (λ e. let w = grows-tells 65536 (digits n) b e in (grow-text 91 ns 65536 (digits n) b w, record { numbers = h .numbers; last = w .small }))
+    (λ e. split (NextTold (numberText 91 ns (digits n) ++ (b ∷ []))) (eqb b 32) _ _
+    (λ q. (ap (λ (k : ℕ). lead 91 (behind ns n) ++ (k ∷ [])) (gap-behind 91 ns n ∙ sym (eqb-true b 32 q)), record { numbers = within-behind (λ i. 65536) ns n (h .numbers) (h .last); last = tt }))
+    (λ q. rw (open-lists (behind ns n)) at (ending-told (firstLists (behind ns n)) b (lists-fit ns n h))))
+stepIn-told (semicolon f) b h =
+    split (NextTold ((openText f ++ (59 ∷ [])) ++ (b ∷ []))) (eqb b 110) _ _ (λ e. (letter-text f g.near b e, h))
+    (λ _. split (NextTold ((openText f ++ (59 ∷ [])) ++ (b ∷ []))) (eqb b 98) _ _ (λ e. (letter-text f g.before b e, h))
+    (λ _. split (NextTold ((openText f ++ (59 ∷ [])) ++ (b ∷ []))) (eqb b 116) _ _ (λ e. (letter-text f g.same b e, h))
+    (λ _. split (NextTold ((openText f ++ (59 ∷ [])) ++ (b ∷ []))) (eqb b 115) _ _ (λ e. (letter-text f g.span b e, h))
+    (λ _. split (NextTold ((openText f ++ (59 ∷ [])) ++ (b ∷ []))) (eqb b 97) _ _ (λ e. (letter-text f g.apart b e, h))
+    (λ _. tt)))))
+  where
+    letter-text : (f : Figure) (w : Word) (b : ℕ) → eqb b (letterOf w) ≡ true → openText f ++ (59 ∷ letterOf w ∷ []) ≡ (openText f ++ (59 ∷ [])) ++ (b ∷ [])
+    letter-text f w b e = ap (λ (k : ℕ). openText f ++ (59 ∷ k ∷ [])) (sym (eqb-true b (letterOf w) e)) ∙ sym (append-assoc (openText f) (59 ∷ []) (b ∷ []))
+stepIn-told (lettered f w) b h =
+    split (NextTold ((openText f ++ (59 ∷ letterOf w ∷ [])) ++ (b ∷ []))) (eqb b 32) _ _
+    (λ e. (
+      ap (λ (k : ℕ). openText f ++ (59 ∷ letterOf w ∷ k ∷ [])) (sym (eqb-true b 32 e)) ∙ sym (append-assoc (openText f) (59 ∷ letterOf w ∷ []) (b ∷ [])),
+      record { of = h; room = some w; numbers = λ i l. absurd (let z : ⊥ = omega arith in z); last = tt },
+    ))
+    (λ e. tt)
+  where
+    some : (w : Word) → 0 < arity w
+    some g.near = omega arith
+    some g.before = omega arith
+    some g.same = omega arith
+    some g.span = omega arith
+    some g.apart = omega arith
+stepIn-told (counting f w ns fresh) b h =
+    let most = mostOf w (length ns) in
+    split (NextTold ((openText f ++ (59 ∷ letterOf w ∷ numberText 32 ns fresh)) ++ (b ∷ []))) (grows most fresh b) _ _
+    (λ e. let r = grows-tells most fresh b e in (
+      ap (λ (l : List ℕ). openText f ++ (59 ∷ letterOf w ∷ l)) (grow-text 32 ns most fresh b r) ∙ sym (append-assoc (openText f) (59 ∷ letterOf w ∷ numberText 32 ns fresh) (b ∷ [])),
+      record { of = h .of; room = h .room; numbers = h .numbers; last = r .small },
+    ))
+    (λ e. tt)
+stepIn-told (counting f w ns (digits n)) b h =
+    let most = mostOf w (length ns) in
+    split (NextTold ((openText f ++ (59 ∷ letterOf w ∷ numberText 32 ns (digits n))) ++ (b ∷ []))) (grows most (digits n) b) _ _
+    (λ e. let r = grows-tells most (digits n) b e in (
+      ap (λ (l : List ℕ). openText f ++ (59 ∷ letterOf w ∷ l)) (grow-text 32 ns most (digits n) b r) ∙ sym (append-assoc (openText f) (59 ∷ letterOf w ∷ numberText 32 ns (digits n)) (b ∷ [])),
+      record { of = h .of; room = h .room; numbers = h .numbers; last = r .small },
+    ))
+    (λ e. split (NextTold ((openText f ++ (59 ∷ letterOf w ∷ numberText 32 ns (digits n))) ++ (b ∷ []))) (ltb (length ns + 1) (arity w)) _ _
+    (λ m. split (NextTold ((openText f ++ (59 ∷ letterOf w ∷ numberText 32 ns (digits n))) ++ (b ∷ []))) (eqb b 32) _ _
+    (λ q. (
+      ap (λ (k : ℕ). openText f ++ (59 ∷ letterOf w ∷ (lead 32 (behind ns n) ++ (k ∷ [])))) (gap-32 (behind ns n) ∙ sym (eqb-true b 32 q)) ∙ sym (append-assoc (openText f) (59 ∷ letterOf w ∷ lead 32 (behind ns n)) (b ∷ [])),
+      record { of = h .of; room = let e = length-snoc ns n in let l = ltb-true (length ns + 1) (arity w) m in omega arith; numbers = within-behind (mostOf w) ns n (h .numbers) (h .last); last = tt },
+    ))
+    (λ q. tt))
+    (λ m. rw (open-condition f w (behind ns n)) at (ending-told (withCondition f w (behind ns n)) b (condition-fits f w ns n h m))))
+
+abbrev pub FrontFits : Front → Type 0
+FrontFits bare = Unit
+FrontFits (eithers l) = Fits l
+
+abbrev pub PlaceFits : Place → Type 0
+PlaceFits (first f) = FrontFits f
+PlaceFits (next f p j) = FrontFits f × PartFits p
+
+unfoldable pub PlacesFit : List Place → Type 0
+PlacesFit [] = Unit
+PlacesFit (p ∷ ps) = PlaceFits p × PlacesFit ps
+
+-- all that has been read keeps to the limits
+abbrev pub Sound : Config → Type 0
+Sound (ready p ps) = PlaceFits p × PlacesFit ps
+Sound (inside f p ps) = PartialFits f × PlaceFits p × PlacesFit ps
+Sound (after f p ps) = FrontFits f × PartFits p × PlacesFit ps
+
+abbrev pub StepTold : List ℕ → Option Config → Type 0
+StepTold s none = Unit
+StepTold s (some c) = (shown c ≡ s) × Sound c
+
+pub line-text : (f : Front) (p : Part) → written (lineOf f p) ≡ frontText f ++ partText p
+unfolding written
+line-text bare p = refl
+line-text (eithers l) p = sym (append-assoc (written l) (124 ∷ []) (partText p))
+
+pub line-fits : (f : Front) (p : Part) → FrontFits f → PartFits p → Fits (lineOf f p)
+unfolding Fits
+line-fits bare p h k = k
+line-fits (eithers l) p h k = (h, k)
+
+placed-text : (p : Place) (i : Item) (ps : List Place) → shown (placed p i ps) ≡ openedText ps ++ (placeText p ++ itemText i)
+unfolding shown written
+placed-text (first f) i ps = refl
+placed-text (next f q j) i ps =
+    ap (λ (l : List ℕ). openedText ps ++ l)
+    (ap (λ (l : List ℕ). frontText f ++ l) (sym (append-assoc (partText q) (jointByte j ∷ []) (itemText i))) ∙ sym (append-assoc (frontText f) (partText q ++ (jointByte j ∷ [])) (itemText i)))
+
+placed-sound : (p : Place) (i : Item) (ps : List Place) → PlaceFits p → ItemFits i → PlacesFit ps → Sound (placed p i ps)
+unfolding Fits
+placed-sound (first f) i ps h k m = (h, k, m)
+placed-sound (next f q j) i ps h k m = (h .0, (h .1, k), m)
+
+-- a byte behind what has been read
+snoc-last : (a c : List ℕ) (b : ℕ) → a ++ (c ++ (b ∷ [])) ≡ (a ++ c) ++ (b ∷ [])
+snoc-last a c b = sym (append-assoc a c (b ∷ []))
+
+inside-told : (f : Next) (p : Place) (ps : List Place) (s : List ℕ) (b : ℕ) → NextTold (s ++ (b ∷ [])) f → PlaceFits p → PlacesFit ps
+    → StepTold ((openedText ps ++ (placeText p ++ s)) ++ (b ∷ [])) (within f p ps)
+unfolding shown written Fits
+inside-told (goes f) p ps s b h k m = (
+  ap (λ (l : List ℕ). openedText ps ++ (placeText p ++ l)) (h .0) ∙ ap (λ (l : List ℕ). openedText ps ++ l) (snoc-last (placeText p) s b) ∙ snoc-last (openedText ps) (placeText p ++ s) b,
+  (h .1, k, m),
+)
+inside-told (closes f) p ps s b h k m = (
+  placed-text p (g.figure f) ps ∙ ap (λ (l : List ℕ). openedText ps ++ (placeText p ++ l)) (h .0) ∙ ap (λ (l : List ℕ). openedText ps ++ l) (snoc-last (placeText p) s b) ∙ snoc-last (openedText ps) (placeText p ++ s) b,
+  placed-sound p (g.figure f) ps k (h .1) m,
+)
+inside-told stuck p ps s b h k m = tt
+
+shut-told : (f : Front) (q : Part) (ps : List Place) (b : ℕ) → b ≡ 41 → FrontFits f → PartFits q → PlacesFit ps → StepTold (shown (after f q ps) ++ (b ∷ [])) (shut (lineOf f q) ps)
+unfolding shown written Fits PlacesFit
+shut-told f q [] b e h k m = tt
+shut-told f q (p ∷ ps) b e h k m = (
+  placed-text p (g.round (lineOf f q)) ps
+      ∙ ap (λ (l : List ℕ). openedText ps ++ (placeText p ++ (40 ∷ (l ++ (41 ∷ []))))) (line-text f q)
+      ∙ ap (λ (x : ℕ). openedText ps ++ (placeText p ++ (40 ∷ ((frontText f ++ partText q) ++ (x ∷ []))))) (sym e)
+      ∙ simp append-assoc,
+  placed-sound p (g.round (lineOf f q)) ps (m .0) (line-fits f q h k) (m .1),
+)
+
+-- one more byte: what has been read is the text with that byte behind it, and keeps to the limits
+pub step-told : (c : Config) (b : ℕ) → Sound c → StepTold (shown c ++ (b ∷ [])) (step c b)
+unfolding step shown partialText PlacesFit Fits written
+step-told (ready p ps) b h =
+    split (StepTold ((openedText ps ++ placeText p) ++ (b ∷ []))) (eqb b 40) _ _
+    (λ e. (append-nil (openedText ps ++ (placeText p ++ (40 ∷ []))) ∙ ap (λ (x : ℕ). openedText ps ++ (placeText p ++ (x ∷ []))) (sym (eqb-true b 40 e)) ∙ snoc-last (openedText ps) (placeText p) b, (tt, h)))
+    (λ _. split (StepTold ((openedText ps ++ placeText p) ++ (b ∷ []))) (eqb b 91) _ _
+    (λ e. (
+      ap (λ (x : ℕ). openedText ps ++ (placeText p ++ (x ∷ []))) (sym (eqb-true b 91 e)) ∙ snoc-last (openedText ps) (placeText p) b,
+      (record { numbers = λ i l. absurd (let z : ⊥ = omega arith in z); last = tt }, h .0, h .1),
+    ))
+    (λ _. tt))
+step-told (inside f p ps) b h = inside-told (stepIn f b) p ps (partialText f) b (stepIn-told f b (h .0)) (h .1) (h .2)
+step-told (after f q ps) b h =
+    split (StepTold ((openedText ps ++ (frontText f ++ partText q)) ++ (b ∷ []))) (eqb b 124) _ _
+    (λ e. (
+      ap (λ (l : List ℕ). openedText ps ++ (l ++ (124 ∷ []))) (line-text f q) ∙ ap (λ (x : ℕ). openedText ps ++ ((frontText f ++ partText q) ++ (x ∷ []))) (sym (eqb-true b 124 e)) ∙ snoc-last (openedText ps) (frontText f ++ partText q) b,
+      (line-fits f q (h .0) (h .1), h .2),
+    ))
+    (λ _. split (StepTold ((openedText ps ++ (frontText f ++ partText q)) ++ (b ∷ []))) (eqb b 38) _ _
+    (λ e. (joint-text g.both e, ((h .0, h .1), h .2)))
+    (λ _. split (StepTold ((openedText ps ++ (frontText f ++ partText q)) ++ (b ∷ []))) (eqb b 33) _ _
+    (λ e. (joint-text g.without e, ((h .0, h .1), h .2)))
+    (λ _. split (StepTold ((openedText ps ++ (frontText f ++ partText q)) ++ (b ∷ []))) (eqb b 41) _ _
+    (λ e. shut-told f q ps b (eqb-true b 41 e) (h .0) (h .1) (h .2))
+    (λ _. tt))))
+  where
+    joint-text : (j : Joint) → eqb b (jointByte j) ≡ true → openedText ps ++ (frontText f ++ (partText q ++ (jointByte j ∷ []))) ≡ (openedText ps ++ (frontText f ++ partText q)) ++ (b ∷ [])
+    joint-text j e = ap (λ (x : ℕ). openedText ps ++ (frontText f ++ (partText q ++ (x ∷ [])))) (sym (eqb-true b (jointByte j) e)) ∙ ap (λ (l : List ℕ). openedText ps ++ l) (snoc-last (frontText f) (partText q) b) ∙ snoc-last (openedText ps) (frontText f ++ partText q) b

@@ -1,0 +1,145 @@
+-- The line of an accepted plan: it says the plan, keeps to the grammar's limits, and is read as the plan.
+use Prim.Native.Nat.{ℕ, zero, suc, _+_, _-_, _*_, _/_, _%_, _^_, max, _<_, _≤_}
+use native.Mathlib.Nat.{pow-suc}
+use native.Mathlib.Omega.{arith}
+use native.Mathlib.Numerals.{add-one}
+use mathlib.Core.Path.{_≡_, refl, sym, ap, ap₂, _∙_, subst}
+use mathlib.Core.Bool.{Bool, true, false, cond, true≢false, _&&_}
+use mathlib.Core.Logic.{⊎-elim}
+use mathlib.Core.List.{List, [], _∷_, _++_, map, append-assoc, append-nil, map-append}
+use mathlib.Core.Option.{Option, none, some}
+use lib.Dec.{ltb}
+use lib.ListN.{length, getD, length-append, length-map, List·getD-map}
+use borrow.Author.Tests.{le-ltb, ltb-true}
+use Rattle.seq.specs.Lists.{joined}
+use Rattle.seq.specs.Numbers.{run}
+use Rattle.seq.proofs.Laws.Tests.{below-or, both}
+use Rattle.seq.proofs.Laws.Lists.{length-snoc, Each, each-cons}
+use Rattle.plan.specs.declared.row.Predicate.{Predicate}
+use Rattle.plan.specs.declared.row.Predicate.the-variants.{Distance, Ordered, Samepara, Window, Proximity}
+use Rattle.plan.specs.declared.row.Operator.{Operator}
+use Rattle.plan.specs.declared.row.Operator.the-variants.{Both, Either, FirstNotSecond}
+use Rattle.plan.specs.declared.row.Kind.{Kind}
+use Rattle.plan.specs.declared.row.Kind.the-variants as kind
+use Rattle.plan.specs.declared.row.Row.{Row}
+use Rattle.plan.specs.declared.state.State.{State}
+use Rattle.plan.specs.Rows.{rowCount, rowAt, rowsOf, kindAt, aAt, bAt, cAt, planOf, InRange, formWrongAt}
+use Rattle.plan.specs.State.{initial, after, afterAll, stateAt, namesBelow, takes}
+use Rattle.plan.specs.Patterns.{Pattern, noRow, openAfter, closed, patternsFrom, patternsOf}
+use Rattle.plan.specs.Parts.{patternRows}
+use Rattle.plan.specs.Accepted.{WellMade}
+use Rattle.plan.proofs.Laws.Rows.{range-of}
+use Rattle.plan.proofs.Laws.State.{stateAt-first, stateAt-next, condition-stands, end-stands, operator-stands, takes-two}
+use Rattle.plan.proofs.Laws.Patterns.{Passes, PassAll}
+use Rattle.plan.proofs.Laws.Passed.{Passed}
+use Rattle.plan.proofs.Laws.Given.{all-pass}
+use Rattle.seq.specs.Decimal.{decimalF, decimal}
+use Rattle.grammar.specs.Text.{lead}
+use Rattle.grammar.specs.Grammar as g
+use Rattle.grammar.specs.Grammar.{Condition, Figure, Line, Part, Item, conditionText, openText, figureText, written, partText, itemText, ConditionFits, FigureFits, Fits, noCondition, arity, mostOf, Within}
+use Rattle.grammar.specs.Brackets.{depth, partDepth, itemDepth}
+use Rattle.grammar.specs.Meaning.{lineRows, operatorRow}
+use Rattle.grammar.specs.Query.{Query, leaf, node, queryRows, stackRows, topTwo, queriesAfter, queriesFrom, queryOf, conditionOf, figureOf, typed, planLine, planText}
+use Rattle.grammar.specs.Reading.{Config, after as behind, start, step, openIn, Outcome, whole, outcome, reading, ended, continued, bare, lineOf}
+use Rattle.grammar.proofs.Laws.Query.{voice, condition, end, query-alone, typed-rows}
+use Rattle.seq.proofs.Laws.Decimal.{decimal-one, decimal-more}
+use Rattle.grammar.proofs.Laws.Steps.{Steps, line-steps, frontOf, lastOf, line-again}
+
+-- the rows of a pattern without END, and the pattern left open behind rows
+abbrev openRows : Pattern → List Row
+openRows f = map voice (f .vars) ++ map condition (f .predicates)
+
+unfoldable openFrom : Pattern → List Row → Pattern
+openFrom f [] = f
+openFrom f (r ∷ rows) = openFrom (openAfter f (r .kind)) rows
+
+-- where the reading stands, with the open pattern and the stacked trees
+record Stacked (s : State) (f : Pattern) (qs : List Query) : Type 0 where
+  count : length (f .vars) ≡ s .vars
+  idle : s .vars ≡ 0 → f ≡ noRow
+  unbegun : s .begun ≡ false → f .predicates ≡ []
+  stack : length qs ≡ s .answers
+
+record Row-stacked (s : State) (f : Pattern) (qs : List Query) (k : Kind) : Type 0 where
+  next : Stacked (after s k) (openAfter f k) (queriesAfter f qs k)
+  rows : stackRows (queriesAfter f qs k) ++ openRows (openAfter f k) ≡ (stackRows qs ++ openRows f) ++ (record { kind = k } ∷ [])
+
+operator-stacked : (o : Operator) (s : State) (f : Pattern) (qs : List Query) → s .vars ≡ 0 → 2 ≤ length qs → Stacked s f qs → Row-stacked s f qs (kind.Operator o)
+unfolding stackRows queryRows
+operator-stacked o s f [] z l h = absurd (let x : ⊥ = omega arith in x)
+operator-stacked o s f (b ∷ []) z l h = absurd (let x : ⊥ = omega arith in x)
+operator-stacked o s f (b ∷ (a ∷ qs)) z l h =
+    let e = h .idle z in
+    let t = takes-two o in
+    let n = h .stack in
+    record {
+      next = record { count = h .count; idle = h .idle; unbegun = h .unbegun; stack = omega arith };
+      rows =
+          ap (λ (x : Pattern). stackRows (topTwo o (b ∷ (a ∷ qs))) ++ openRows x) e
+          ∙ append-nil (stackRows qs ++ (queryRows a ++ (queryRows b ++ operatorRow o)))
+          ∙ sym (append-assoc (stackRows qs) (queryRows a) (queryRows b ++ operatorRow o))
+          ∙ sym (append-assoc (stackRows qs ++ queryRows a) (queryRows b) (operatorRow o))
+          ∙ ap (λ (x : List Row). x ++ operatorRow o) (sym (append-nil ((stackRows qs ++ queryRows a) ++ queryRows b)))
+          ∙ ap (λ (x : Pattern). (stackRows (b ∷ (a ∷ qs)) ++ openRows x) ++ operatorRow o) (sym e);
+    }
+
+row-stacked : (t : ℕ) (s : State) (f : Pattern) (qs : List Query) (k : Kind) → Passes t s k → Stacked s f qs → Row-stacked s f qs k
+unfolding stackRows queryRows
+row-stacked t s f qs (kind.Voice list) p h =
+    let b : f .predicates ≡ [] = h .unbegun (p .ordered) in
+    record {
+      next = record { count = length-snoc (f .vars) list ∙ ap (λ (n : ℕ). n + 1) (h .count); idle = λ z. absurd (let q : ⊥ = omega arith in q); unbegun = λ x. b; stack = h .stack };
+      rows =
+          ap (λ (l : List Predicate). stackRows qs ++ (map voice (f .vars ++ (list ∷ [])) ++ map condition l)) b
+          ∙ ap (λ (l : List Row). stackRows qs ++ l) (append-nil (map voice (f .vars ++ (list ∷ []))) ∙ map-append voice (f .vars) (list ∷ []))
+          ∙ sym (append-assoc (stackRows qs) (map voice (f .vars)) (voice list ∷ []))
+          ∙ ap (λ (l : List Row). (stackRows qs ++ l) ++ (voice list ∷ [])) (sym (append-nil (map voice (f .vars))) ∙ ap (λ (l : List Predicate). map voice (f .vars) ++ map condition l) (sym b));
+    }
+row-stacked t s f qs (kind.Condition c) p h =
+    let w = condition-stands s c (p .ordered) in
+    record {
+      next = record { count = h .count; idle = λ z. absurd (w .0 z); unbegun = λ x. absurd (true≢false x); stack = h .stack };
+      rows =
+          ap (λ (l : List Row). stackRows qs ++ (map voice (f .vars) ++ l)) (map-append condition (f .predicates) (c ∷ []))
+          ∙ ap (λ (l : List Row). stackRows qs ++ l) (sym (append-assoc (map voice (f .vars)) (map condition (f .predicates)) (condition c ∷ [])))
+          ∙ sym (append-assoc (stackRows qs) (openRows f) (condition c ∷ []));
+    }
+row-stacked t s f qs kind.End p h = record {
+  next = record { count = refl; idle = λ z. refl; unbegun = λ x. refl; stack = let n = h .stack in omega arith };
+  rows = append-nil (stackRows qs ++ patternRows f) ∙ sym (append-assoc (stackRows qs) (openRows f) (end ∷ []));
+}
+row-stacked t s f qs (kind.Operator o) p h =
+    let w = operator-stands s o (p .ordered) in
+    let m : takes o ≤ s .answers = w .1 in
+    let n = h .stack in
+    let e = takes-two o in
+    operator-stacked o s f qs (w .0) (omega arith) h
+
+record All-stacked (s : State) (f : Pattern) (qs : List Query) (rs : List Row) : Type 0 where
+  last : Stacked (afterAll s rs) (openFrom f rs) (queriesFrom f qs rs)
+  rows : stackRows (queriesFrom f qs rs) ++ openRows (openFrom f rs) ≡ (stackRows qs ++ openRows f) ++ rs
+
+all-stacked : (t : ℕ) (rs : List Row) (s : State) (f : Pattern) (qs : List Query) → PassAll t s rs → Stacked s f qs → All-stacked s f qs rs
+unfolding PassAll afterAll queriesFrom openFrom
+all-stacked t [] s f qs p h = record { last = h; rows = sym (append-nil (stackRows qs ++ openRows f)) }
+all-stacked t (r ∷ rs) s f qs p h =
+    let a = row-stacked t s f qs (r .kind) (p .0) h in
+    let b = all-stacked t rs (after s (r .kind)) (openAfter f (r .kind)) (queriesAfter f qs (r .kind)) (p .1) (a .next) in
+    record { last = b .last; rows = b .rows ∙ ap (λ (l : List Row). l ++ rs) (a .rows) ∙ append-assoc (stackRows qs ++ openRows f) (r ∷ []) rs }
+
+-- a plan that passes every test is the rows of its tree
+module _ (t : ℕ) (p : List ℕ) (ok : Passed t p) where
+  pub plan-tree : queryRows (queryOf (rowsOf p)) ≡ rowsOf p
+  unfolding queryOf stateAt stackRows
+  plan-tree = go (queriesFrom noRow [] (rowsOf p)) refl (w .last .stack ∙ ok .single) (w .rows)
+    where
+      w : All-stacked initial noRow [] (rowsOf p)
+      w = all-stacked t (rowsOf p) initial noRow [] (all-pass t p ok) (record { count = refl; idle = λ z. refl; unbegun = λ b. refl; stack = refl })
+
+      none-open : openFrom noRow (rowsOf p) ≡ noRow
+      none-open = w .last .idle (ok .closed)
+
+      go : (qs : List Query) → queriesFrom noRow [] (rowsOf p) ≡ qs → length qs ≡ 1 → stackRows qs ++ openRows (openFrom noRow (rowsOf p)) ≡ rowsOf p → queryRows (getD qs 0 (leaf noRow)) ≡ rowsOf p
+      go [] e l r = absurd (let z : ⊥ = omega arith in z)
+      go (q ∷ []) e l r = sym (append-nil (queryRows q)) ∙ ap (λ (f : Pattern). queryRows q ++ openRows f) (sym none-open) ∙ r
+      go (q ∷ (x ∷ qs)) e l r = absurd (let z : ⊥ = omega arith in z)
