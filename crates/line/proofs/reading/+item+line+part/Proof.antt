@@ -1,0 +1,840 @@
+use Prim.Native.Nat.{ℕ, _+_, _-_, _*_, _<_, _≤_}
+use borrow.Author.Needs.{needs}
+use native.Mathlib.Omega.{arith}
+use mathlib.Core.Path.{_≡_, refl, sym, ap, _∙_, subst}
+use mathlib.Core.List.{List}
+use lib.ListN.{length, getD}
+use denote.Ref.{now}
+use Rattle.line.specs.Inner.Reads.{FigureRead, LineRead, PartRead, ItemRead, LineAt, PartAt, ItemAt, pendingRows}
+use Rattle.grammar.specs.Grammar as g
+use Rattle.line.specs.declared.reading.Reached.the-variants.{Broken, Deep, At}
+use Rattle.line.specs.declared.reading.Pending.the-variants as pending
+use Rattle.line.proofs.Laws.Reads as laws
+use borrow.Fn.Kinds.{In}
+use borrow.Fn.PlainCycle.{Measures, is, falls, and}
+use Rattle.line.proofs.reading.item.Reads as item
+use Rattle.line.proofs.reading.item.Kinds as item-kinds
+use Rattle.line.proofs.reading.+item+line+part.Lts-item as item-lts
+use Rattle.line.proofs.reading.line.Reads as line
+use Rattle.line.proofs.reading.line.Kinds as line-kinds
+use Rattle.line.proofs.reading.+item+line+part.Lts-line as line-lts
+use Rattle.line.proofs.reading.part.Reads as part
+use Rattle.line.proofs.reading.part.Kinds as part-kinds
+use Rattle.line.proofs.reading.+item+line+part.Lts-part as part-lts
+use Rattle.line.proofs.figure.figure.Reads as figure-reads
+use Rattle.line.proofs.reading.settle.Reads as settle-reads
+use Rattle.line.proofs.reading.+item+line+part.{statement}
+use Rattle.line.proofs.reading.+item+line+part.Tie.{close}
+
+abbrev μ-item : Measures 2 item-kinds.ps ℕ
+μ-item κs a = 3 * (length (a .0 .now) - a .1 .0) + 0
+
+abbrev μ-line : Measures 2 line-kinds.ps ℕ
+μ-line κs a = 3 * (length (a .0 .now) - a .1 .0) + 2
+
+abbrev μ-part : Measures 2 part-kinds.ps ℕ
+μ-part κs a = 3 * (length (a .0 .now) - a .1 .0) + 1
+
+abbrev item-at : ℕ → In 2 item-kinds.ps
+item-at t = and 2 item-kinds.ps (is 2 item-kinds.ps μ-item t) item.Pre
+
+abbrev item-below : ℕ → In 2 item-kinds.ps
+item-below t = and 2 item-kinds.ps (falls 2 item-kinds.ps _<_ μ-item t) item.Pre
+
+abbrev line-at : ℕ → In 2 line-kinds.ps
+line-at t = and 2 line-kinds.ps (is 2 line-kinds.ps μ-line t) line.Pre
+
+abbrev line-below : ℕ → In 2 line-kinds.ps
+line-below t = and 2 line-kinds.ps (falls 2 line-kinds.ps _<_ μ-line t) line.Pre
+
+abbrev part-at : ℕ → In 2 part-kinds.ps
+part-at t = and 2 part-kinds.ps (is 2 part-kinds.ps μ-part t) part.Pre
+
+abbrev part-below : ℕ → In 2 part-kinds.ps
+part-below t = and 2 part-kinds.ps (falls 2 part-kinds.ps _<_ μ-part t) part.Pre
+
+-- src/reading.rt:107:9
+item-returns : (t : ℕ) → item-lts.Need-returns (
+  figure-reads.Asked,
+  figure-reads.Learnt,
+  line-below t,
+  line.Post,
+) (item-at t) item.Post
+item-returns t c = let a = c .before .before .before .args in let s = now (a .text) in let o = now (a .out) in laws.item-out s (a .at) (a .depth) (a .first) o (c .if1 .taken)
+
+-- src/reading.rt:109:8
+item-shared-slice-read-if2 : (t : ℕ) → item-lts.Need-shared-slice-read-if2 (
+  figure-reads.Asked,
+  figure-reads.Learnt,
+  line-below t,
+  line.Post,
+) (item-at t) item.Post
+item-shared-slice-read-if2 t c = search needs
+
+-- src/reading.rt:110:29
+item-add-figure : (t : ℕ) → item-lts.Need-add-figure (
+  figure-reads.Asked,
+  figure-reads.Learnt,
+  line-below t,
+  line.Post,
+) (item-at t) item.Post
+item-add-figure t c = search needs
+
+-- src/reading.rt:110:9
+item-figure-requires : (t : ℕ) → item-lts.Need-figure-requires (
+  figure-reads.Asked,
+  figure-reads.Learnt,
+  line-below t,
+  line.Post,
+) (item-at t) item.Post
+item-figure-requires t c κs = search needs
+
+-- src/reading.rt:110:9
+item-same-length : (t : ℕ) → item-lts.Need-same-length (
+  figure-reads.Asked,
+  figure-reads.Learnt,
+  line-below t,
+  line.Post,
+) (item-at t) item.Post
+item-same-length t c = search needs
+
+-- src/reading.rt:110:9
+item-returns-2 : (t : ℕ) → item-lts.Need-returns-2 (
+  figure-reads.Asked,
+  figure-reads.Learnt,
+  line-below t,
+  line.Post,
+) (item-at t) item.Post
+item-returns-2 t c = let a = c .before .before .before .before .before .before .before .before .before .args in let s = now (a .text) in let o = now (a .out) in laws.item-figure s (a .at) (a .depth) (a .first) o (omega arith) (omega arith) (c .before .before .before .before .if2 .taken) (c .before .before .figure .last .1 .1 .1 .0) (c .before .before .figure .result) (c .before .before .figure .ensures)
+
+-- src/reading.rt:112:8
+item-shared-slice-read-if3 : (t : ℕ) → item-lts.Need-shared-slice-read-if3 (
+  figure-reads.Asked,
+  figure-reads.Learnt,
+  line-below t,
+  line.Post,
+) (item-at t) item.Post
+item-shared-slice-read-if3 t c = search needs
+
+-- src/reading.rt:113:9
+item-returns-3 : (t : ℕ) → item-lts.Need-returns-3 (
+  figure-reads.Asked,
+  figure-reads.Learnt,
+  line-below t,
+  line.Post,
+) (item-at t) item.Post
+item-returns-3 t c = let a = c .before .before .before .before .before .before .before .args in let s = now (a .text) in let o = now (a .out) in laws.item-none s (a .at) (a .depth) (a .first) o (omega arith) (omega arith) (c .before .before .if2 .left) (c .if3 .taken)
+
+-- src/reading.rt:116:9
+item-returns-4 : (t : ℕ) → item-lts.Need-returns-4 (
+  figure-reads.Asked,
+  figure-reads.Learnt,
+  line-below t,
+  line.Post,
+) (item-at t) item.Post
+item-returns-4 t c = let a = c .before .before .before .before .before .before .before .before .args in let s = now (a .text) in let o = now (a .out) in laws.item-deep s (a .at) (a .depth) (a .first) o (omega arith) (omega arith) (c .before .if3 .left) (c .if4 .taken)
+
+-- src/reading.rt:118:28
+item-add-line : (t : ℕ) → item-lts.Need-add-line (
+  figure-reads.Asked,
+  figure-reads.Learnt,
+  line-below t,
+  line.Post,
+) (item-at t) item.Post
+item-add-line t c = search needs
+
+-- src/reading.rt:118:36
+item-add-line-2 : (t : ℕ) → item-lts.Need-add-line-2 (
+  figure-reads.Asked,
+  figure-reads.Learnt,
+  line-below t,
+  line.Post,
+) (item-at t) item.Post
+item-add-line-2 t c = search needs
+
+-- src/reading.rt:118:9
+item-line-requires : (t : ℕ) → item-lts.Need-line-requires (
+  figure-reads.Asked,
+  figure-reads.Learnt,
+  line-below t,
+  line.Post,
+) (item-at t) item.Post
+item-line-requires t c κs = search needs
+
+-- src/reading.rt:120:25
+item-enum-known-inner : (t : ℕ) → item-lts.Need-enum-known-inner (
+  figure-reads.Asked,
+  figure-reads.Learnt,
+  line-below t,
+  line.Post,
+) (item-at t) item.Post
+item-enum-known-inner t c = search needs
+
+-- src/reading.rt:121:23
+item-enum-known-inner-2 : (t : ℕ) → item-lts.Need-enum-known-inner-2 (
+  figure-reads.Asked,
+  figure-reads.Learnt,
+  line-below t,
+  line.Post,
+) (item-at t) item.Post
+item-enum-known-inner-2 t c = search needs
+
+-- src/reading.rt:122:21
+item-enum-known-inner-3 : (t : ℕ) → item-lts.Need-enum-known-inner-3 (
+  figure-reads.Asked,
+  figure-reads.Learnt,
+  line-below t,
+  line.Post,
+) (item-at t) item.Post
+item-enum-known-inner-3 t c = search needs
+
+-- src/reading.rt:124:17
+item-same-length-2 : (t : ℕ) → item-lts.Need-same-length-2 (
+  figure-reads.Asked,
+  figure-reads.Learnt,
+  line-below t,
+  line.Post,
+) (item-at t) item.Post
+item-same-length-2 t c = search needs
+
+-- src/reading.rt:124:17
+item-returns-5 : (t : ℕ) → item-lts.Need-returns-5 (
+  figure-reads.Asked,
+  figure-reads.Learnt,
+  line-below t,
+  line.Post,
+) (item-at t) item.Post
+item-returns-5 t c = let a = c .before .before .before .before .before .before .before .before .before .before .before .before .before .before .before .before .args in let s = now (a .text) in let o = now (a .out) in let w : LineAt s (a .at + 1) (a .depth + 1) (a .first) pending.Nothing o (c .before .before .before .before .before .before .line .last .1 .1 .1 .1 .1 .0) (c .before .before .inner3 .given .0 .0) (c .before .before .inner3 .given .0 .1 .0) = subst (LineRead s (a .at + 1) (a .depth + 1) (a .first) pending.Nothing o (c .before .before .before .before .before .before .line .last .1 .1 .1 .1 .1 .0)) (c .before .before .inner3 .given .1) (c .before .before .before .before .before .before .line .ensures) in let z = w .rows in laws.item-open s (a .at) (a .depth) (a .first) o (omega arith) (omega arith) (c .before .before .before .before .before .before .before .before .before .if3 .left) (omega arith) (c .before .before .before .before .before .before .line .last .1 .1 .1 .1 .1 .0) _ _ w (c .if5 .taken)
+
+-- src/reading.rt:126:16
+item-shared-slice-read-if6 : (t : ℕ) → item-lts.Need-shared-slice-read-if6 (
+  figure-reads.Asked,
+  figure-reads.Learnt,
+  line-below t,
+  line.Post,
+) (item-at t) item.Post
+item-shared-slice-read-if6 t c = search needs
+
+-- src/reading.rt:127:17
+item-same-length-3 : (t : ℕ) → item-lts.Need-same-length-3 (
+  figure-reads.Asked,
+  figure-reads.Learnt,
+  line-below t,
+  line.Post,
+) (item-at t) item.Post
+item-same-length-3 t c = search needs
+
+-- src/reading.rt:127:17
+item-returns-6 : (t : ℕ) → item-lts.Need-returns-6 (
+  figure-reads.Asked,
+  figure-reads.Learnt,
+  line-below t,
+  line.Post,
+) (item-at t) item.Post
+item-returns-6 t c = let a = c .before .before .before .before .before .before .before .before .before .before .before .before .before .before .before .before .before .before .args in let s = now (a .text) in let o = now (a .out) in let w : LineAt s (a .at + 1) (a .depth + 1) (a .first) pending.Nothing o (c .before .before .before .before .before .before .before .before .line .last .1 .1 .1 .1 .1 .0) (c .before .before .before .before .inner3 .given .0 .0) (c .before .before .before .before .inner3 .given .0 .1 .0) = subst (LineRead s (a .at + 1) (a .depth + 1) (a .first) pending.Nothing o (c .before .before .before .before .before .before .before .before .line .last .1 .1 .1 .1 .1 .0)) (c .before .before .before .before .inner3 .given .1) (c .before .before .before .before .before .before .before .before .line .ensures) in let z = w .rows in laws.item-wrong s (a .at) (a .depth) (a .first) o (omega arith) (omega arith) (c .before .before .before .before .before .before .before .before .before .before .before .if3 .left) (omega arith) (c .before .before .before .before .before .before .before .before .line .last .1 .1 .1 .1 .1 .0) _ _ w (omega arith) (c .if6 .taken)
+
+-- src/reading.rt:129:25
+item-add-t24 : (t : ℕ) → item-lts.Need-add-t24 (
+  figure-reads.Asked,
+  figure-reads.Learnt,
+  line-below t,
+  line.Post,
+) (item-at t) item.Post
+item-add-t24 t c = search needs
+
+-- src/reading.rt:102:1
+item-same-length-4 : (t : ℕ) → item-lts.Need-same-length-4 (
+  figure-reads.Asked,
+  figure-reads.Learnt,
+  line-below t,
+  line.Post,
+) (item-at t) item.Post
+item-same-length-4 t c = search needs
+
+-- src/reading.rt:102:1
+item-returns-7 : (t : ℕ) → item-lts.Need-returns-7 (
+  figure-reads.Asked,
+  figure-reads.Learnt,
+  line-below t,
+  line.Post,
+) (item-at t) item.Post
+item-returns-7 t c = let a = c .before .before .before .before .before .before .before .before .before .before .before .before .before .before .before .args in let s = now (a .text) in let o = now (a .out) in laws.item-broken s (a .at) (a .depth) (a .first) o (omega arith) (omega arith) (c .before .before .before .before .before .before .before .before .if3 .left) (omega arith) (c .before .before .before .before .before .line .last .1 .1 .1 .1 .1 .0) _ (subst (LineRead s (a .at + 1) (a .depth + 1) (a .first) pending.Nothing o (c .before .before .before .before .before .line .last .1 .1 .1 .1 .1 .0)) (c .before .inner .given .1) (c .before .before .before .before .before .line .ensures))
+
+-- src/reading.rt:102:1
+item-same-length-5 : (t : ℕ) → item-lts.Need-same-length-5 (
+  figure-reads.Asked,
+  figure-reads.Learnt,
+  line-below t,
+  line.Post,
+) (item-at t) item.Post
+item-same-length-5 t c = search needs
+
+-- src/reading.rt:102:1
+item-returns-8 : (t : ℕ) → item-lts.Need-returns-8 (
+  figure-reads.Asked,
+  figure-reads.Learnt,
+  line-below t,
+  line.Post,
+) (item-at t) item.Post
+item-returns-8 t c = let a = c .before .before .before .before .before .before .before .before .before .before .before .before .before .before .before .args in let s = now (a .text) in let o = now (a .out) in laws.item-too-deep s (a .at) (a .depth) (a .first) o (omega arith) (omega arith) (c .before .before .before .before .before .before .before .before .if3 .left) (omega arith) (c .before .before .before .before .before .line .last .1 .1 .1 .1 .1 .0) _ (subst (LineRead s (a .at + 1) (a .depth + 1) (a .first) pending.Nothing o (c .before .before .before .before .before .line .last .1 .1 .1 .1 .1 .0)) (c .before .inner2 .given .1) (c .before .before .before .before .before .line .ensures))
+
+-- src/reading.rt:102:1
+item-same-length-6 : (t : ℕ) → item-lts.Need-same-length-6 (
+  figure-reads.Asked,
+  figure-reads.Learnt,
+  line-below t,
+  line.Post,
+) (item-at t) item.Post
+item-same-length-6 t c = search needs
+
+-- src/reading.rt:102:1
+item-returns-9 : (t : ℕ) → item-lts.Need-returns-9 (
+  figure-reads.Asked,
+  figure-reads.Learnt,
+  line-below t,
+  line.Post,
+) (item-at t) item.Post
+item-returns-9 t c = let a = c .before .before .before .before .before .before .before .before .before .before .before .before .before .before .before .before .before .before .args in let s = now (a .text) in let o = now (a .out) in let w : LineAt s (a .at + 1) (a .depth + 1) (a .first) pending.Nothing o (c .before .before .before .before .before .before .before .before .line .last .1 .1 .1 .1 .1 .0) (c .before .before .before .before .inner3 .given .0 .0) (c .before .before .before .before .inner3 .given .0 .1 .0) = subst (LineRead s (a .at + 1) (a .depth + 1) (a .first) pending.Nothing o (c .before .before .before .before .before .before .before .before .line .last .1 .1 .1 .1 .1 .0)) (c .before .before .before .before .inner3 .given .1) (c .before .before .before .before .before .before .before .before .line .ensures) in let z = w .rows in laws.item-shut s (a .at) (a .depth) (a .first) o (omega arith) (omega arith) (c .before .before .before .before .before .before .before .before .before .before .before .if3 .left) (omega arith) (c .before .before .before .before .before .before .before .before .line .last .1 .1 .1 .1 .1 .0) _ _ w (omega arith) (c .if6 .left)
+
+-- src/reading.rt:59:9
+line-part-requires : (t : ℕ) → line-lts.Need-part-requires (
+  part-below t,
+  part.Post,
+  settle-reads.Asked,
+  settle-reads.Learnt,
+  line-below t,
+  line.Post,
+) (line-at t) line.Post
+line-part-requires t c κs = search needs
+
+-- src/reading.rt:61:25
+line-enum-known-begun : (t : ℕ) → line-lts.Need-enum-known-begun (
+  part-below t,
+  part.Post,
+  settle-reads.Asked,
+  settle-reads.Learnt,
+  line-below t,
+  line.Post,
+) (line-at t) line.Post
+line-enum-known-begun t c = search needs
+
+-- src/reading.rt:62:23
+line-enum-known-begun-2 : (t : ℕ) → line-lts.Need-enum-known-begun-2 (
+  part-below t,
+  part.Post,
+  settle-reads.Asked,
+  settle-reads.Learnt,
+  line-below t,
+  line.Post,
+) (line-at t) line.Post
+line-enum-known-begun-2 t c = search needs
+
+-- src/reading.rt:63:21
+line-enum-known-begun-3 : (t : ℕ) → line-lts.Need-enum-known-begun-3 (
+  part-below t,
+  part.Post,
+  settle-reads.Asked,
+  settle-reads.Learnt,
+  line-below t,
+  line.Post,
+) (line-at t) line.Post
+line-enum-known-begun-3 t c = search needs
+
+-- src/reading.rt:64:17
+line-settle-requires : (t : ℕ) → line-lts.Need-settle-requires (
+  part-below t,
+  part.Post,
+  settle-reads.Asked,
+  settle-reads.Learnt,
+  line-below t,
+  line.Post,
+) (line-at t) line.Post
+line-settle-requires t c κs = let a = c .before .before .before .before .before .before .before .before .before .before .args in let s = now (a .text) in let o = now (a .out) in let w : PartAt s (a .at) (a .depth) (a .first) pending.Nothing o (c .before .before .before .before .before .before .part .last .1 .1 .1 .1 .1 .0) (c .before .before .begun3 .given .0 .0) (c .before .before .begun3 .given .0 .1 .0) = subst (PartRead s (a .at) (a .depth) (a .first) pending.Nothing o (c .before .before .before .before .before .before .part .last .1 .1 .1 .1 .1 .0)) (c .before .before .begun3 .given .1) (c .before .before .before .before .before .before .part .ensures) in let z = w .rows in omega arith
+
+-- src/reading.rt:66:17
+line-same-length : (t : ℕ) → line-lts.Need-same-length (
+  part-below t,
+  part.Post,
+  settle-reads.Asked,
+  settle-reads.Learnt,
+  line-below t,
+  line.Post,
+) (line-at t) line.Post
+line-same-length t c = search needs
+
+-- src/reading.rt:66:17
+line-returns : (t : ℕ) → line-lts.Need-returns (
+  part-below t,
+  part.Post,
+  settle-reads.Asked,
+  settle-reads.Learnt,
+  line-below t,
+  line.Post,
+) (line-at t) line.Post
+line-returns t c = let a = c .before .before .before .before .before .before .before .before .before .before .before .before .before .before .args in let s = now (a .text) in let o = now (a .out) in let w : PartAt s (a .at) (a .depth) (a .first) pending.Nothing o (c .before .before .before .before .before .before .before .before .before .before .part .last .1 .1 .1 .1 .1 .0) (c .before .before .before .before .before .before .begun3 .given .0 .0) (c .before .before .before .before .before .before .begun3 .given .0 .1 .0) = subst (PartRead s (a .at) (a .depth) (a .first) pending.Nothing o (c .before .before .before .before .before .before .before .before .before .before .part .last .1 .1 .1 .1 .1 .0)) (c .before .before .before .before .before .before .begun3 .given .1) (c .before .before .before .before .before .before .before .before .before .before .part .ensures) in let z = w .rows in laws.line-at s (a .at) (a .depth) (a .first) o (a .waiting) (c .before .before .before .before .before .before .before .before .before .before .part .last .1 .1 .1 .1 .1 .0) (c .before .before .before .settle .last .0) _ _ (c .before .before .before .settle .result) w (c .before .before .before .settle .ensures .0) (c .before .before .before .settle .ensures .1) (λ h. absurd (omega arith))
+
+-- src/reading.rt:68:16
+line-shared-slice-read-if2 : (t : ℕ) → line-lts.Need-shared-slice-read-if2 (
+  part-below t,
+  part.Post,
+  settle-reads.Asked,
+  settle-reads.Learnt,
+  line-below t,
+  line.Post,
+) (line-at t) line.Post
+line-shared-slice-read-if2 t c = search needs
+
+-- src/reading.rt:69:35
+line-add-line : (t : ℕ) → line-lts.Need-add-line (
+  part-below t,
+  part.Post,
+  settle-reads.Asked,
+  settle-reads.Learnt,
+  line-below t,
+  line.Post,
+) (line-at t) line.Post
+line-add-line t c = search needs
+
+-- src/reading.rt:69:17
+line-line-requires : (t : ℕ) → line-lts.Need-line-requires (
+  part-below t,
+  part.Post,
+  settle-reads.Asked,
+  settle-reads.Learnt,
+  line-below t,
+  line.Post,
+) (line-at t) line.Post
+line-line-requires t c κs = let a = c .before .before .before .before .before .before .before .before .before .before .before .before .before .before .before .before .before .args in let s = now (a .text) in let o = now (a .out) in let w : PartAt s (a .at) (a .depth) (a .first) pending.Nothing o (c .before .before .before .before .before .before .before .before .before .before .before .before .before .part .last .1 .1 .1 .1 .1 .0) (c .before .before .before .before .before .before .before .before .before .begun3 .given .0 .0) (c .before .before .before .before .before .before .before .before .before .begun3 .given .0 .1 .0) = subst (PartRead s (a .at) (a .depth) (a .first) pending.Nothing o (c .before .before .before .before .before .before .before .before .before .before .before .before .before .part .last .1 .1 .1 .1 .1 .0)) (c .before .before .before .before .before .before .before .before .before .begun3 .given .1) (c .before .before .before .before .before .before .before .before .before .before .before .before .before .part .ensures) in let z = w .rows in let y = c .before .before .before .before .before .before .settle .ensures .1 in omega arith
+
+-- src/reading.rt:69:17
+line-same-length-2 : (t : ℕ) → line-lts.Need-same-length-2 (
+  part-below t,
+  part.Post,
+  settle-reads.Asked,
+  settle-reads.Learnt,
+  line-below t,
+  line.Post,
+) (line-at t) line.Post
+line-same-length-2 t c = search needs
+
+-- src/reading.rt:69:17
+line-returns-2 : (t : ℕ) → line-lts.Need-returns-2 (
+  part-below t,
+  part.Post,
+  settle-reads.Asked,
+  settle-reads.Learnt,
+  line-below t,
+  line.Post,
+) (line-at t) line.Post
+line-returns-2 t c = let a = c .before .before .before .before .before .before .before .before .before .before .before .before .before .before .before .before .before .before .before .before .args in let s = now (a .text) in let o = now (a .out) in let w : PartAt s (a .at) (a .depth) (a .first) pending.Nothing o (c .before .before .before .before .before .before .before .before .before .before .before .before .before .before .before .before .part .last .1 .1 .1 .1 .1 .0) (c .before .before .before .before .before .before .before .before .before .before .before .before .begun3 .given .0 .0) (c .before .before .before .before .before .before .before .before .before .before .before .before .begun3 .given .0 .1 .0) = subst (PartRead s (a .at) (a .depth) (a .first) pending.Nothing o (c .before .before .before .before .before .before .before .before .before .before .before .before .before .before .before .before .part .last .1 .1 .1 .1 .1 .0)) (c .before .before .before .before .before .before .before .before .before .before .before .before .begun3 .given .1) (c .before .before .before .before .before .before .before .before .before .before .before .before .before .before .before .before .part .ensures) in let z = w .rows in laws.line-either s (a .at) (a .depth) (a .first) o (a .waiting) (c .before .before .before .before .before .before .before .before .before .before .before .before .before .before .before .before .part .last .1 .1 .1 .1 .1 .0) (c .before .before .before .before .before .before .before .before .before .settle .last .0) _ _ (c .before .before .before .before .before .before .before .before .before .settle .result) w (c .before .before .before .before .before .before .before .before .before .settle .ensures .0) (c .before .before .before .before .before .before .before .before .before .settle .ensures .1) (omega arith) (omega arith) (c .before .before .before .before .if2 .taken) (c .before .before .line .last .1 .1 .1 .1 .1 .0) (c .before .before .line .result) (c .before .before .line .ensures)
+
+-- src/reading.rt:55:1
+line-same-length-3 : (t : ℕ) → line-lts.Need-same-length-3 (
+  part-below t,
+  part.Post,
+  settle-reads.Asked,
+  settle-reads.Learnt,
+  line-below t,
+  line.Post,
+) (line-at t) line.Post
+line-same-length-3 t c = search needs
+
+-- src/reading.rt:55:1
+line-returns-3 : (t : ℕ) → line-lts.Need-returns-3 (
+  part-below t,
+  part.Post,
+  settle-reads.Asked,
+  settle-reads.Learnt,
+  line-below t,
+  line.Post,
+) (line-at t) line.Post
+line-returns-3 t c = let a = c .before .before .before .before .before .before .before .before .before .args in let s = now (a .text) in let o = now (a .out) in laws.line-broken s (a .at) (a .depth) (a .first) o (a .waiting) (c .before .before .before .before .before .part .last .1 .1 .1 .1 .1 .0) _ (subst (PartRead s (a .at) (a .depth) (a .first) pending.Nothing o (c .before .before .before .before .before .part .last .1 .1 .1 .1 .1 .0)) (c .before .begun .given .1) (c .before .before .before .before .before .part .ensures))
+
+-- src/reading.rt:55:1
+line-same-length-4 : (t : ℕ) → line-lts.Need-same-length-4 (
+  part-below t,
+  part.Post,
+  settle-reads.Asked,
+  settle-reads.Learnt,
+  line-below t,
+  line.Post,
+) (line-at t) line.Post
+line-same-length-4 t c = search needs
+
+-- src/reading.rt:55:1
+line-returns-4 : (t : ℕ) → line-lts.Need-returns-4 (
+  part-below t,
+  part.Post,
+  settle-reads.Asked,
+  settle-reads.Learnt,
+  line-below t,
+  line.Post,
+) (line-at t) line.Post
+line-returns-4 t c = let a = c .before .before .before .before .before .before .before .before .before .args in let s = now (a .text) in let o = now (a .out) in laws.line-deep s (a .at) (a .depth) (a .first) o (a .waiting) (c .before .before .before .before .before .part .last .1 .1 .1 .1 .1 .0) _ (subst (PartRead s (a .at) (a .depth) (a .first) pending.Nothing o (c .before .before .before .before .before .part .last .1 .1 .1 .1 .1 .0)) (c .before .begun2 .given .1) (c .before .before .before .before .before .part .ensures))
+
+-- src/reading.rt:55:1
+line-same-length-5 : (t : ℕ) → line-lts.Need-same-length-5 (
+  part-below t,
+  part.Post,
+  settle-reads.Asked,
+  settle-reads.Learnt,
+  line-below t,
+  line.Post,
+) (line-at t) line.Post
+line-same-length-5 t c = search needs
+
+-- src/reading.rt:55:1
+line-returns-5 : (t : ℕ) → line-lts.Need-returns-5 (
+  part-below t,
+  part.Post,
+  settle-reads.Asked,
+  settle-reads.Learnt,
+  line-below t,
+  line.Post,
+) (line-at t) line.Post
+line-returns-5 t c = let a = c .before .before .before .before .before .before .before .before .before .before .before .before .before .before .before .before .args in let s = now (a .text) in let o = now (a .out) in let w : PartAt s (a .at) (a .depth) (a .first) pending.Nothing o (c .before .before .before .before .before .before .before .before .before .before .before .before .part .last .1 .1 .1 .1 .1 .0) (c .before .before .before .before .before .before .before .before .begun3 .given .0 .0) (c .before .before .before .before .before .before .before .before .begun3 .given .0 .1 .0) = subst (PartRead s (a .at) (a .depth) (a .first) pending.Nothing o (c .before .before .before .before .before .before .before .before .before .before .before .before .part .last .1 .1 .1 .1 .1 .0)) (c .before .before .before .before .before .before .before .before .begun3 .given .1) (c .before .before .before .before .before .before .before .before .before .before .before .before .part .ensures) in let z = w .rows in laws.line-at s (a .at) (a .depth) (a .first) o (a .waiting) (c .before .before .before .before .before .before .before .before .before .before .before .before .part .last .1 .1 .1 .1 .1 .0) (c .before .before .before .before .before .settle .last .0) _ _ (c .before .before .before .before .before .settle .result) w (c .before .before .before .before .before .settle .ensures .0) (c .before .before .before .before .before .settle .ensures .1) (λ h. c .if2 .left)
+
+-- src/reading.rt:81:9
+part-item-requires : (t : ℕ) → part-lts.Need-item-requires (
+  item-below t,
+  item.Post,
+  settle-reads.Asked,
+  settle-reads.Learnt,
+  part-below t,
+  part.Post,
+) (part-at t) part.Post
+part-item-requires t c κs = search needs
+
+-- src/reading.rt:83:25
+part-enum-known-begun : (t : ℕ) → part-lts.Need-enum-known-begun (
+  item-below t,
+  item.Post,
+  settle-reads.Asked,
+  settle-reads.Learnt,
+  part-below t,
+  part.Post,
+) (part-at t) part.Post
+part-enum-known-begun t c = search needs
+
+-- src/reading.rt:84:23
+part-enum-known-begun-2 : (t : ℕ) → part-lts.Need-enum-known-begun-2 (
+  item-below t,
+  item.Post,
+  settle-reads.Asked,
+  settle-reads.Learnt,
+  part-below t,
+  part.Post,
+) (part-at t) part.Post
+part-enum-known-begun-2 t c = search needs
+
+-- src/reading.rt:85:21
+part-enum-known-begun-3 : (t : ℕ) → part-lts.Need-enum-known-begun-3 (
+  item-below t,
+  item.Post,
+  settle-reads.Asked,
+  settle-reads.Learnt,
+  part-below t,
+  part.Post,
+) (part-at t) part.Post
+part-enum-known-begun-3 t c = search needs
+
+-- src/reading.rt:86:17
+part-settle-requires : (t : ℕ) → part-lts.Need-settle-requires (
+  item-below t,
+  item.Post,
+  settle-reads.Asked,
+  settle-reads.Learnt,
+  part-below t,
+  part.Post,
+) (part-at t) part.Post
+part-settle-requires t c κs = let a = c .before .before .before .before .before .before .before .before .before .before .args in let s = now (a .text) in let o = now (a .out) in let w : ItemAt s (a .at) (a .depth) (a .first) o (c .before .before .before .before .before .before .item .last .1 .1 .1 .1 .0) (c .before .before .begun3 .given .0 .0) (c .before .before .begun3 .given .0 .1 .0) = subst (ItemRead s (a .at) (a .depth) (a .first) o (c .before .before .before .before .before .before .item .last .1 .1 .1 .1 .0)) (c .before .before .begun3 .given .1) (c .before .before .before .before .before .before .item .ensures) in let z = w .rows in omega arith
+
+-- src/reading.rt:88:17
+part-same-length : (t : ℕ) → part-lts.Need-same-length (
+  item-below t,
+  item.Post,
+  settle-reads.Asked,
+  settle-reads.Learnt,
+  part-below t,
+  part.Post,
+) (part-at t) part.Post
+part-same-length t c = search needs
+
+-- src/reading.rt:88:17
+part-returns : (t : ℕ) → part-lts.Need-returns (
+  item-below t,
+  item.Post,
+  settle-reads.Asked,
+  settle-reads.Learnt,
+  part-below t,
+  part.Post,
+) (part-at t) part.Post
+part-returns t c = let a = c .before .before .before .before .before .before .before .before .before .before .before .before .before .before .args in let s = now (a .text) in let o = now (a .out) in let w : ItemAt s (a .at) (a .depth) (a .first) o (c .before .before .before .before .before .before .before .before .before .before .item .last .1 .1 .1 .1 .0) (c .before .before .before .before .before .before .begun3 .given .0 .0) (c .before .before .before .before .before .before .begun3 .given .0 .1 .0) = subst (ItemRead s (a .at) (a .depth) (a .first) o (c .before .before .before .before .before .before .before .before .before .before .item .last .1 .1 .1 .1 .0)) (c .before .before .before .before .before .before .begun3 .given .1) (c .before .before .before .before .before .before .before .before .before .before .item .ensures) in let z = w .rows in laws.part-at s (a .at) (a .depth) (a .first) o (a .waiting) (c .before .before .before .before .before .before .before .before .before .before .item .last .1 .1 .1 .1 .0) (c .before .before .before .settle .last .0) _ _ (c .before .before .before .settle .result) w (c .before .before .before .settle .ensures .0) (c .before .before .before .settle .ensures .1) (λ h. absurd (omega arith))
+
+-- src/reading.rt:90:16
+part-shared-slice-read-if2 : (t : ℕ) → part-lts.Need-shared-slice-read-if2 (
+  item-below t,
+  item.Post,
+  settle-reads.Asked,
+  settle-reads.Learnt,
+  part-below t,
+  part.Post,
+) (part-at t) part.Post
+part-shared-slice-read-if2 t c = search needs
+
+-- src/reading.rt:91:35
+part-add-part : (t : ℕ) → part-lts.Need-add-part (
+  item-below t,
+  item.Post,
+  settle-reads.Asked,
+  settle-reads.Learnt,
+  part-below t,
+  part.Post,
+) (part-at t) part.Post
+part-add-part t c = search needs
+
+-- src/reading.rt:91:17
+part-part-requires : (t : ℕ) → part-lts.Need-part-requires (
+  item-below t,
+  item.Post,
+  settle-reads.Asked,
+  settle-reads.Learnt,
+  part-below t,
+  part.Post,
+) (part-at t) part.Post
+part-part-requires t c κs = let a = c .before .before .before .before .before .before .before .before .before .before .before .before .before .before .before .before .before .args in let s = now (a .text) in let o = now (a .out) in let w : ItemAt s (a .at) (a .depth) (a .first) o (c .before .before .before .before .before .before .before .before .before .before .before .before .before .item .last .1 .1 .1 .1 .0) (c .before .before .before .before .before .before .before .before .before .begun3 .given .0 .0) (c .before .before .before .before .before .before .before .before .before .begun3 .given .0 .1 .0) = subst (ItemRead s (a .at) (a .depth) (a .first) o (c .before .before .before .before .before .before .before .before .before .before .before .before .before .item .last .1 .1 .1 .1 .0)) (c .before .before .before .before .before .before .before .before .before .begun3 .given .1) (c .before .before .before .before .before .before .before .before .before .before .before .before .before .item .ensures) in let z = w .rows in let y = c .before .before .before .before .before .before .settle .ensures .1 in omega arith
+
+-- src/reading.rt:91:17
+part-same-length-2 : (t : ℕ) → part-lts.Need-same-length-2 (
+  item-below t,
+  item.Post,
+  settle-reads.Asked,
+  settle-reads.Learnt,
+  part-below t,
+  part.Post,
+) (part-at t) part.Post
+part-same-length-2 t c = search needs
+
+-- src/reading.rt:91:17
+part-returns-2 : (t : ℕ) → part-lts.Need-returns-2 (
+  item-below t,
+  item.Post,
+  settle-reads.Asked,
+  settle-reads.Learnt,
+  part-below t,
+  part.Post,
+) (part-at t) part.Post
+part-returns-2 t c = let a = c .before .before .before .before .before .before .before .before .before .before .before .before .before .before .before .before .before .before .before .before .args in let s = now (a .text) in let o = now (a .out) in let w : ItemAt s (a .at) (a .depth) (a .first) o (c .before .before .before .before .before .before .before .before .before .before .before .before .before .before .before .before .item .last .1 .1 .1 .1 .0) (c .before .before .before .before .before .before .before .before .before .before .before .before .begun3 .given .0 .0) (c .before .before .before .before .before .before .before .before .before .before .before .before .begun3 .given .0 .1 .0) = subst (ItemRead s (a .at) (a .depth) (a .first) o (c .before .before .before .before .before .before .before .before .before .before .before .before .before .before .before .before .item .last .1 .1 .1 .1 .0)) (c .before .before .before .before .before .before .before .before .before .before .before .before .begun3 .given .1) (c .before .before .before .before .before .before .before .before .before .before .before .before .before .before .before .before .item .ensures) in let z = w .rows in laws.part-joint s (a .at) (a .depth) (a .first) o (a .waiting) (c .before .before .before .before .before .before .before .before .before .before .before .before .before .before .before .before .item .last .1 .1 .1 .1 .0) (c .before .before .before .before .before .before .before .before .before .settle .last .0) _ _ (c .before .before .before .before .before .before .before .before .before .settle .result) w (c .before .before .before .before .before .before .before .before .before .settle .ensures .0) (c .before .before .before .before .before .before .before .before .before .settle .ensures .1) (omega arith) (omega arith) g.both (c .before .before .before .before .if2 .taken) (c .before .before .part .last .1 .1 .1 .1 .1 .0) (c .before .before .part .result) (c .before .before .part .ensures)
+
+-- src/reading.rt:93:16
+part-shared-slice-read-if3 : (t : ℕ) → part-lts.Need-shared-slice-read-if3 (
+  item-below t,
+  item.Post,
+  settle-reads.Asked,
+  settle-reads.Learnt,
+  part-below t,
+  part.Post,
+) (part-at t) part.Post
+part-shared-slice-read-if3 t c = search needs
+
+-- src/reading.rt:94:35
+part-add-part-2 : (t : ℕ) → part-lts.Need-add-part-2 (
+  item-below t,
+  item.Post,
+  settle-reads.Asked,
+  settle-reads.Learnt,
+  part-below t,
+  part.Post,
+) (part-at t) part.Post
+part-add-part-2 t c = search needs
+
+-- src/reading.rt:94:17
+part-part-requires-2 : (t : ℕ) → part-lts.Need-part-requires-2 (
+  item-below t,
+  item.Post,
+  settle-reads.Asked,
+  settle-reads.Learnt,
+  part-below t,
+  part.Post,
+) (part-at t) part.Post
+part-part-requires-2 t c κs = let a = c .before .before .before .before .before .before .before .before .before .before .before .before .before .before .before .before .before .before .before .args in let s = now (a .text) in let o = now (a .out) in let w : ItemAt s (a .at) (a .depth) (a .first) o (c .before .before .before .before .before .before .before .before .before .before .before .before .before .before .before .item .last .1 .1 .1 .1 .0) (c .before .before .before .before .before .before .before .before .before .before .before .begun3 .given .0 .0) (c .before .before .before .before .before .before .before .before .before .before .before .begun3 .given .0 .1 .0) = subst (ItemRead s (a .at) (a .depth) (a .first) o (c .before .before .before .before .before .before .before .before .before .before .before .before .before .before .before .item .last .1 .1 .1 .1 .0)) (c .before .before .before .before .before .before .before .before .before .before .before .begun3 .given .1) (c .before .before .before .before .before .before .before .before .before .before .before .before .before .before .before .item .ensures) in let z = w .rows in let y = c .before .before .before .before .before .before .before .before .settle .ensures .1 in omega arith
+
+-- src/reading.rt:94:17
+part-same-length-3 : (t : ℕ) → part-lts.Need-same-length-3 (
+  item-below t,
+  item.Post,
+  settle-reads.Asked,
+  settle-reads.Learnt,
+  part-below t,
+  part.Post,
+) (part-at t) part.Post
+part-same-length-3 t c = search needs
+
+-- src/reading.rt:94:17
+part-returns-3 : (t : ℕ) → part-lts.Need-returns-3 (
+  item-below t,
+  item.Post,
+  settle-reads.Asked,
+  settle-reads.Learnt,
+  part-below t,
+  part.Post,
+) (part-at t) part.Post
+part-returns-3 t c = let a = c .before .before .before .before .before .before .before .before .before .before .before .before .before .before .before .before .before .before .before .before .before .before .args in let s = now (a .text) in let o = now (a .out) in let w : ItemAt s (a .at) (a .depth) (a .first) o (c .before .before .before .before .before .before .before .before .before .before .before .before .before .before .before .before .before .before .item .last .1 .1 .1 .1 .0) (c .before .before .before .before .before .before .before .before .before .before .before .before .before .before .begun3 .given .0 .0) (c .before .before .before .before .before .before .before .before .before .before .before .before .before .before .begun3 .given .0 .1 .0) = subst (ItemRead s (a .at) (a .depth) (a .first) o (c .before .before .before .before .before .before .before .before .before .before .before .before .before .before .before .before .before .before .item .last .1 .1 .1 .1 .0)) (c .before .before .before .before .before .before .before .before .before .before .before .before .before .before .begun3 .given .1) (c .before .before .before .before .before .before .before .before .before .before .before .before .before .before .before .before .before .before .item .ensures) in let z = w .rows in laws.part-joint s (a .at) (a .depth) (a .first) o (a .waiting) (c .before .before .before .before .before .before .before .before .before .before .before .before .before .before .before .before .before .before .item .last .1 .1 .1 .1 .0) (c .before .before .before .before .before .before .before .before .before .before .before .settle .last .0) _ _ (c .before .before .before .before .before .before .before .before .before .before .before .settle .result) w (c .before .before .before .before .before .before .before .before .before .before .before .settle .ensures .0) (c .before .before .before .before .before .before .before .before .before .before .before .settle .ensures .1) (omega arith) (omega arith) g.without (c .before .before .before .before .if3 .taken) (c .before .before .part2 .last .1 .1 .1 .1 .1 .0) (c .before .before .part2 .result) (c .before .before .part2 .ensures)
+
+-- src/reading.rt:77:1
+part-same-length-4 : (t : ℕ) → part-lts.Need-same-length-4 (
+  item-below t,
+  item.Post,
+  settle-reads.Asked,
+  settle-reads.Learnt,
+  part-below t,
+  part.Post,
+) (part-at t) part.Post
+part-same-length-4 t c = search needs
+
+-- src/reading.rt:77:1
+part-returns-4 : (t : ℕ) → part-lts.Need-returns-4 (
+  item-below t,
+  item.Post,
+  settle-reads.Asked,
+  settle-reads.Learnt,
+  part-below t,
+  part.Post,
+) (part-at t) part.Post
+part-returns-4 t c = let a = c .before .before .before .before .before .before .before .before .before .args in let s = now (a .text) in let o = now (a .out) in laws.part-broken s (a .at) (a .depth) (a .first) o (a .waiting) (c .before .before .before .before .before .item .last .1 .1 .1 .1 .0) _ (subst (ItemRead s (a .at) (a .depth) (a .first) o (c .before .before .before .before .before .item .last .1 .1 .1 .1 .0)) (c .before .begun .given .1) (c .before .before .before .before .before .item .ensures))
+
+-- src/reading.rt:77:1
+part-same-length-5 : (t : ℕ) → part-lts.Need-same-length-5 (
+  item-below t,
+  item.Post,
+  settle-reads.Asked,
+  settle-reads.Learnt,
+  part-below t,
+  part.Post,
+) (part-at t) part.Post
+part-same-length-5 t c = search needs
+
+-- src/reading.rt:77:1
+part-returns-5 : (t : ℕ) → part-lts.Need-returns-5 (
+  item-below t,
+  item.Post,
+  settle-reads.Asked,
+  settle-reads.Learnt,
+  part-below t,
+  part.Post,
+) (part-at t) part.Post
+part-returns-5 t c = let a = c .before .before .before .before .before .before .before .before .before .args in let s = now (a .text) in let o = now (a .out) in laws.part-deep s (a .at) (a .depth) (a .first) o (a .waiting) (c .before .before .before .before .before .item .last .1 .1 .1 .1 .0) _ (subst (ItemRead s (a .at) (a .depth) (a .first) o (c .before .before .before .before .before .item .last .1 .1 .1 .1 .0)) (c .before .begun2 .given .1) (c .before .before .before .before .before .item .ensures))
+
+-- src/reading.rt:77:1
+part-same-length-6 : (t : ℕ) → part-lts.Need-same-length-6 (
+  item-below t,
+  item.Post,
+  settle-reads.Asked,
+  settle-reads.Learnt,
+  part-below t,
+  part.Post,
+) (part-at t) part.Post
+part-same-length-6 t c = search needs
+
+-- src/reading.rt:77:1
+part-returns-6 : (t : ℕ) → part-lts.Need-returns-6 (
+  item-below t,
+  item.Post,
+  settle-reads.Asked,
+  settle-reads.Learnt,
+  part-below t,
+  part.Post,
+) (part-at t) part.Post
+part-returns-6 t c = let a = c .before .before .before .before .before .before .before .before .before .before .before .before .before .before .before .before .before .before .args in let s = now (a .text) in let o = now (a .out) in let w : ItemAt s (a .at) (a .depth) (a .first) o (c .before .before .before .before .before .before .before .before .before .before .before .before .before .before .item .last .1 .1 .1 .1 .0) (c .before .before .before .before .before .before .before .before .before .before .begun3 .given .0 .0) (c .before .before .before .before .before .before .before .before .before .before .begun3 .given .0 .1 .0) = subst (ItemRead s (a .at) (a .depth) (a .first) o (c .before .before .before .before .before .before .before .before .before .before .before .before .before .before .item .last .1 .1 .1 .1 .0)) (c .before .before .before .before .before .before .before .before .before .before .begun3 .given .1) (c .before .before .before .before .before .before .before .before .before .before .before .before .before .before .item .ensures) in let z = w .rows in laws.part-at s (a .at) (a .depth) (a .first) o (a .waiting) (c .before .before .before .before .before .before .before .before .before .before .before .before .before .before .item .last .1 .1 .1 .1 .0) (c .before .before .before .before .before .before .before .settle .last .0) _ _ (c .before .before .before .before .before .before .before .settle .result) w (c .before .before .before .before .before .before .before .settle .ensures .0) (c .before .before .before .before .before .before .before .settle .ensures .1) (λ h. (c .before .before .if2 .left, c .if3 .left))
+
+pub +item+line+part-spec : {M : Type 1} → statement M
++item+line+part-spec = close μ-item μ-line μ-part (λ t. item-lts.spec (
+  figure-reads.Asked,
+  figure-reads.Learnt,
+  line-below t,
+  line.Post,
+)
+    (item-at t)
+    item.Post
+    (item-returns t)
+    (item-shared-slice-read-if2 t)
+    (item-add-figure t)
+    (item-figure-requires t)
+    (item-same-length t)
+    (item-returns-2 t)
+    (item-shared-slice-read-if3 t)
+    (item-returns-3 t)
+    (item-returns-4 t)
+    (item-add-line t)
+    (item-add-line-2 t)
+    (item-line-requires t)
+    (item-enum-known-inner t)
+    (item-enum-known-inner-2 t)
+    (item-enum-known-inner-3 t)
+    (item-same-length-2 t)
+    (item-returns-5 t)
+    (item-shared-slice-read-if6 t)
+    (item-same-length-3 t)
+    (item-returns-6 t)
+    (item-add-t24 t)
+    (item-same-length-4 t)
+    (item-returns-7 t)
+    (item-same-length-5 t)
+    (item-returns-8 t)
+    (item-same-length-6 t)
+    (item-returns-9 t))
+    (λ t. line-lts.spec (
+      part-below t,
+      part.Post,
+      settle-reads.Asked,
+      settle-reads.Learnt,
+      line-below t,
+      line.Post,
+    )
+    (line-at t)
+    line.Post
+    (line-part-requires t)
+    (line-enum-known-begun t)
+    (line-enum-known-begun-2 t)
+    (line-enum-known-begun-3 t)
+    (line-settle-requires t)
+    (line-same-length t)
+    (line-returns t)
+    (line-shared-slice-read-if2 t)
+    (line-add-line t)
+    (line-line-requires t)
+    (line-same-length-2 t)
+    (line-returns-2 t)
+    (line-same-length-3 t)
+    (line-returns-3 t)
+    (line-same-length-4 t)
+    (line-returns-4 t)
+    (line-same-length-5 t)
+    (line-returns-5 t))
+    λ t. part-lts.spec
+    (item-below t, item.Post, settle-reads.Asked, settle-reads.Learnt, part-below t, part.Post)
+    (part-at t)
+    part.Post
+    (part-item-requires t)
+    (part-enum-known-begun t)
+    (part-enum-known-begun-2 t)
+    (part-enum-known-begun-3 t)
+    (part-settle-requires t)
+    (part-same-length t)
+    (part-returns t)
+    (part-shared-slice-read-if2 t)
+    (part-add-part t)
+    (part-part-requires t)
+    (part-same-length-2 t)
+    (part-returns-2 t)
+    (part-shared-slice-read-if3 t)
+    (part-add-part-2 t)
+    (part-part-requires-2 t)
+    (part-same-length-3 t)
+    (part-returns-3 t)
+    (part-same-length-4 t)
+    (part-returns-4 t)
+    (part-same-length-5 t)
+    (part-returns-5 t)
+    (part-same-length-6 t)
+    (part-returns-6 t)
