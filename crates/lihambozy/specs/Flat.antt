@@ -20,6 +20,7 @@ use Rattle.lihambozy.specs.declared.PatternRowsAnswer.{PatternRowsAnswer
 use Rattle.lihambozy.specs.declared.TestPositionsAnswer.{TestPositionsAnswer}
 use Rattle.lihambozy.specs.declared.ListAnswer.{ListAnswer}
 use Rattle.lihambozy.specs.declared.ListMatchesAnswer.{ListMatchesAnswer}
+use Rattle.lihambozy.specs.declared.LineToPlanAnswer.{LineToPlanAnswer}
 
 -- the answer of checking a volume
 abbrev pub flatSizes : Said Sizes → CheckVolumeAnswer
@@ -75,3 +76,8 @@ flatMatches (answered page) = record {
   more = flatMore (page .next);
   next = enumerationAnswers.besideNext (page .next);
 }
+
+-- the answer of reading a line
+abbrev pub flatWords : Said ℕ → LineToPlanAnswer
+flatWords (refused n p) = record { refusal = n; at = p; words = 0 }
+flatWords (answered n) = record { refusal = 0; at = 0; words = n }

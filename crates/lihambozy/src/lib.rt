@@ -13,10 +13,12 @@ ghost use Rattle.volume.specs.Write.{writeAnswer, writeOut};
 ghost use Rattle.plan.specs.Check as plans;
 ghost use Rattle.plan.specs.Parts.{spanOf};
 ghost use Rattle.matcher.specs.Testing.{testAnswer};
-ghost use Rattle.lihambozy.specs.Flat.{flatSizes, flatList, flatVolume, flatPlan, flatSpan, flatTest};
+ghost use Rattle.line.specs.Read as lines;
+ghost use Rattle.lihambozy.specs.Flat.{flatSizes, flatList, flatVolume, flatPlan, flatSpan, flatTest, flatWords};
 ghost use Rattle.lihambozy.specs.Search.{Kept};
 ghost use Rattle.lihambozy.specs.Enumeration as enumerations;
 use enumeration::Enumerated;
+use line::Read as LineRead;
 use plan::Checked as PlanChecked;
 use plan::MOST_PATTERN_VARS;
 use search::Listed;
@@ -86,6 +88,14 @@ pub struct ListAnswer {
     pub rows: u32,
     pub tally: u32,
     pub next: u32,
+}
+
+// What `lhz_line_to_plan` answers: the number of words at the front of the buffer.
+#[repr(C)]
+pub struct LineToPlanAnswer {
+    pub refusal: u32,
+    pub at: u32,
+    pub words: u32,
 }
 
 // What `lhz_list_matches` answers: the number of matches (01: passing choices) at the front of the
@@ -387,6 +397,42 @@ pub extern "C" fn lhz_list_matches(
             count: 0,
             more: 0,
             next,
+        },
+    }
+}
+
+// Writes the rows of a typed line to the front of out.
+#[no_mangle]
+pub extern "C" fn lhz_line_to_plan(line: &[u8], out: &mut [u32]) -> LineToPlanAnswer
+    ensures { λ r. ⌜ r ≡ flatWords (lines.readAnswer (now (line .entry)) (length (now (out .entry)))) ⌝ }
+    ensures { λ _. ⌜ now (out .exit) ≡ lines.readOut (now (line .entry)) (now (out .entry)) ⌝ }
+{
+    let read = line::read(line, out);
+    match read {
+        LineRead::Words(words) => LineToPlanAnswer {
+            refusal: 0,
+            at: 0,
+            words,
+        },
+        LineRead::Broken(at) => LineToPlanAnswer {
+            refusal: 21,
+            at,
+            words: 0,
+        },
+        LineRead::Deep(at) => LineToPlanAnswer {
+            refusal: 22,
+            at,
+            words: 0,
+        },
+        LineRead::TooMany => LineToPlanAnswer {
+            refusal: 23,
+            at: 0,
+            words: 0,
+        },
+        LineRead::Short => LineToPlanAnswer {
+            refusal: 16,
+            at: 0,
+            words: 0,
         },
     }
 }
