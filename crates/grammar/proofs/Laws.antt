@@ -8,9 +8,10 @@
 --     Steps       the text of a line is read whole
 --     Outcome     how a reading ends; a text has one tree
 --     Balance     brackets open and closed along a reading
+--     Brackets    the brackets of a line are those of its text
+--     Spare       dropping a pair of brackets
 --     Written     the tree of an accepted plan
 --     Bounds      the line of an accepted plan keeps to the limits
---     Brackets    the brackets of a line are those of its text
 pub mod Cases
 pub mod Text
 pub mod Query
@@ -20,6 +21,7 @@ pub mod Viable
 pub mod Steps
 pub mod Outcome
 pub mod Balance
+pub mod Brackets
+pub mod Spare
 pub mod Written
 pub mod Bounds
-pub mod Brackets

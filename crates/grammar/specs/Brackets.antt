@@ -6,7 +6,8 @@ use mathlib.Core.List.{List, _∷_, _++_}
 use lib.Dec.{eqb}
 use lib.ListN.{length}
 use Rattle.seq.specs.Lists.{keep}
-use Rattle.grammar.specs.Grammar.{Line, one, either, Part, alone, join, Item, figure, round}
+use Rattle.grammar.specs.Grammar.{Line, one, either, Part, alone, join, Item, figure, round, written, Fits}
+use Rattle.grammar.specs.Meaning.{lineRows}
 
 -- how deep they lie
 unfoldable mutual
@@ -50,3 +51,11 @@ pub record Dropped (s t : List ℕ) : Type 0 where
   pub rest : List ℕ
   pub with-pair : s ≡ front ++ (40 ∷ (between ++ (41 ∷ rest)))
   pub without : t ≡ front ++ (between ++ rest)
+
+-- a pair of round brackets of a line could be dropped: the text t without it is a line with the same rows
+pub record Spare (l : Line) (t : List ℕ) : Type 0 where
+  pub dropped : Dropped (written l) t
+  pub line : Line
+  pub fits : Fits line
+  pub text : written line ≡ t
+  pub rows : lineRows line ≡ lineRows l

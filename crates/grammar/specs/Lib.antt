@@ -1,15 +1,17 @@
 -- Typed lines (02, N5), in reading order.
 --     Text        numbers as a line has them
 --     Grammar     lines as data, and their text
---     Brackets    round brackets: how deep, how many, and a text without one pair
 --     Meaning     the rows of a line, and its truth, read on its own
+--     Brackets    round brackets: how deep, how many, and a line without one pair
 --     Query       a plan as a tree, and the line of a plan
 --     Reading     a text read byte by byte: what has been read so far, and the next byte
 --     Words       the words of the rows that a text says
+--     Demands     the statements that the crate is held to
 pub mod Text
 pub mod Grammar
-pub mod Brackets
 pub mod Meaning
+pub mod Brackets
 pub mod Query
 pub mod Reading
 pub mod Words
+pub mod Demands

@@ -12,7 +12,7 @@
 --     Testing       what testing positions finds
 --     TestFirst     testing answers the first refusal that applies
 --     Tests         testing and the calculus
---     Stages        the refusals of a volume and a plan, by their numbers
+--     Stages        the refusals of testing, by their numbers
 --     Answers       an answer is known from its number and values
 pub mod Volume
 pub mod Cursors

@@ -10,6 +10,7 @@
 --     Reading, Walk, Parts     the rows that say a pattern, the walk over them, and where they lie
 --     Shown                what showing a pattern answers
 --     CheckFirst           checking answers the first refusal that applies
+--     Stages               the refusals by their numbers
 --     ShownFirst           a part is empty exactly if a refusal applies; the parts and the plan
 --     Accepted             what acceptance gives
 --     Outline              the rows and the variables of each pattern
@@ -29,6 +30,7 @@ mod Walk
 mod Parts
 pub mod Shown
 pub mod CheckFirst
+pub mod Stages
 pub mod ShownFirst
 pub mod Accepted
 pub mod Outline

@@ -3,7 +3,7 @@ use Prim.Native.Nat.{ℕ, _≤_}
 use native.Mathlib.Omega.{arith}
 use mathlib.Core.List.{List}
 use Rattle.matcher.specs.Refusals.{ofPlan, noPattern, wrongNumber, wrongDoc, wrongPos}
-use Rattle.matcher.proofs.Laws.Stages.{plan-number}
+use Rattle.plan.proofs.Laws.Stages.{plan-number}
 use Rattle.enumeration.specs.Refusals.{MatchesApplies, ofTuple, short}
 
 module _ (v p : List ℕ) (k d : ℕ) (from : List ℕ) (room : ℕ) where

@@ -42,7 +42,10 @@ use Rattle.grammar.specs.Meaning.{lineRows, operatorRow}
 use Rattle.grammar.specs.Query.{Query, leaf, node, queryRows, queryOf, conditionOf, figureOf, typed, planLine, planText}
 use Rattle.grammar.specs.Reading.{Config, after, start, step, openIn, Outcome, whole, deep, outcome, reading, ended, continued, lineOf}
 use Rattle.grammar.specs.Words.{wordsBy, wordsOfLine}
-use Rattle.grammar.proofs.Laws.Query.{voice, condition, end, typed-rows, fewest as fewest-rounds}
+use Rattle.grammar.specs.Demands.{PlanLine}
+use Rattle.grammar.proofs.Laws.Query.{voice, condition, end, typed-back, typed-rows, fewest as fewest-rounds}
+use Rattle.grammar.proofs.Laws.Brackets.{line-opens}
+use Rattle.grammar.proofs.Laws.Spare.{tight, none-spare, line-tree}
 use Rattle.seq.proofs.Laws.Decimal.{length-decimal}
 use Rattle.grammar.proofs.Laws.Steps.{Steps, line-steps, frontOf, lastOf, line-again}
 use Rattle.grammar.proofs.Laws.Written.{plan-tree}
@@ -294,17 +297,6 @@ line-read l h k =
     ∙ steps-outcome (written l) [] start (after (frontOf l) (lastOf l) []) 0 (line-steps l 8 [] h (omega arith))
     ∙ ap whole (line-again l)
 
--- what holds of the line of an accepted plan
-pub record PlanLine (v p : List ℕ) : Type 0 where
-  pub fits : Fits (planLine p)
-  pub shallow : depth (planLine p) ≤ 8
-  pub rows : lineRows (planLine p) ≡ rowsOf p
-  pub short : length (planText p) ≤ 2048
-  pub reads : reading (planText p) ≡ whole (planLine p)
-  pub words : wordsOfLine (planText p) ≡ p
-  -- no line with these rows has fewer round brackets
-  pub fewest : (l : Line) → lineRows l ≡ rowsOf p → rounds (planLine p) ≤ rounds l
-
 module _ (v p : List ℕ) (ok : Accepted v p) (few-lists : listCount v ≤ 1024) where
   w : Given v p
   w = given v p ok
@@ -342,7 +334,13 @@ module _ (v p : List ℕ) (ok : Accepted v p) (few-lists : listCount v ≤ 1024)
         short = omega arith;
         reads = r;
         words = ap wordsBy r ∙ ap planOf (typed-rows (queryOf (rowsOf p)) ∙ tree) ∙ sym (w .words);
-        fewest = λ l x. fewest-rounds (queryOf (rowsOf p)) l (x ∙ sym tree);
+        fewest = λ l x.
+            let k = fewest-rounds (queryOf (rowsOf p)) l (x ∙ sym tree) in
+            let a = line-opens (typed (queryOf (rowsOf p)) .line) in
+            let b = line-opens l in
+            omega arith;
+        none-spare = λ t w. none-spare (queryOf (rowsOf p)) t w (typed-back (queryOf (rowsOf p)) .line);
+        only = λ l h x none. tight l h none ∙ ap (λ (q : Query). typed q .line) (sym (line-tree l) ∙ ap queryOf x);
       }
 
 -- the same for every accepted plan

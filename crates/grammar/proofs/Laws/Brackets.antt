@@ -1,4 +1,7 @@
--- The round brackets of a line are those of its text, so that no bracket of a plan's line can be dropped.
+-- The round brackets of a line are those of its text. No contract cites this file.
+--     opens-append, opens-open, opens-close    how many a text opens, piece by piece
+--     line-opens                               as many as the line has
+-- Assumes nothing.
 use Prim.Native.Nat.{ℕ, zero, suc, _+_, _-_, _*_, _/_, _%_, _<_, _≤_}
 use native.Mathlib.Omega.{arith}
 use mathlib.Core.Path.{_≡_, refl, sym, ap, ap₂, _∙_, subst}
@@ -10,28 +13,30 @@ use lib.ListN.{length}
 use borrow.Author.Tests.{ne-eqb}
 use Rattle.seq.specs.Lists.{keep, consIf, joined}
 use Rattle.seq.proofs.Laws.Tests.{below-or}
-use Rattle.plan.specs.Rows.{rowsOf}
 use Rattle.seq.specs.Decimal.{digit, decimalF, decimal}
 use Rattle.grammar.specs.Text.{lead}
 use Rattle.grammar.specs.Grammar as g
 use Rattle.grammar.specs.Grammar.{Word, Condition, Figure, Joint, Line, Part, Item, letterOf, jointByte, conditionText, openText, figureText, written, partText, itemText, Fits}
 use Rattle.grammar.specs.Brackets.{opens, rounds, partRounds, itemRounds}
-use Rattle.grammar.specs.Meaning.{lineRows}
-use Rattle.grammar.specs.Query.{planLine, planText}
 use Rattle.grammar.proofs.Laws.Balance.{one, keep-cons}
 use Rattle.seq.proofs.Laws.Decimal.{decimal-one, decimal-more}
-use Rattle.grammar.proofs.Laws.Bounds.{PlanLine}
 
 opens-cons : (b : ℕ) (s : List ℕ) → opens (b ∷ s) ≡ one (eqb b 40) + opens s
 opens-cons b s = keep-cons (λ x. eqb x 40) b s
 
-opens-append : (s r : List ℕ) → opens (s ++ r) ≡ opens s + opens r
+pub opens-append : (s r : List ℕ) → opens (s ++ r) ≡ opens s + opens r
 unfolding keep
 opens-append [] r = omega arith
 opens-append (b ∷ s) r = let e = opens-append s r in let x = opens-cons b (s ++ r) in let y = opens-cons b s in omega arith
 
 other : (b : ℕ) (s : List ℕ) → (b ≡ 40 → ⊥) → opens (b ∷ s) ≡ opens s
 other b s h = opens-cons b s ∙ ap (λ (t : Bool). one t + opens s) (ne-eqb b 40 h) ∙ (let z : 0 + opens s ≡ opens s = omega arith in z)
+
+pub opens-open : (s : List ℕ) → opens (40 ∷ s) ≡ suc (opens s)
+opens-open s = opens-cons 40 s ∙ (let z : 1 + opens s ≡ suc (opens s) = omega arith in z)
+
+pub opens-close : (s : List ℕ) → opens (41 ∷ s) ≡ opens s
+opens-close s = other 41 s (λ e. omega arith)
 
 nothing : opens [] ≡ 0
 unfolding keep
@@ -100,8 +105,3 @@ mutual
   pub item-opens : (i : Item) → opens (itemText i) ≡ itemRounds i
   item-opens (g.figure f) = figure-none f
   item-opens (g.round l) = let a = line-opens l in let x = opens-append (written l) (41 ∷ []) in let y = other 41 [] (λ e. omega arith) ∙ nothing in let z = opens-cons 40 (written l ++ (41 ∷ [])) in omega arith
-
--- a text with fewer opening brackets than the plan's line is no line with the plan's rows
-pub none-dropped : (v p : List ℕ) → PlanLine v p → (l : Line) → opens (written l) < opens (planText p) → lineRows l ≡ rowsOf p → ⊥
-unfolding planText
-none-dropped v p w l h e = let a = line-opens l in let b = line-opens (planLine p) in let f = w .fewest l e in omega arith

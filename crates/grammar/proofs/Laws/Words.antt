@@ -4,14 +4,15 @@
 --     line-packed                the rows of a line of the grammar are
 --     line-truth                 a document is true of the words that a line gives exactly if it is true of the line on its own
 -- Assumes nothing.
-use Prim.Native.Nat.{ℕ, suc, _+_, _*_, _/_, _%_, _<_, _≤_}
+use Prim.Native.Nat.{ℕ, suc, _+_, _-_, _*_, _/_, _%_, _<_, _≤_}
 use native.Mathlib.Omega.{arith}
 use mathlib.Core.Path.{_≡_, refl, ap, ap₂, _∙_}
 use mathlib.Core.Bool.{Bool}
 use mathlib.Core.List.{List, [], _∷_, _++_, map}
 use lib.ListN.{length, getD, length-append}
-use Rattle.seq.specs.Lists.{joined}
+use Rattle.seq.specs.Lists.{keep, joined}
 use Rattle.seq.specs.Numbers.{run}
+use Rattle.seq.proofs.Laws.Keep.{keep-ext}
 use Rattle.seq.proofs.Laws.Numbers.{run-ext}
 use Rattle.volume.specs.Layout.{listsOf}
 use Rattle.plan.specs.declared.row.Kind.{Kind}
@@ -24,9 +25,10 @@ use Rattle.plan.specs.declared.row.Row.{Row}
 use Rattle.plan.specs.Limits.{leastUnit}
 use Rattle.plan.specs.Parts.{patternRows}
 use Rattle.plan.specs.Rows.{rowAt, rowOf, rowsOf, kindOf, wordsOf, planOf}
-use Rattle.fulltext.specs.Documents.{workOf, work, matching}
+use Rattle.fulltext.specs.Documents.{workOf, work, matching, docsIn}
 use Rattle.grammar.specs.Grammar as g
 use Rattle.grammar.specs.Grammar.{Word, Condition, Figure, Line, Part, Item, arity, ConditionFits, FigureFits, Fits, PartFits, ItemFits, noCondition}
+use Rattle.grammar.specs.Demands.{Meant}
 use Rattle.grammar.specs.Meaning.{predicateBy, predicateOf, patternOf, operatorOf, operatorRow, lineRows, partRows, itemRows, lineTrue}
 use Rattle.grammar.proofs.Laws.Query.{voice, condition, end, meaning}
 
@@ -191,3 +193,12 @@ line-back l h = rows-words (lineRows l) (line-packed l h)
 pub line-truth : (v : List ℕ) (l : Line) (d : ℕ) → Fits l → work v (planOf (lineRows l)) .isTrue d ≡ lineTrue (listsOf v) l d
 unfolding work workOf
 line-truth v l d h = ap (λ (rows : List Row). matching (listsOf v) rows d) (line-back l h) ∙ meaning (listsOf v) l d
+
+-- a line over a volume
+pub line-meant : (v : List ℕ) (l : Line) → Fits l → Meant v l
+unfolding docsIn
+line-meant v l h = record { rows = line-back l h; truth = λ d. line-truth v l d h; docs = docs }
+  where
+    docs : (a b : ℕ) → docsIn (work v (planOf (lineRows l))) a b ≡ keep (lineTrue (listsOf v) l) (run (λ d. d) a (b - a))
+    docs a b =
+        keep-ext (work v (planOf (lineRows l)) .isTrue) (lineTrue (listsOf v) l) (λ d. line-truth v l d h) (run (λ d. d) a (b - a))

@@ -10,7 +10,7 @@ use mathlib.Core.List.{List}
 use Rattle.seq.specs.Refusals.{refused}
 use Rattle.plan.specs.Check as plan
 use Rattle.plan.proofs.Laws.CheckFirst.{check-sound}
-use Rattle.matcher.proofs.Laws.Stages.{plan-number}
+use Rattle.plan.proofs.Laws.Stages.{plan-number}
 use Rattle.search.specs.Demands.{Holds3}
 use Rattle.search.proofs.Laws.Whole as whole
 use Rattle.lihambozy.specs.Flat.{flatPlan}

@@ -1,48 +1,153 @@
--- The calls together: the words that a line gives are read as its rows, so that their true documents are the line's own; and a plan's line gives the plan again.
-use Prim.Native.Nat.{ℕ, zero, suc, _+_, _*_, _/_, _<_, _≤_}
+-- The calls together. No contract cites this file.
+--     read-call         reading answers the first refusal, and what becomes of the buffer
+--     read-answered     what an answer of reading says of the text
+--     plan-there        a plan's line gives the plan again
+-- Assumes nothing.
+use Prim.Native.Nat.{ℕ, _*_, _<_, _≤_}
 use native.Mathlib.Omega.{arith}
 use mathlib.Core.Path.{_≡_, refl, sym, ap, ap₂, _∙_, subst}
-use mathlib.Core.Bool.{Bool, cond}
-use mathlib.Core.List.{List, [], _∷_, _++_}
+use mathlib.Core.Bool.{Bool, true, false, cond}
+use mathlib.Core.Logic.{_↔_}
+use mathlib.Core.List.{List, _++_}
 use lib.Dec.{ltb}
-use lib.ListN.{length, getD}
-use borrow.Author.Tests.{le-ltb}
-use Rattle.seq.specs.Lists.{joined}
-use Rattle.seq.specs.Numbers.{run}
-use Rattle.seq.specs.Refusals.{Said, refused, answered}
-use Rattle.seq.proofs.Laws.Numbers.{run-ext, length-run}
+use lib.ListN.{length, drop}
+use borrow.Author.Tests.{le-ltb, ltb-false}
+use Rattle.seq.specs.Refusals.{Said, refused, answered, laid}
+use Rattle.seq.proofs.Laws.Numbers.{length-run}
+use Rattle.seq.proofs.Laws.Refusals.{laid-refused, laid-answered, past, not-both, same-answer}
 use Rattle.volume.specs.Layout.{listsOf}
-use Rattle.plan.specs.declared.row.Kind.{Kind}
-use Rattle.plan.specs.declared.row.Kind.the-variants as kind
-use Rattle.plan.specs.declared.row.Predicate.the-variants.{Distance, Ordered, Samepara, Window, Proximity}
-use Rattle.plan.specs.declared.row.Operator.the-variants.{Both, Either, FirstNotSecond}
-use Rattle.plan.specs.declared.row.Row.{Row}
-use Rattle.plan.specs.Rows.{rowCount, rowAt, rowOf, rowsOf, kindOf, kindAt, wordsOf, planOf}
-use Rattle.plan.specs.Check.{Accepted}
-use Rattle.plan.specs.Accepted.{Given}
+use Rattle.plan.specs.Check.{sizes, verdict, Accepted}
+use Rattle.plan.specs.Rows.{rowCount, rowAt, rowsOf, planOf}
 use Rattle.plan.proofs.Laws.Accepted.{given}
-use Rattle.fulltext.specs.Documents.{Work, workOf, matching}
 use Rattle.fulltext.specs.Documents.{work}
-use Rattle.grammar.specs.Grammar.{Line}
+use Rattle.grammar.specs.Grammar.{Line, Fits, written}
+use Rattle.grammar.specs.Brackets.{Spare}
 use Rattle.grammar.specs.Meaning.{lineRows, lineTrue}
 use Rattle.grammar.specs.Query.{planLine, planText}
-use Rattle.grammar.specs.Reading.{Outcome, whole, reading}
+use Rattle.grammar.specs.Reading.{Outcome, whole, broken, deep, outcome, reading, start}
 use Rattle.grammar.specs.Words.{wordsBy, wordsOfLine}
-use Rattle.line.specs.Read.{readBy, readAnswer}
-use Rattle.grammar.proofs.Laws.Query.{meaning}
-use Rattle.grammar.proofs.Laws.Bounds.{PlanLine, accepted-line}
+use Rattle.grammar.proofs.Laws.Outcome.{OutcomeTold, outcome-told}
+use Rattle.grammar.proofs.Laws.Words.{plan-length, line-back, line-truth}
+use Rattle.grammar.proofs.Laws.Spare.{comes-back}
+use Rattle.grammar.proofs.Laws.Bounds.{accepted-line}
+use Rattle.line.specs.Read.{readBy, readAnswer, readOut}
+use Rattle.line.specs.Write.{writeBy, writeAnswer}
+use Rattle.line.specs.Demands.{ReadCall, Answered, ThereAndBack}
+use Rattle.line.proofs.Laws.Refusals.{whole-line}
+use Rattle.line.proofs.Laws.ReadFirst.{read-first}
 
--- reading a plan's line gives the plan's words, in any buffer that holds them
-pub plan-answer : (v p : List ℕ) → Accepted v p → (room : ℕ) → length p ≤ room → readAnswer (planText p) room ≡ answered (length p)
+-- reading answers the first refusal that applies, and the buffer afterwards
+pub read-call : (s out : List ℕ) → ReadCall s out
+unfolding readOut
+read-call s out = record {
+  first = read-first s (length out);
+  kept = λ n q e. laid-refused (readAnswer s (length out)) n q (wordsOfLine s) out e;
+  laid = λ n e. laid-answered (readAnswer s (length out)) n (wordsOfLine s) out e;
+}
+
+-- where reading answers, the text is a line with at most 64 rows
+record Line-read (s : List ℕ) (n : ℕ) : Type 0 where
+  line : Line
+  reads : reading s ≡ whole line
+  few : length (lineRows line) ≤ 64
+  count : 4 * length (lineRows line) ≡ n
+
+by-outcome : (s : List ℕ) (room n : ℕ) (o : Outcome) → reading s ≡ o → readBy o room ≡ answered n → Line-read s n
+by-outcome s room n (broken q) e x = absurd (not-both (refused 21 q) n 21 q x refl)
+by-outcome s room n (deep q) e x = absurd (not-both (refused 22 q) n 22 q x refl)
+by-outcome s room n (whole l) e x =
+    let a = past (ltb 64 (length (lineRows l))) 23 0 _ n x in
+    let b = past (ltb room (4 * length (lineRows l))) 16 0 _ n (a .1) in
+    record {
+      line = l;
+      reads = e;
+      few = ltb-false 64 (length (lineRows l)) (a .0);
+      count = same-answer (answered (4 * length (lineRows l))) (4 * length (lineRows l)) n refl (b .1);
+    }
+
+line-read : (s : List ℕ) (room n : ℕ) → readAnswer s room ≡ answered n → Line-read s n
 unfolding readAnswer
-plan-answer v p ok room h =
-    let w = accepted-line v p ok in
-    let g = given v p ok in
-    let n : length (lineRows (planLine p)) ≡ rowCount p = ap length (w .rows) ∙ length-run (rowAt p) 0 (rowCount p) in
-    let m = g .most-rows in
-    let e = g .whole in
-    let few : length (lineRows (planLine p)) ≤ 64 = omega arith in
-    let fits : 4 * length (lineRows (planLine p)) ≤ room = omega arith in
-    let size : 4 * length (lineRows (planLine p)) ≡ length p = omega arith in
-    rw (le-ltb 2048 (length (planText p)) (w .short))
-    (ap (λ (o : Outcome). readBy o room) (w .reads) ∙ rw (le-ltb 64 (length (lineRows (planLine p))) few, le-ltb room (4 * length (lineRows (planLine p))) fits) (ap answered size))
+line-read s room n e = by-outcome s room n (reading s) refl (past (ltb 2048 (length s)) 21 2048 _ n e .1)
+
+line-told : (s : List ℕ) (l : Line) → reading s ≡ whole l → Fits l × (written l ≡ s)
+line-told s l e = whole-line s l (subst (OutcomeTold start 0 s) e (outcome-told s start 0))
+
+words-told : (s : List ℕ) (l : Line) → reading s ≡ whole l → wordsOfLine s ≡ planOf (lineRows l)
+unfolding wordsOfLine
+words-told s l e = ap wordsBy e
+
+-- what an answer says
+pub read-answered : (s : List ℕ) (room n : ℕ) → readAnswer s room ≡ answered n → Answered s n
+read-answered s room n e = record {
+  line = r .line;
+  fits = t .0;
+  text = t .1;
+  words = w;
+  count = let a = ap length w in let b = plan-length (lineRows (r .line)) in let c = r .count in omega arith;
+  few = let a = r .few in let c = r .count in omega arith;
+  rows = ap rowsOf w ∙ line-back (r .line) (t .0);
+  truth = λ v d. ap (λ (p : List ℕ). work v p .isTrue d) w ∙ line-truth v (r .line) d (t .0);
+  back = subst (λ (p : List ℕ). (planText p ≡ s) ↔ ((t : List ℕ) → Spare (r .line) t → ⊥)) (sym w)
+      (subst (λ (x : List ℕ). (planText (planOf (lineRows (r .line))) ≡ x) ↔ ((t : List ℕ) → Spare (r .line) t → ⊥)) (t .1) (comes-back (r .line) (t .0)));
+}
+  where
+    r : Line-read s n
+    r = line-read s room n e
+
+    t : Fits (r .line) × (written (r .line) ≡ s)
+    t = line-told s (r .line) (r .reads)
+
+    w : wordsOfLine s ≡ planOf (lineRows (r .line))
+    w = words-told s (r .line) (r .reads)
+
+module _ (v p : List ℕ) (ok : Accepted v p) where
+  rows-few : length (lineRows (planLine p)) ≤ 64
+  rows-few =
+      let n : length (lineRows (planLine p)) ≡ rowCount p = ap length (accepted-line v p ok .rows) ∙ length-run (rowAt p) 0 (rowCount p) in
+      let m = given v p ok .most-rows in
+      omega arith
+
+  rows-size : 4 * length (lineRows (planLine p)) ≡ length p
+  rows-size =
+      let n : length (lineRows (planLine p)) ≡ rowCount p = ap length (accepted-line v p ok .rows) ∙ length-run (rowAt p) 0 (rowCount p) in
+      let e = given v p ok .whole in
+      omega arith
+
+  -- a plan's line is short and shallow, and has few rows: only the buffer may be too short
+  plan-answer : (room : ℕ) → readAnswer (planText p) room ≡ cond (ltb room (length p)) (refused 16 0) (answered (length p))
+  unfolding readAnswer
+  plan-answer room =
+      let w = accepted-line v p ok in
+      let s : length (planText p) ≤ 2048 = let h = w .short in omega arith in
+      rw (le-ltb 2048 (length (planText p)) s)
+      (ap (λ (o : Outcome). readBy o room) (w .reads)
+      ∙ rw (le-ltb 64 (length (lineRows (planLine p))) rows-few)
+      (ap (λ (n : ℕ). cond (ltb room n) (refused 16 0) (answered n)) rows-size))
+
+  plan-read : (room : ℕ) → length p ≤ room → readAnswer (planText p) room ≡ answered (length p)
+  plan-read room h = plan-answer room ∙ rw (le-ltb room (length p) h)
+
+  only-short : (room n q : ℕ) → readAnswer (planText p) room ≡ refused n q → n ≡ 16
+  only-short room n q e = go (ltb room (length p)) (sym (plan-answer room) ∙ e)
+    where
+      go : (t : Bool) → cond t (refused 16 0) (answered (length p)) ≡ refused n q → n ≡ 16
+      go true x = cc
+      go false x = absurd (not-both (answered (length p)) (length p) n q refl x)
+
+  plan-write : (out : List ℕ) → length (planText p) ≤ length out → writeAnswer v p (length out) ≡ answered (length (planText p))
+  unfolding writeAnswer
+  plan-write out h = ap (λ (x : Said _). writeBy x (planText p) (length out)) ok ∙ rw (le-ltb (length out) (length (planText p)) h)
+
+  plan-gives : (out : List ℕ) → length p ≤ length out → readOut (planText p) out ≡ p ++ drop (length p) out
+  unfolding readOut
+  plan-gives out h =
+      laid-answered (readAnswer (planText p) (length out)) (length p) (wordsOfLine (planText p)) out (plan-read (length out) h)
+      ∙ ap (λ (x : List ℕ). x ++ drop (length x) out) (accepted-line v p ok .words)
+
+  pub plan-there : ThereAndBack v p
+  plan-there = record {
+    writes = plan-write;
+    in-order = only-short;
+    reads = λ out h. plan-read (length out) h;
+    gives = plan-gives;
+  }

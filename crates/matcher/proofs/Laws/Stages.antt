@@ -1,7 +1,5 @@
--- The refusals of a volume and a plan, and of testing, by their numbers. No contract cites this file.
---     plan-number     they are 1 to 14
---     plan-stage      they have the first ten stages
---     test-stage      and with 17 the first eleven
+-- The refusals of testing, by their numbers. No contract cites this file.
+--     test-stage      they have the first eleven stages
 -- Assumes nothing.
 use Prim.Native.Nat.{ℕ, _≤_}
 use native.Mathlib.Omega.{arith}
@@ -9,59 +7,17 @@ use mathlib.Core.List.{List, [], _∷_}
 use Rattle.seq.specs.Lists.{elem}
 use Rattle.seq.specs.Refusals.{stageIn}
 use Rattle.seq.proofs.Laws.Stages.{stage-front}
-use Rattle.volume.specs.Refusals.{VolumeApplies}
-use Rattle.volume.specs.Refusals as volume
-use Rattle.plan.specs.Refusals.{PlanApplies, ofVolume, wrongLength, wrongForm, wrongList, ninth, wrongOrder, unfinished, planStages}
+use Rattle.plan.specs.Refusals.{planStages}
+use Rattle.plan.proofs.Laws.Stages.{plan-stage}
 use Rattle.matcher.specs.Refusals.{TestApplies, ofPlan, noPattern, wrongNumber, wrongDoc, wrongPos, testStages}
 
-volume-number : (v : List ℕ) (n q : ℕ) → VolumeApplies v n q → (1 ≤ n) × (n ≤ 8)
-volume-number v n q (volume.wrongLength h) = (omega arith, omega arith)
-volume-number v n q (volume.wrongNumber k l h) = (omega arith, omega arith)
-volume-number v n q (volume.wrongChecksum k l h) = (omega arith, omega arith)
-volume-number v n q (volume.wrongVersion h) = (omega arith, omega arith)
-volume-number v n q (volume.wrongListCount h) = (omega arith, omega arith)
-volume-number v n q (volume.wrongExtent h) = (omega arith, omega arith)
-volume-number v n q (volume.wrongOrder i l h) = (omega arith, omega arith)
-volume-number v n q (volume.wrongPadding i l r h) = (omega arith, omega arith)
-
-volume-stage : (v : List ℕ) (n q : ℕ) → VolumeApplies v n q → stageIn planStages n ≤ 6
+pub test-stage : (v p : List ℕ) (k d : ℕ) (ps : List ℕ) (n q : ℕ) → TestApplies v p k d ps n q → stageIn testStages n ≤ 10
 unfolding stageIn elem
-volume-stage v n q (volume.wrongLength h) = omega arith
-volume-stage v n q (volume.wrongNumber k l h) = omega arith
-volume-stage v n q (volume.wrongChecksum k l h) = omega arith
-volume-stage v n q (volume.wrongVersion h) = omega arith
-volume-stage v n q (volume.wrongListCount h) = omega arith
-volume-stage v n q (volume.wrongExtent h) = omega arith
-volume-stage v n q (volume.wrongOrder i l h) = omega arith
-volume-stage v n q (volume.wrongPadding i l r h) = omega arith
-
-module _ (v p : List ℕ) where
-  pub plan-number : (n q : ℕ) → PlanApplies v p n q → (1 ≤ n) × (n ≤ 14)
-  plan-number n q (ofVolume m i a) = let h = volume-number v n q a in (h .0, omega (arith, h .1))
-  plan-number n q (wrongLength h) = (omega arith, omega arith)
-  plan-number n q (wrongForm i l h) = (omega arith, omega arith)
-  plan-number n q (wrongList i l h) = (omega arith, omega arith)
-  plan-number n q (ninth i l h) = (omega arith, omega arith)
-  plan-number n q (wrongOrder i l h) = (omega arith, omega arith)
-  plan-number n q (unfinished h) = (omega arith, omega arith)
-
-  pub plan-stage : (n q : ℕ) → PlanApplies v p n q → stageIn planStages n ≤ 9
-  unfolding stageIn elem
-  plan-stage n q (ofVolume m i a) = let h = volume-stage v n q a in omega arith
-  plan-stage n q (wrongLength h) = omega arith
-  plan-stage n q (wrongForm i l h) = omega arith
-  plan-stage n q (wrongList i l h) = omega arith
-  plan-stage n q (ninth i l h) = omega arith
-  plan-stage n q (wrongOrder i l h) = omega arith
-  plan-stage n q (unfinished h) = omega arith
-
-  pub test-stage : (k d : ℕ) (ps : List ℕ) (n q : ℕ) → TestApplies v p k d ps n q → stageIn testStages n ≤ 10
-  unfolding stageIn elem
-  test-stage k d ps n q (ofPlan m i a) =
-      let h = plan-stage n q a in
-      let e = stage-front planStages ((17 ∷ []) ∷ []) n (omega arith) in
-      omega arith
-  test-stage k d ps n q (noPattern h) = omega arith
-  test-stage k d ps n q (wrongNumber h) = omega arith
-  test-stage k d ps n q (wrongDoc h) = omega arith
-  test-stage k d ps n q (wrongPos i l h) = omega arith
+test-stage v p k d ps n q (ofPlan m i a) =
+    let h = plan-stage v p n q a in
+    let e = stage-front planStages ((17 ∷ []) ∷ []) n (omega arith) in
+    omega arith
+test-stage v p k d ps n q (noPattern h) = omega arith
+test-stage v p k d ps n q (wrongNumber h) = omega arith
+test-stage v p k d ps n q (wrongDoc h) = omega arith
+test-stage v p k d ps n q (wrongPos i l h) = omega arith

@@ -27,7 +27,7 @@ use Rattle.plan.proofs.Laws.CheckFirst.{check-sound}
 use Rattle.fulltext.specs.Matches.{matchesAt}
 use Rattle.matcher.specs.Testing.{outOfRange, testBy, testAnswer}
 use Rattle.matcher.specs.Refusals.{TestApplies, ofPlan, noPattern, wrongNumber, wrongDoc, wrongPos, testStages}
-use Rattle.matcher.proofs.Laws.Stages.{plan-stage}
+use Rattle.plan.proofs.Laws.Stages.{plan-stage}
 
 -- a position is over 65,535
 abbrev Over16 : List ℕ → Type 0

@@ -24,7 +24,7 @@ use Rattle.search.specs.Listing.{pageOf, listBy, listAnswer}
 use Rattle.fulltext.specs.Documents.{work}
 use Rattle.search.specs.Refusals.{ListApplies, ofPlan, wrongStart, short, listStages}
 use Rattle.search.specs.Demands.{ListCall}
-use Rattle.matcher.proofs.Laws.Stages.{plan-stage}
+use Rattle.plan.proofs.Laws.Stages.{plan-stage}
 use Rattle.search.proofs.Laws.Listing.{out-refused, out-answered}
 
 module _ (v p : List ℕ) (start room : ℕ) where

@@ -4,7 +4,7 @@ use Prim.Native.Nat.{ℕ, _≤_}
 use native.Mathlib.Omega.{arith}
 use mathlib.Core.List.{List}
 use Rattle.search.specs.Refusals as search
-use Rattle.matcher.proofs.Laws.Stages.{plan-number}
+use Rattle.plan.proofs.Laws.Stages.{plan-number}
 
 module _ (v p : List ℕ) where
   pub list-number : (start room n q : ℕ) → search.ListApplies v p start room n q → (1 ≤ n) × (n ≤ 16)

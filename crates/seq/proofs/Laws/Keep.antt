@@ -1,6 +1,7 @@
 -- The elements of a list that pass a test, and whether all do. No contract cites this file.
 --     keep-pass, keep-fail             one element in front
 --     keep-append                      a list in two parts
+--     keep-ext                         two tests that agree
 --     keep-run-none, keep-run-all      a run of which none passes, or all
 --     length-keep, keep-le             how many pass: a sum of ones; not more than there are
 --     all-fails                        a test that not all pass, at an index
@@ -8,7 +9,7 @@
 -- Assumes nothing.
 use Prim.Native.Nat.{ℕ, zero, suc, _+_, _<_, _≤_}
 use native.Mathlib.Omega.{arith}
-use mathlib.Core.Path.{_≡_, refl, ap}
+use mathlib.Core.Path.{_≡_, refl, ap, ap₂}
 use mathlib.Core.Bool.{Bool, true, false, cond, _&&_}
 use mathlib.Core.List.{List, [], _∷_, _++_, map}
 use mathlib.Core.Option.{some}
@@ -16,6 +17,12 @@ use lib.ListN.{length, getD}
 use Rattle.seq.specs.Lists.{consIf, keep, all, total, first}
 use Rattle.seq.specs.Numbers.{run}
 use Rattle.seq.proofs.Laws.Tests.{both, both-true, contrary}
+
+-- two tests that agree keep the same
+pub keep-ext : {A : Type 0} (s t : A → Bool) → ((x : A) → s x ≡ t x) → (xs : List A) → keep s xs ≡ keep t xs
+unfolding keep
+keep-ext s t e [] = refl
+keep-ext {A = A} s t e (x ∷ xs) = ap₂ (λ (b : Bool) (l : List A). consIf b x l) (e x) (keep-ext s t e xs)
 
 module _ {A : Type 0} (test : A → Bool) where
   pub keep-pass : (x : A) (xs : List A) → test x ≡ true → keep test (x ∷ xs) ≡ x ∷ keep test xs
