@@ -1,6 +1,7 @@
 -- Each statement of `specs/Demands.antt`, proved. Assumes nothing.
-use Rattle.lihambozy.specs.Demands.{Demand3, Enumerates}
+use Rattle.lihambozy.specs.Demands.{Demand3, Enumerates, Typed}
 use Rattle.lihambozy.proofs.Laws.Search.{holds3}
+use Rattle.lihambozy.proofs.Laws.Typed.{typed-search}
 use Rattle.lihambozy.proofs.Laws.Matches.{every-enumeration}
 
 pub demand3 : Demand3
@@ -10,3 +11,7 @@ demand3 = holds3
 pub enumerates : Enumerates
 unfolding Enumerates
 enumerates = every-enumeration
+
+pub typed : Typed
+unfolding Typed
+typed = typed-search

@@ -21,6 +21,7 @@ use Rattle.lihambozy.specs.declared.TestPositionsAnswer.{TestPositionsAn
 use Rattle.lihambozy.specs.declared.ListAnswer.{ListAnswer}
 use Rattle.lihambozy.specs.declared.ListMatchesAnswer.{ListMatchesAnswer}
 use Rattle.lihambozy.specs.declared.LineToPlanAnswer.{LineToPlanAnswer}
+use Rattle.lihambozy.specs.declared.PlanToLineAnswer.{PlanToLineAnswer}
 
 -- the answer of checking a volume
 abbrev pub flatSizes : Said Sizes → CheckVolumeAnswer
@@ -81,3 +82,8 @@ flatMatches (answered page) = record {
 abbrev pub flatWords : Said ℕ → LineToPlanAnswer
 flatWords (refused n p) = record { refusal = n; at = p; words = 0 }
 flatWords (answered n) = record { refusal = 0; at = 0; words = n }
+
+-- the answer of writing a line
+abbrev pub flatBytes : Said ℕ → PlanToLineAnswer
+flatBytes (refused n p) = record { refusal = n; at = p; bytes = 0 }
+flatBytes (answered n) = record { refusal = 0; at = 0; bytes = n }

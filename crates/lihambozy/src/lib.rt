@@ -14,13 +14,15 @@ ghost use Rattle.plan.specs.Check as plans;
 ghost use Rattle.plan.specs.Parts.{spanOf};
 ghost use Rattle.matcher.specs.Testing.{testAnswer};
 ghost use Rattle.line.specs.Read as lines;
-ghost use Rattle.lihambozy.specs.Flat.{flatSizes, flatList, flatVolume, flatPlan, flatSpan, flatTest, flatWords};
+ghost use Rattle.printer.specs.Write as printed;
+ghost use Rattle.lihambozy.specs.Flat.{flatSizes, flatList, flatVolume, flatPlan, flatSpan, flatTest, flatWords, flatBytes};
 ghost use Rattle.lihambozy.specs.Search.{Kept};
 ghost use Rattle.lihambozy.specs.Enumeration as enumerations;
 use enumeration::Enumerated;
 use line::Read as LineRead;
 use plan::Checked as PlanChecked;
 use plan::MOST_PATTERN_VARS;
+use printer::Written as LineWritten;
 use search::Listed;
 use search::Tested;
 use volume::Checked;
@@ -96,6 +98,14 @@ pub struct LineToPlanAnswer {
     pub refusal: u32,
     pub at: u32,
     pub words: u32,
+}
+
+// What `lhz_plan_to_line` answers: the number of bytes at the front of the buffer.
+#[repr(C)]
+pub struct PlanToLineAnswer {
+    pub refusal: u32,
+    pub at: u32,
+    pub bytes: u32,
 }
 
 // What `lhz_list_matches` answers: the number of matches (01: passing choices) at the front of the
@@ -433,6 +443,35 @@ pub extern "C" fn lhz_line_to_plan(line: &[u8], out: &mut [u32]) -> LineToPlanAn
             refusal: 16,
             at: 0,
             words: 0,
+        },
+    }
+}
+
+// Writes the line of a plan over a volume to the front of out.
+#[no_mangle]
+pub extern "C" fn lhz_plan_to_line(volume: &[u8], plan: &[u32], out: &mut [u8]) -> PlanToLineAnswer
+    ensures { λ r. ⌜ r ≡ flatBytes (printed.writeAnswer (now (volume .entry)) (now (plan .entry)) (length (now (out .entry)))) ⌝ }
+    ensures { λ _. ⌜ now (out .exit) ≡ printed.writeOut (now (volume .entry)) (now (plan .entry)) (now (out .entry)) ⌝ }
+{
+    let written = printer::write(volume, plan, out);
+    match written {
+        LineWritten::Bytes(bytes) => PlanToLineAnswer {
+            refusal: 0,
+            at: 0,
+            bytes,
+        },
+        LineWritten::Refused(why) => {
+            let code = plan::code_of(why);
+            PlanToLineAnswer {
+                refusal: code.number,
+                at: code.at,
+                bytes: 0,
+            }
+        }
+        LineWritten::Short => PlanToLineAnswer {
+            refusal: 16,
+            at: 0,
+            bytes: 0,
         },
     }
 }

@@ -1,15 +1,13 @@
 -- The laws of `specs/`. No contract cites these files.
---     Refusals      what 21 and 22 mean, and how a reading ends
---     ReadFirst     reading answers the first refusal that applies
---     WriteFirst    writing answers the first refusal that applies
---     Whole         the calls together
---     Answers       an answer is known from its number and values
---     States        the states in which a pattern is read
---     Reads         a law for each way through the readers
---     Call          rows in the lent buffer
+--     Refusals     what 21 and 22 mean, and how a reading ends
+--     ReadFirst    reading answers the first refusal that applies
+--     Whole        reading a line as a whole
+--     Answers      an answer is known from its number and values
+--     States       the states in which a pattern is read
+--     Reads        a law for each way through the readers
+--     Call         rows in the lent buffer
 pub mod Refusals
 pub mod ReadFirst
-pub mod WriteFirst
 pub mod Whole
 pub mod Answers
 pub mod States

@@ -1,13 +1,11 @@
--- The refusals of the two calls as relations, which know no reader: one line for each number. Assumes nothing.
+-- The refusals of reading a line as relations, which know no reader: one line for each number. Assumes nothing.
 use Prim.Native.Nat.{ℕ, _+_, _*_, _<_, _≤_}
 use mathlib.Core.Path.{_≡_}
-use mathlib.Core.List.{List, [], _∷_, _++_}
+use mathlib.Core.List.{List, [], _∷_}
 use lib.ListN.{length, getD, take}
-use Rattle.plan.specs.Refusals.{PlanApplies, planStages}
 use Rattle.grammar.specs.Grammar.{Line, Fits, written, LineText, Begins}
 use Rattle.grammar.specs.Brackets.{opens, closes}
 use Rattle.grammar.specs.Meaning.{lineRows}
-use Rattle.grammar.specs.Query.{planText}
 
 -- the text is no line, and e is the length of its longest beginning with which some line of the grammar begins
 pub record Breaks (s : List ℕ) (e : ℕ) : Type 0 where
@@ -38,13 +36,3 @@ pub data ReadApplies (s : List ℕ) (room : ℕ) : ℕ → ℕ → Type 0 where
 -- 21 and 22 share a stage: by byte, 21 where both name one byte
 abbrev pub readStages : List (List ℕ)
 readStages = (21 ∷ 22 ∷ []) ∷ (23 ∷ []) ∷ (16 ∷ []) ∷ []
-
--- writing a plan as a line
-pub data WriteApplies (v p : List ℕ) (room : ℕ) : ℕ → ℕ → Type 0 where
-  -- 1 to 14: the refusals of the volume and the plan
-  ofPlan : (n q : ℕ) → PlanApplies v p n q → WriteApplies v p room n q
-  -- 16: the buffer is too short for the line
-  shortLine : room < length (planText p) → WriteApplies v p room 16 0
-
-abbrev pub writeStages : List (List ℕ)
-writeStages = planStages ++ ((16 ∷ []) ∷ [])

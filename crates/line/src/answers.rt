@@ -1,7 +1,5 @@
-// What the calls answer. `specs/Answers.antt` gives the number and the values of each case.
-use plan::Refusal;
+// What reading a line answers. `specs/Answers.antt` gives the number and the values of each case.
 
-// What reading a line answers.
 pub enum Read {
     // So many words are written: the rows of the line.
     Words(u32),
@@ -12,15 +10,5 @@ pub enum Read {
     // The line has more rows than a plan may have.
     TooMany,
     // The buffer is shorter than the rows.
-    Short,
-}
-
-// What writing a plan as a line answers.
-pub enum Written {
-    // So many bytes are written: the line.
-    Bytes(u32),
-    // The volume or the plan is refused.
-    Refused(Refusal),
-    // The buffer is shorter than the line.
     Short,
 }

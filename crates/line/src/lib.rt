@@ -1,7 +1,7 @@
-// Typed lines (02, N5): `read` gives the rows of a line, `write` the line of a plan.
+// Typed lines (02, N5), read: `read` gives the rows of a line.
 //
-// Neither has a `requires`. What each one answers, and each lent word or byte afterwards, is an
-// equation with a definition of `specs/`.
+// It has no `requires`. What it answers, and each lent word afterwards, is an equation with a
+// definition of `specs/`.
 mod answers;
 mod figure;
 mod reader;
@@ -9,5 +9,4 @@ mod reading;
 mod steps;
 
 pub use answers::Read;
-pub use answers::Written;
 pub use reader::read;

@@ -89,7 +89,7 @@ fn line(
             if text.len() <= end {
                 return Reached::At(end, rows);
             }
-            if text[end] == 124 {
+            if text[end] == b'|' {
                 return line(text, end + 1, depth, rows, Pending::Either, out);
             }
             Reached::At(end, rows)
@@ -118,10 +118,10 @@ fn part(
             if text.len() <= end {
                 return Reached::At(end, rows);
             }
-            if text[end] == 38 {
+            if text[end] == b'&' {
                 return part(text, end + 1, depth, rows, Pending::Both, out);
             }
-            if text[end] == 33 {
+            if text[end] == b'!' {
                 return part(text, end + 1, depth, rows, Pending::Without, out);
             }
             Reached::At(end, rows)
@@ -137,10 +137,10 @@ fn item(text: &[u8], at: usize, depth: usize, first: usize, out: &mut [u32]) -> 
     if text.len() <= at {
         return Reached::Broken(at);
     }
-    if text[at] == 91 {
+    if text[at] == b'[' {
         return figure(text, at + 1, first, out);
     }
-    if text[at] != 40 {
+    if text[at] != b'(' {
         return Reached::Broken(at);
     }
     if 8 <= depth {
@@ -154,7 +154,7 @@ fn item(text: &[u8], at: usize, depth: usize, first: usize, out: &mut [u32]) -> 
             if text.len() <= end {
                 return Reached::Broken(end);
             }
-            if text[end] != 41 {
+            if text[end] != b')' {
                 return Reached::Broken(end);
             }
             Reached::At(end + 1, rows)

@@ -57,10 +57,10 @@ fn grow(number: Number, byte: u8, most: u32) -> Grown
     requires { ⌜ states.NumberMost 65536 number ⌝ }
     ensures { λ r. ⌜ r ≡ states.grownBy most number byte ⌝ }
 {
-    if byte < 48 {
+    if byte < b'0' {
         return Grown::Not;
     }
-    if 57 < byte {
+    if b'9' < byte {
         return Grown::Not;
     }
     let d = wide(byte) - 48;
@@ -120,10 +120,10 @@ fn most_of(word: Word, count: u32) -> u32
 fn ending(words: Words, byte: u8) -> Next
     ensures { λ r. ⌜ r ≡ states.endingState words byte ⌝ }
 {
-    if byte == 59 {
+    if byte == b';' {
         return Next::Emits(words, State::Semicolon);
     }
-    if byte == 93 {
+    if byte == b']' {
         return Next::Closes(words);
     }
     Next::Stuck
@@ -194,7 +194,7 @@ fn in_list(number: Number, byte: u8) -> Next
         Number::Fresh => Next::Stuck,
         Number::Digits(n) => {
             let words = voice(n);
-            if byte == 32 {
+            if byte == b' ' {
                 return Next::Emits(words, State::Listing(Number::Fresh));
             }
             ending(words, byte)
@@ -206,19 +206,19 @@ fn in_list(number: Number, byte: u8) -> Next
 fn letter(byte: u8) -> Next
     ensures { λ r. ⌜ r ≡ states.stepSemicolon byte ⌝ }
 {
-    if byte == 110 {
+    if byte == b'n' {
         return Next::Goes(State::Lettered(Word::Near));
     }
-    if byte == 98 {
+    if byte == b'b' {
         return Next::Goes(State::Lettered(Word::Before));
     }
-    if byte == 116 {
+    if byte == b't' {
         return Next::Goes(State::Lettered(Word::Same));
     }
-    if byte == 115 {
+    if byte == b's' {
         return Next::Goes(State::Lettered(Word::Span));
     }
-    if byte == 97 {
+    if byte == b'a' {
         return Next::Goes(State::Lettered(Word::Apart));
     }
     Next::Stuck
@@ -229,7 +229,7 @@ fn another(word: Word, count: u32, a: u32, b: u32, c: u32, n: u32, byte: u8) -> 
     requires { ⌜ count < 4 ⌝ }
     ensures { λ r. ⌜ r ≡ states.anotherState word count a b c n byte ⌝ }
 {
-    if byte != 32 {
+    if byte != b' ' {
         return Next::Stuck;
     }
     if count == 0 {
@@ -272,7 +272,7 @@ pub fn step(state: State, byte: u8) -> Next
         State::Listing(number) => in_list(number, byte),
         State::Semicolon => letter(byte),
         State::Lettered(word) => {
-            if byte == 32 {
+            if byte == b' ' {
                 return Next::Goes(State::Counting(word, 0, 0, 0, 0, Number::Fresh));
             }
             Next::Stuck

@@ -1,7 +1,6 @@
--- The calls together. No contract cites this file.
+-- Reading a line as a whole. No contract cites this file.
 --     read-call         reading answers the first refusal, and what becomes of the buffer
 --     read-answered     what an answer of reading says of the text
---     plan-there        a plan's line gives the plan again
 -- Assumes nothing.
 use Prim.Native.Nat.{ℕ, _*_, _<_, _≤_}
 use native.Mathlib.Omega.{arith}
@@ -31,8 +30,7 @@ use Rattle.grammar.proofs.Laws.Words.{plan-length, line-back, line-truth}
 use Rattle.grammar.proofs.Laws.Spare.{comes-back}
 use Rattle.grammar.proofs.Laws.Bounds.{accepted-line}
 use Rattle.line.specs.Read.{readBy, readAnswer, readOut}
-use Rattle.line.specs.Write.{writeBy, writeAnswer}
-use Rattle.line.specs.Demands.{ReadCall, Answered, ThereAndBack}
+use Rattle.line.specs.Demands.{ReadCall, Answered}
 use Rattle.line.proofs.Laws.Refusals.{whole-line}
 use Rattle.line.proofs.Laws.ReadFirst.{read-first}
 
@@ -99,55 +97,3 @@ read-answered s room n e = record {
 
     w : wordsOfLine s ≡ planOf (lineRows (r .line))
     w = words-told s (r .line) (r .reads)
-
-module _ (v p : List ℕ) (ok : Accepted v p) where
-  rows-few : length (lineRows (planLine p)) ≤ 64
-  rows-few =
-      let n : length (lineRows (planLine p)) ≡ rowCount p = ap length (accepted-line v p ok .rows) ∙ length-run (rowAt p) 0 (rowCount p) in
-      let m = given v p ok .most-rows in
-      omega arith
-
-  rows-size : 4 * length (lineRows (planLine p)) ≡ length p
-  rows-size =
-      let n : length (lineRows (planLine p)) ≡ rowCount p = ap length (accepted-line v p ok .rows) ∙ length-run (rowAt p) 0 (rowCount p) in
-      let e = given v p ok .whole in
-      omega arith
-
-  -- a plan's line is short and shallow, and has few rows: only the buffer may be too short
-  plan-answer : (room : ℕ) → readAnswer (planText p) room ≡ cond (ltb room (length p)) (refused 16 0) (answered (length p))
-  unfolding readAnswer
-  plan-answer room =
-      let w = accepted-line v p ok in
-      let s : length (planText p) ≤ 2048 = let h = w .short in omega arith in
-      rw (le-ltb 2048 (length (planText p)) s)
-      (ap (λ (o : Outcome). readBy o room) (w .reads)
-      ∙ rw (le-ltb 64 (length (lineRows (planLine p))) rows-few)
-      (ap (λ (n : ℕ). cond (ltb room n) (refused 16 0) (answered n)) rows-size))
-
-  plan-read : (room : ℕ) → length p ≤ room → readAnswer (planText p) room ≡ answered (length p)
-  plan-read room h = plan-answer room ∙ rw (le-ltb room (length p) h)
-
-  only-short : (room n q : ℕ) → readAnswer (planText p) room ≡ refused n q → n ≡ 16
-  only-short room n q e = go (ltb room (length p)) (sym (plan-answer room) ∙ e)
-    where
-      go : (t : Bool) → cond t (refused 16 0) (answered (length p)) ≡ refused n q → n ≡ 16
-      go true x = cc
-      go false x = absurd (not-both (answered (length p)) (length p) n q refl x)
-
-  plan-write : (out : List ℕ) → length (planText p) ≤ length out → writeAnswer v p (length out) ≡ answered (length (planText p))
-  unfolding writeAnswer
-  plan-write out h = ap (λ (x : Said _). writeBy x (planText p) (length out)) ok ∙ rw (le-ltb (length out) (length (planText p)) h)
-
-  plan-gives : (out : List ℕ) → length p ≤ length out → readOut (planText p) out ≡ p ++ drop (length p) out
-  unfolding readOut
-  plan-gives out h =
-      laid-answered (readAnswer (planText p) (length out)) (length p) (wordsOfLine (planText p)) out (plan-read (length out) h)
-      ∙ ap (λ (x : List ℕ). x ++ drop (length x) out) (accepted-line v p ok .words)
-
-  pub plan-there : ThereAndBack v p
-  plan-there = record {
-    writes = plan-write;
-    in-order = only-short;
-    reads = λ out h. plan-read (length out) h;
-    gives = plan-gives;
-  }

@@ -2,6 +2,7 @@
 --     decimal-one, decimal-more     a number of one digit, and of more
 --     decimal-digit                 a digit as a number
 --     decimal-grow                  a number with one more digit
+--     decimal-tens                  the last digit of a number of more than one
 --     length-decimal                a number below 10 ^ k has at most k digits
 -- Assumes nothing.
 use Prim.Native.Nat.{ℕ, zero, suc, _+_, _*_, _/_, _%_, _^_, _<_, _≤_}
@@ -51,6 +52,12 @@ decimal-grow n d h l =
     decimal-more m m (omega arith)
     ∙ ap₂ (λ (x y : ℕ). decimalF m x ++ (digit y ∷ [])) q r
     ∙ ap (λ (xs : List ℕ). xs ++ (digit d ∷ [])) (decimal-enough m (suc n) n (omega arith) (omega arith))
+
+-- the last digit of a number of more than one
+pub decimal-tens : (n : ℕ) → 10 ≤ n → decimal n ≡ decimal (n / 10) ++ (digit (n % 10) ∷ [])
+decimal-tens n h =
+    let e : n ≡ n / 10 * 10 + n % 10 = omega arith in
+    ap decimal e ∙ decimal-grow (n / 10) (n % 10) (omega arith) (omega arith)
 
 length-enough : (k f n : ℕ) → n < 10 ^ (suc k) → length (decimalF f n) ≤ suc k
 unfolding decimalF

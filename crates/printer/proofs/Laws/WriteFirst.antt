@@ -21,9 +21,9 @@ use Rattle.plan.specs.Refusals.{PlanApplies, planStages}
 use Rattle.plan.proofs.Laws.CheckFirst.{check-sound}
 use Rattle.plan.proofs.Laws.Stages.{plan-stage}
 use Rattle.grammar.specs.Query.{planText}
-use Rattle.line.specs.Refusals.{WriteApplies, ofPlan, shortLine, writeStages}
-use Rattle.line.specs.Write.{writeBy, writeAnswer, writeOut}
-use Rattle.line.specs.Demands.{WriteCall}
+use Rattle.printer.specs.Refusals.{WriteApplies, ofPlan, shortLine, writeStages}
+use Rattle.printer.specs.Write.{writeBy, writeAnswer, writeOut}
+use Rattle.printer.specs.Demands.{WriteCall}
 
 module _ (v p : List ℕ) (room : ℕ) where
   -- what a refusal of the call says, by its number and place

@@ -1,0 +1,311 @@
+-- The text of a tree, written from its end: operator by operator. No contract cites this file.
+--     stack-shut                      the rows of stacked trees do not end in a VOICE
+--     node-text                       the text of what an operator joins, in its five pieces
+--     tree-leaf, tree-pattern         where a tree ends in END
+--     node-inner .. node-put          where it ends in an operator, piece by piece
+-- Assumes nothing.
+use Prim.Native.Nat.{ℕ, zero, suc, _+_, _-_, _<_, _≤_}
+use native.Mathlib.Omega.{arith}
+use mathlib.Core.Path.{_≡_, refl, sym, ap, ap₂, _∙_, subst}
+use mathlib.Core.Bool.{Bool, true, false, true≢false}
+use mathlib.Core.Logic.{_⊎_, inl, inr, ⊎-elim}
+use mathlib.Core.List.{List, [], _∷_, _++_, map, append-assoc, append-nil}
+use lib.ListN.{length, take, length-append}
+use lib.Seq.{take-at}
+use Rattle.seq.specs.Numbers.{run}
+use Rattle.seq.proofs.Laws.Lists.{length-snoc}
+use Rattle.seq.proofs.Laws.Numbers.{run-append, length-run}
+use Rattle.plan.specs.declared.row.Operator.{Operator}
+use Rattle.plan.specs.declared.row.Operator.the-variants.{Both, Either, FirstNotSecond}
+use Rattle.plan.specs.declared.row.Predicate.{Predicate}
+use Rattle.plan.specs.declared.row.Kind.{Kind}
+use Rattle.plan.specs.declared.row.Kind.the-variants as kind
+use Rattle.plan.specs.declared.row.Row.{Row}
+use Rattle.plan.specs.Rows.{rowCount, rowAt, rowsBefore, isVoice}
+use Rattle.plan.specs.Patterns.{Pattern}
+use Rattle.plan.specs.Parts.{patternRows}
+use Rattle.grammar.specs.Grammar.{figureText, written, partText, itemText}
+use Rattle.grammar.specs.Meaning.{operatorRow}
+use Rattle.grammar.specs.Query.{Query, leaf, node, queryRows, stackRows, figureOf, typed}
+use Rattle.printer.specs.declared.patterns.Back.{Back}
+use Rattle.printer.specs.declared.trees.Level.{Level}
+use Rattle.printer.specs.declared.trees.Level.the-variants as level
+use Rattle.printer.specs.Inner.Writing.{PutBack, only, Formed, voiceRow, conditionRow, Shut, Laid, PatternEnd, PatternRoom, PatternPut}
+use Rattle.printer.specs.Inner.Trees.{textAt, bracketed, leftLevel, rightLevel, operatorByte, Voiced, TreeEnd, TreeRoom, TreePut}
+use Rattle.printer.proofs.Laws.Bytes.{put-as, put-then}
+use Rattle.printer.proofs.Laws.Patterns.{snoc-inj, rows-last, rows-count, rows-back, formed-back}
+
+-- rows whose last one is no VOICE
+record Ended (rows : List Row) : Type 0 where
+  front : List Row
+  last : Row
+  is : rows ≡ front ++ (last ∷ [])
+  other : isVoice (last .kind) ≡ false
+
+query-ended : (q : Query) → Ended (queryRows q)
+unfolding queryRows
+query-ended (leaf f) = record { front = map voiceRow (f .vars) ++ map conditionRow (f .predicates); last = record { kind = kind.End }; is = refl; other = refl }
+query-ended (node o a b) = record { front = queryRows a ++ queryRows b; last = record { kind = kind.Operator o }; is = sym (append-assoc (queryRows a) (queryRows b) (operatorRow o)); other = refl }
+
+ended-shut : (xs ys : List Row) → Ended ys → Shut (xs ++ ys)
+ended-shut xs ys h = record {
+  no-voice = λ zs list e.
+      let s = snoc-inj (xs ++ h .front) zs (h .last) (voiceRow list) (append-assoc xs (h .front) (h .last ∷ []) ∙ ap (λ (l : List Row). xs ++ l) (sym (h .is)) ∙ e) in
+      true≢false (ap (λ (r : Row). isVoice (r .kind)) (sym (s .last)) ∙ h .other);
+}
+
+pub stack-shut : (qs : List Query) → Shut (stackRows qs)
+unfolding stackRows
+stack-shut [] = record { no-voice = λ zs list e. let n = ap length e in let l = length-snoc zs (voiceRow list) in omega arith }
+stack-shut (q ∷ qs) = ended-shut (stackRows qs) (queryRows q) (query-ended q)
+
+query-some : (q : Query) → 1 ≤ length (queryRows q)
+query-some q = let h = query-ended q in let e = ap length (h .is) in let l = length-snoc (h .front) (h .last) in omega arith
+
+-- the first of some rows
+rows-front : (p : List ℕ) (n : ℕ) (xs ys : List Row) → rowsBefore p n ≡ xs ++ ys → rowsBefore p (length xs) ≡ xs
+rows-front p n xs ys e =
+    let k = rows-count p n (xs ++ ys) e in
+    let l = length-append xs ys in
+    let m : n ≡ length xs + length ys = omega arith in
+    let f : rowsBefore p (length xs) ++ run (rowAt p) (0 + length xs) (length ys) ≡ xs ++ ys = sym (run-append (rowAt p) 0 (length xs) (length ys)) ∙ ap (rowsBefore p) (sym m) ∙ e in
+    sym (take-at (rowsBefore p (length xs)) (run (rowAt p) (0 + length xs) (length ys)) (length xs) (length-run (rowAt p) 0 (length xs)))
+    ∙ ap (take (length xs)) f
+    ∙ take-at xs ys (length xs) refl
+
+-- the text of what an operator joins, with and without brackets
+plain : (x y : List ℕ) (j : ℕ) → x ++ (j ∷ y) ≡ x ++ (j ∷ (y ++ []))
+plain x y j = ap (λ (l : List ℕ). x ++ (j ∷ l)) (sym (append-nil y))
+
+rounded : (x y : List ℕ) (j : ℕ) → 40 ∷ ((x ++ (j ∷ y)) ++ (41 ∷ [])) ≡ 40 ∷ (x ++ (j ∷ (y ++ (41 ∷ []))))
+rounded x y j = ap (λ (l : List ℕ). 40 ∷ l) (append-assoc x (j ∷ y) (41 ∷ []))
+
+abbrev pieces : Level → Operator → Query → Query → List ℕ
+pieces v o a b = only (bracketed v o) 40 ++ (textAt (leftLevel o) a ++ ((operatorByte o ∷ []) ++ (textAt (rightLevel o) b ++ only (bracketed v o) 41)))
+
+node-text : (v : Level) (o : Operator) (a b : Query) → textAt v (node o a b) ≡ pieces v o a b
+unfolding typed written
+node-text level.Line Both a b = plain (partText (typed a .part)) (itemText (typed b .item)) 38
+node-text level.Line Either a b = plain (written (typed a .line)) (partText (typed b .part)) 124
+node-text level.Line FirstNotSecond a b = plain (partText (typed a .part)) (itemText (typed b .item)) 33
+node-text level.Part Both a b = plain (partText (typed a .part)) (itemText (typed b .item)) 38
+node-text level.Part Either a b = rounded (written (typed a .line)) (partText (typed b .part)) 124
+node-text level.Part FirstNotSecond a b = plain (partText (typed a .part)) (itemText (typed b .item)) 33
+node-text level.Item Both a b = rounded (partText (typed a .part)) (itemText (typed b .item)) 38
+node-text level.Item Either a b = rounded (written (typed a .line)) (partText (typed b .part)) 124
+node-text level.Item FirstNotSecond a b = rounded (partText (typed a .part)) (itemText (typed b .item)) 33
+
+-- its length
+node-length : (v : Level) (o : Operator) (a b : Query) {q : Query} → q ≡ node o a b
+    → length (textAt v q) ≡ length (only (bracketed v o) 40) + (length (textAt (leftLevel o) a) + (1 + (length (textAt (rightLevel o) b) + length (only (bracketed v o) 41))))
+node-length v o a b e =
+    let t = ap length (ap (textAt v) e ∙ node-text v o a b) in
+    let x = length-append (only (bracketed v o) 40) (textAt (leftLevel o) a ++ ((operatorByte o ∷ []) ++ (textAt (rightLevel o) b ++ only (bracketed v o) 41))) in
+    let y = length-append (textAt (leftLevel o) a) ((operatorByte o ∷ []) ++ (textAt (rightLevel o) b ++ only (bracketed v o) 41)) in
+    let z = length-append (textAt (rightLevel o) b) (only (bracketed v o) 41) in
+    omega arith
+
+leaf-text : (v : Level) (f : Pattern) → textAt v (leaf f) ≡ figureText (figureOf f)
+unfolding typed written
+leaf-text level.Line f = refl
+leaf-text level.Part f = refl
+leaf-text level.Item f = refl
+
+-- a tree, by its last row: END
+record TreeLeaf (p : List ℕ) (last : ℕ) (qs : List Query) (q : Query) : Type 0 where
+  pattern : Pattern
+  is : q ≡ leaf pattern
+  row : rowAt p last .kind ≡ kind.End
+  ends : PatternEnd p last (stackRows qs) pattern
+
+-- or an operator
+record TreeNode (p : List ℕ) (last : ℕ) (qs : List Query) (q : Query) (o : Operator) : Type 0 where
+  first : Query
+  second : Query
+  is : q ≡ node o first second
+  row : rowAt p last .kind ≡ kind.Operator o
+  some : 1 ≤ last
+  right : TreeEnd p (last - 1) (first ∷ qs) second
+  begins : 1 ≤ length (stackRows (first ∷ qs))
+  before : length (stackRows (first ∷ qs)) ≤ last
+  left : TreeEnd p (length (stackRows (first ∷ qs)) - 1) qs first
+
+record TreeJoin (p : List ℕ) (last : ℕ) (qs : List Query) (q : Query) : Type 0 where
+  operator : Operator
+  it : TreeNode p last qs q operator
+
+tree-last : (p : List ℕ) (last : ℕ) (qs : List Query) (q : Query) → TreeEnd p last qs q → TreeLeaf p last qs q ⊎ TreeJoin p last qs q
+unfolding queryRows stackRows Voiced
+tree-last p last qs (leaf f) h =
+    let shown = map voiceRow (f .vars) ++ map conditionRow (f .predicates) in
+    let w = rows-last p last (stackRows qs ++ shown) (record { kind = kind.End }) (h .rows ∙ sym (append-assoc (stackRows qs) shown (record { kind = kind.End } ∷ []))) in
+    inl (record { pattern = f; is = refl; row = ap (λ (r : Row). r .kind) (w .last); ends = record { rows = h .rows; some = h .voiced; shut = stack-shut qs } })
+tree-last p last qs (node o a b) h =
+    let front = (stackRows qs ++ queryRows a) ++ queryRows b in
+    let w = rows-last p last front (record { kind = kind.Operator o })
+    (h .rows ∙ sym (append-assoc (stackRows qs) (queryRows a) (queryRows b ++ operatorRow o)) ∙ sym (append-assoc (stackRows qs ++ queryRows a) (queryRows b) (operatorRow o))) in
+    let n = rows-count p last front (w .front) in
+    let l = length-append (stackRows qs ++ queryRows a) (queryRows b) in
+    let m = length-append (stackRows qs) (queryRows a) in
+    let x = query-some a in
+    let y = query-some b in
+    let k : 1 ≤ last = omega arith in
+    let g : 1 ≤ length (stackRows qs ++ queryRows a) = omega arith in
+    inr (record {
+      operator = o;
+      it = record {
+        first = a;
+        second = b;
+        is = refl;
+        row = ap (λ (r : Row). r .kind) (w .last);
+        some = k;
+        right = record { rows = rows-back p last front k (w .front); voiced = h .voiced .1 };
+        begins = g;
+        before = omega arith;
+        left = record {
+          rows = rows-back p (length (stackRows qs ++ queryRows a)) (stackRows qs ++ queryRows a) g (rows-front p last (stackRows qs ++ queryRows a) (queryRows b) (w .front));
+          voiced = h .voiced .0;
+        };
+      };
+    })
+
+apart : {k : Kind} {o : Operator} → k ≡ kind.End → k ≡ kind.Operator o → ⊥
+apart e f = let z : _≡_ {A = ℕ} 0 1 = cc in let y : ⊥ = omega arith in y
+
+module _ {p : List ℕ} {last : ℕ} where
+  -- row `last` is END
+  module _ (is-end : rowAt p last .kind ≡ kind.End) where
+    tree-leaf : {qs : List Query} {q : Query} → TreeEnd p last qs q → TreeLeaf p last qs q
+    tree-leaf {qs} {q} h = ⊎-elim (λ (w : TreeLeaf p last qs q). w) (λ (w : TreeJoin p last qs q). absurd (apart is-end (w .it .row))) (tree-last p last qs q h)
+
+    pub leaf-room : {v : Level} {end : ℕ} → TreeRoom p last v end → PatternRoom p last end
+    leaf-room {v} {end} h =
+        let w = tree-leaf (h .ends) in
+        let e = ap length (ap (textAt v) (w .is) ∙ leaf-text v (w .pattern)) in
+        let r = h .room in
+        record { formed = h .formed; rest = stackRows (h .rest); pattern = w .pattern; ends = w .ends; room = omega arith }
+
+    pub leaf-put : (v : Level) {out : List ℕ} {end : ℕ} {out′ : List ℕ} {r : Back} → PatternPut p last out end out′ r → TreePut p last v out end out′ r
+    leaf-put v {out} {end} {out′} {r} h = record { all = go }
+      where
+        go : (qs : List Query) (q : Query) → TreeEnd p last qs q → Laid (textAt v q) (stackRows qs) out end out′ r
+        go qs q e =
+            let w = tree-leaf e in
+            let d = h .all (stackRows qs) (w .pattern) (w .ends) in
+            record { row = d .row; put = put-as (ap (textAt v) (w .is) ∙ leaf-text v (w .pattern)) (d .put) }
+
+  -- it is an operator
+  module _ {o : Operator} (is-operator : rowAt p last .kind ≡ kind.Operator o) where
+    tree-node : {qs : List Query} {q : Query} → TreeEnd p last qs q → TreeNode p last qs q o
+    tree-node {qs} {q} h =
+        ⊎-elim
+        (λ (w : TreeLeaf p last qs q). absurd (apart (w .row) is-operator))
+        (λ (w : TreeJoin p last qs q).
+        let e : w .operator ≡ o = let x = w .it .row in cc in
+        subst (TreeNode p last qs q) e (w .it))
+        (tree-last p last qs q h)
+
+    module _ {v : Level} {end : ℕ} (h : TreeRoom p last v end) where
+      pub node-some : 1 ≤ last
+      node-some = tree-node (h .ends) .some
+
+      -- the closing bracket
+      pub node-shut : length (only (bracketed v o) 41) ≤ end
+      node-shut = let w = tree-node (h .ends) in let s = node-length v o (w .first) (w .second) (w .is) in let r = h .room in omega arith
+
+      module _ {out out₁ : List ℕ} {inner : ℕ} (shut : PutBack (only (bracketed v o) 41) out end out₁ inner) where
+        -- the second side
+        pub node-right : TreeRoom p (last - 1) (rightLevel o) inner
+        node-right =
+            let w = tree-node (h .ends) in
+            let s = node-length v o (w .first) (w .second) (w .is) in
+            let r = h .room in
+            let x = shut .ends in
+            record { formed = formed-back (h .formed); rest = w .first ∷ h .rest; tree = w .second; ends = w .right; room = omega arith }
+
+        module _ {out₂ : List ℕ} {right : Back} (second : TreePut p (last - 1) (rightLevel o) out₁ inner out₂ right) where
+          -- the byte between the two
+          pub node-byte : 1 ≤ right .at
+          node-byte =
+              let w = tree-node (h .ends) in
+              let s = node-length v o (w .first) (w .second) (w .is) in
+              let r = h .room in
+              let x = shut .ends in
+              let y = second .all (w .first ∷ h .rest) (w .second) (w .right) .put .ends in
+              omega arith
+
+          pub node-begins : (1 ≤ right .row) × (right .row - 1 < last)
+          node-begins =
+              let w = tree-node (h .ends) in
+              let y = second .all (w .first ∷ h .rest) (w .second) (w .right) .row in
+              let b = w .begins in
+              let c = w .before in
+              (omega arith, omega arith)
+
+          module _ {out₃ : List ℕ} {byte : ℕ} (between : PutBack (operatorByte o ∷ []) out₂ (right .at) out₃ byte) where
+            -- the first side
+            pub node-left : TreeRoom p (right .row - 1) (leftLevel o) byte
+            node-left =
+                let w = tree-node (h .ends) in
+                let s = node-length v o (w .first) (w .second) (w .is) in
+                let r = h .room in
+                let x = shut .ends in
+                let d = second .all (w .first ∷ h .rest) (w .second) (w .right) in
+                let y = d .put .ends in
+                let z = between .ends in
+                let i = h .formed .inside in
+                let k = w .before in
+                let m = d .row in
+                record {
+                  formed = record { inside = omega arith; formed = h .formed .formed };
+                  rest = h .rest;
+                  tree = w .first;
+                  ends = subst (λ (n : ℕ). TreeEnd p (n - 1) (h .rest) (w .first)) (sym m) (w .left);
+                  room = omega arith;
+                }
+
+            module _ {out₄ : List ℕ} {left : Back} (first : TreePut p (right .row - 1) (leftLevel o) out₃ byte out₄ left) where
+              -- the opening bracket
+              pub node-open : length (only (bracketed v o) 40) ≤ left .at
+              node-open =
+                  let w = tree-node (h .ends) in
+                  let s = node-length v o (w .first) (w .second) (w .is) in
+                  let r = h .room in
+                  let x = shut .ends in
+                  let d = second .all (w .first ∷ h .rest) (w .second) (w .right) in
+                  let y = d .put .ends in
+                  let z = between .ends in
+                  let g = first .all (h .rest) (w .first) (subst (λ (n : ℕ). TreeEnd p (n - 1) (h .rest) (w .first)) (sym (d .row)) (w .left)) .put .ends in
+                  omega arith
+
+              pub node-put : {out₅ : List ℕ} {at : ℕ} → PutBack (only (bracketed v o) 40) out₄ (left .at) out₅ at
+                  → TreePut p last v out end out₅ (record { row = left .row; at = at })
+              node-put {out₅} {at} opening = record { all = go }
+                where
+                  go : (qs : List Query) (q : Query) → TreeEnd p last qs q → Laid (textAt v q) (stackRows qs) out end out₅ (record { row = left .row; at = at })
+                  go qs q e =
+                      let w = tree-node e in
+                      let d = second .all (w .first ∷ qs) (w .second) (w .right) in
+                      let g = first .all qs (w .first) (subst (λ (n : ℕ). TreeEnd p (n - 1) qs (w .first)) (sym (d .row)) (w .left)) in
+                      let x = put-then (textAt (rightLevel o) (w .second)) (only (bracketed v o) 41) shut (d .put) in
+                      let y = put-then (operatorByte o ∷ []) (textAt (rightLevel o) (w .second) ++ only (bracketed v o) 41) x between in
+                      let z = put-then (textAt (leftLevel o) (w .first)) ((operatorByte o ∷ []) ++ (textAt (rightLevel o) (w .second) ++ only (bracketed v o) 41)) y (g .put) in
+                      record {
+                        row = g .row;
+                        put = put-as (ap (textAt v) (w .is) ∙ node-text v o (w .first) (w .second)) (put-then (only (bracketed v o) 40) (textAt (leftLevel o) (w .first) ++ ((operatorByte o ∷ []) ++ (textAt (rightLevel o) (w .second) ++ only (bracketed v o) 41))) z opening);
+                      }
+
+  -- it is nothing else
+  pub tree-no-voice : {n : ℕ} → rowAt p last .kind ≡ kind.Voice n → {v : Level} {end : ℕ} → TreeRoom p last v end → ⊥
+  tree-no-voice e h =
+      ⊎-elim
+      (λ (w : TreeLeaf p last (h .rest) (h .tree)). let x = w .row in let z : _≡_ {A = ℕ} 0 1 = cc in let y : ⊥ = omega arith in y)
+      (λ (w : TreeJoin p last (h .rest) (h .tree)). let x = w .it .row in let z : _≡_ {A = ℕ} 0 1 = cc in let y : ⊥ = omega arith in y)
+      (tree-last p last (h .rest) (h .tree) (h .ends))
+
+  pub tree-no-condition : {c : Predicate} → rowAt p last .kind ≡ kind.Condition c → {v : Level} {end : ℕ} → TreeRoom p last v end → ⊥
+  tree-no-condition e h =
+      ⊎-elim
+      (λ (w : TreeLeaf p last (h .rest) (h .tree)). let x = w .row in let z : _≡_ {A = ℕ} 0 1 = cc in let y : ⊥ = omega arith in y)
+      (λ (w : TreeJoin p last (h .rest) (h .tree)). let x = w .it .row in let z : _≡_ {A = ℕ} 0 1 = cc in let y : ⊥ = omega arith in y)
+      (tree-last p last (h .rest) (h .tree) (h .ends))

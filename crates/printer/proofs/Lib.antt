@@ -1,0 +1,3 @@
+-- `Demands` proves the statements of `specs/Demands.antt`; `Laws` has the laws of `specs/`.
+mod Demands
+mod Laws
