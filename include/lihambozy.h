@@ -1,5 +1,6 @@
 /* lihambozy.h: reading and writing the volumes of a surtitle archive, checking plans over them,
- * listing the documents that match, and listing all tuples of positions that pass in one of them.
+ * listing the documents that match, listing all tuples of positions that pass in one of them, and
+ * reading and writing plans as typed lines.
  *
  * `rt staticlib lihambozy` builds the library. A C99 program that includes this header is built in
  * the same folder with
@@ -64,6 +65,27 @@
  * as bytes, little-endian on every machine, 16 bytes for each row: with b the bytes from 4 * i on,
  * word i is b[0] + b[1] * 2^8 + b[2] * 2^16 + b[3] * 2^24.
  *
+ * A line is a plan as it is typed, such as [1 2;b 0 1]|([3]&[4]). It is ASCII, without a zero byte
+ * or a line feed at its end. In its grammar a sign in quotes stands for itself, what stands in
+ * braces may be absent or come any number of times, and / parts what may stand there:
+ *
+ *    line       part { "|" part }            EITHER
+ *    part       item { "&" item / "!" item } BOTH, FIRST NOT SECOND
+ *    item       pattern / "(" line ")"
+ *    pattern    "[" list { " " list } { ";" predicate } "]"
+ *    predicate  "n " a " " b " " c                NEAR
+ *               "b " a " " b                      BEFORE
+ *               "t " a " " b                      SAME TITLE
+ *               "s " c                            SPAN
+ *               "a " a " " b " " least " " most   APART
+ *
+ * A list, a, b and c are numbers from 0 to 65,536, least and most from 0 to 65,535, in base ten and
+ * without a leading zero. Both kinds of joining go left to right: [1]&[2]![3] is ([1]&[2])![3]. The
+ * rows of a line follow its order: a VOICE for each list, a row for each predicate, END at the
+ * closing square bracket, and each operator behind all rows of its second side. Round brackets have
+ * no rows. Any number of lists, any variable, SPAN 0 or an APART whose least exceeds its most can
+ * be typed; it is the plan's check that refuses them.
+ *
  * A tuple of positions (01: choice), one for each variable of a pattern, passes in a document if
  * each position is in its variable's list for that document and all predicates hold. Two variables
  * may take one position, and a predicate may name one variable twice. A pattern is found in a
@@ -104,19 +126,21 @@
 extern "C" {
 #endif
 
-#define LHZ_BLOCK_BYTES 512    /* bytes of a block */
-#define LHZ_BLOCK_WORDS 126    /* stream words of a block */
-#define LHZ_MAX_BLOCKS 8192    /* blocks of the largest volume */
-#define LHZ_MAX_BYTES 4194304  /* bytes of the largest volume */
-#define LHZ_MAX_WORDS 1032192  /* stream words of the largest volume */
-#define LHZ_MAX_LISTS 1024     /* lists of a volume, at most; 1 at least */
-#define LHZ_LAST_DOC 65535     /* the last document; the first is 0 */
-#define LHZ_LAST_POS 65535     /* the last position in a document; the first is 0 */
-#define LHZ_ROW_WORDS 4        /* words of a row of a plan */
-#define LHZ_MAX_ROWS 64        /* rows of a plan, at most; 1 at least */
-#define LHZ_MAX_PLAN_WORDS 256 /* words of a plan, at most */
-#define LHZ_MAX_PATTERNS 8     /* patterns of a plan, at most; 1 at least */
-#define LHZ_MAX_VARS 8         /* variables of a pattern, at most; 1 at least */
+#define LHZ_BLOCK_BYTES 512     /* bytes of a block */
+#define LHZ_BLOCK_WORDS 126     /* stream words of a block */
+#define LHZ_MAX_BLOCKS 8192     /* blocks of the largest volume */
+#define LHZ_MAX_BYTES 4194304   /* bytes of the largest volume */
+#define LHZ_MAX_WORDS 1032192   /* stream words of the largest volume */
+#define LHZ_MAX_LISTS 1024      /* lists of a volume, at most; 1 at least */
+#define LHZ_LAST_DOC 65535      /* the last document; the first is 0 */
+#define LHZ_LAST_POS 65535      /* the last position in a document; the first is 0 */
+#define LHZ_ROW_WORDS 4         /* words of a row of a plan */
+#define LHZ_MAX_ROWS 64         /* rows of a plan, at most; 1 at least */
+#define LHZ_MAX_PLAN_WORDS 256  /* words of a plan, at most */
+#define LHZ_MAX_PATTERNS 8      /* patterns of a plan, at most; 1 at least */
+#define LHZ_MAX_VARS 8          /* variables of a pattern, at most; 1 at least */
+#define LHZ_MAX_LINE_BYTES 2048 /* bytes of a line, at most */
+#define LHZ_MAX_LINE_DEPTH 8    /* round brackets of a line that are open at one place, at most */
 
 /* Words of a row that lhz_list writes, at most: 1 + F + V with F patterns and V variables. Of a
  * plan's rows, 64 at most, V are VOICE, F are END and F - 1 are operators, and V is 8 * F at most;
@@ -164,7 +188,7 @@ extern "C" {
 #define LHZ_REFUSED_ROW_ORDER 13
 #define LHZ_REFUSED_UNFINISHED 14
 /* What else a call is given is refused: lhz_list, lhz_read_list, lhz_test_positions,
- * lhz_list_matches. */
+ * lhz_list_matches, lhz_line_to_plan, lhz_plan_to_line. */
 #define LHZ_REFUSED_START 15
 #define LHZ_REFUSED_SHORT_BUFFER 16
 #define LHZ_REFUSED_OUT_OF_RANGE 17
@@ -172,6 +196,10 @@ extern "C" {
 #define LHZ_REFUSED_COUNT_SUM 18
 #define LHZ_REFUSED_TOO_LARGE 19
 #define LHZ_REFUSED_SHORT_OUTPUT 20
+/* The line is refused: lhz_line_to_plan. */
+#define LHZ_REFUSED_LINE_FORM 21
+#define LHZ_REFUSED_LINE_DEPTH 22
+#define LHZ_REFUSED_LINE_ROWS 23
 
 /* The answer of lhz_check_volume. */
 typedef struct lhz_check_volume_answer {
@@ -441,6 +469,63 @@ lhz_list_matches_answer lhz_list_matches(const uint8_t *volume, size_t len, cons
                                          size_t plan_len, uint32_t pattern, uint32_t doc,
                                          const uint32_t *from, size_t from_len, uint32_t *out,
                                          size_t out_len);
+
+/* The answer of lhz_line_to_plan. */
+typedef struct lhz_line_to_plan_answer {
+    uint32_t refusal;
+    uint32_t at;
+    uint32_t words; /* the words written, LHZ_ROW_WORDS for each row */
+} lhz_line_to_plan_answer;
+
+/* Reads a typed line as the rows of a plan.
+ *
+ * Lent for reading: line, len bytes. Lent for writing: out, out_len words. The rows of the line are
+ * written at the front of out, in its order; the words behind them stay as they were. A buffer of
+ * LHZ_MAX_PLAN_WORDS words holds the rows of every line that is read.
+ *
+ * No volume is asked: whether the rows are accepted over one is told by lhz_check_plan. Where they
+ * are, the documents that match are exactly those that the line names when it is read on its own:
+ * a pattern names those in which it is found, & those that both its sides name, | those that at
+ * least one of its sides names, ! those that its first side names and its second does not.
+ *
+ * Refusals, the first that applies. Of 21 and 22 that is the one at the lower byte, and 21 where
+ * both are at one byte.
+ *   21  LHZ_REFUSED_LINE_FORM     len is over 2,048, before anything else
+ *                                 at: 2,048
+ *                                 or the line breaks the grammar
+ *                                 at: the first byte, from 0, that no line of the grammar could
+ *                                 have there; len where no line could end there. Brackets within
+ *                                 brackets, rows and bytes are not limited by the grammar
+ *   22  LHZ_REFUSED_LINE_DEPTH    a round bracket is opened inside eight open ones
+ *                                 at: its byte, from 0
+ *   23  LHZ_REFUSED_LINE_ROWS     the line needs over 64 rows
+ *   16  LHZ_REFUSED_SHORT_BUFFER  out_len is less than the words of the rows
+ */
+lhz_line_to_plan_answer lhz_line_to_plan(const uint8_t *line, size_t len, uint32_t *out,
+                                         size_t out_len);
+
+/* The answer of lhz_plan_to_line. */
+typedef struct lhz_plan_to_line_answer {
+    uint32_t refusal;
+    uint32_t at;
+    uint32_t bytes; /* the bytes written */
+} lhz_plan_to_line_answer;
+
+/* Writes a plan as a line.
+ *
+ * Lent for reading: volume, len bytes; plan, plan_len words. Lent for writing: out, out_len bytes.
+ * The line is written at the front of out, without a zero byte behind it; the bytes behind it stay
+ * as they were. It has no round bracket that could be dropped, and lhz_line_to_plan reads from it
+ * the rows of the plan again. A row takes at most 26 bytes, so that LHZ_MAX_LINE_BYTES hold the
+ * line of every plan.
+ *
+ * Refusals, the first that applies:
+ *    1 to 14                      the volume or the plan is refused as by lhz_check_plan, with the
+ *                                 same place
+ *   16  LHZ_REFUSED_SHORT_BUFFER  out_len is less than the bytes of the line
+ */
+lhz_plan_to_line_answer lhz_plan_to_line(const uint8_t *volume, size_t len, const uint32_t *plan,
+                                         size_t plan_len, uint8_t *out, size_t out_len);
 
 #ifdef __cplusplus
 }

@@ -87,6 +87,20 @@ pub struct ListedMatches {
     pub next: Option<Match>,
 }
 
+/// What [`line_to_plan`] has done.
+#[derive(Clone, Copy, Debug, PartialEq, Eq)]
+pub struct ReadLine {
+    /// The words written, [`ROW_WORDS`](crate::ROW_WORDS) for each row.
+    pub words: u32,
+}
+
+/// What [`plan_to_line`] has done.
+#[derive(Clone, Copy, Debug, PartialEq, Eq)]
+pub struct WrittenLine {
+    /// The bytes written.
+    pub bytes: u32,
+}
+
 /// The bytes of the volume of so many lists with so many postings in all; `None` where that is more
 /// than the largest volume holds.
 pub fn volume_len(lists: usize, postings: usize) -> Option<usize> {
@@ -331,6 +345,72 @@ pub fn list_matches(
     // `from` is accepted, so that it has a position for each variable.
     let next = (answer.more != 0).then(|| Match::new(&answer.next[..from.len()]));
     Ok(ListedMatches { count: answer.count, next })
+}
+
+/// Reads a typed line as the rows of a plan, to the front of `out`; the words behind them stay as
+/// they were. 256 words hold the rows of every line that is read. The grammar is told at
+/// [`Plan::from_line`](crate::Plan::from_line).
+///
+/// No volume is asked: whether the rows are accepted over one is told by [`check_plan`]. Where they
+/// are, the documents that match are those of the line read on its own, without rows.
+///
+/// Refused, the first that applies, with 21 (over 2,048 bytes, at 2,048), then with the one of 21
+/// and 22 that is at the lower byte, 21 where both are at one: 21 at the first byte that no line of
+/// the grammar could have there, or at the end, and 22 at a round bracket that is opened inside
+/// eight open ones; then with 23 (over 64 rows), then with 16 (`out` is shorter than the rows).
+///
+/// ```
+/// use lihambozy::calls::line_to_plan;
+/// use lihambozy::row::{before, voice, BOTH, EITHER, END};
+///
+/// let mut out = [7; 40];
+/// let read = line_to_plan(b"[1 2;b 0 1]|([3]&[4])", &mut out)?;
+/// assert_eq!(read.words, 40);
+/// let first = [voice(1), voice(2), before(0, 1), END];
+/// let second = [voice(3), END, voice(4), END, BOTH];
+/// assert_eq!(out[..], [&first[..], &second, &[EITHER]].concat().concat());
+///
+/// let refusal = line_to_plan(b"[1;n 0 1]", &mut out).unwrap_err();
+/// assert_eq!((refusal.number, refusal.at), (21, 8), "a third number is wanted");
+/// let refusal = line_to_plan(b"[1]|[2]", &mut out[..19]).unwrap_err();
+/// assert_eq!((refusal.number, refusal.at), (16, 0));
+/// # Ok::<(), lihambozy::Refusal>(())
+/// ```
+pub fn line_to_plan(line: &[u8], out: &mut [u32]) -> Result<ReadLine, Refusal> {
+    let answer = ffi::line_to_plan(line, out);
+    accepted(answer.refusal, answer.at)?;
+    Ok(ReadLine { words: answer.words })
+}
+
+/// Writes a plan as a line, to the front of `out`; the bytes behind it stay as they were.
+/// [`MAX_LINE_BYTES`](crate::MAX_LINE_BYTES) hold the line of every plan. The line has no round
+/// bracket that could be dropped, and [`line_to_plan`] reads the plan's rows from it again.
+///
+/// Refused with 1 to 14 as by [`check_plan`], then with 16 (`out` is shorter than the line).
+///
+/// ```
+/// use lihambozy::calls::{plan_to_line, write_volume};
+/// use lihambozy::row::{voice, BOTH, EITHER, END};
+/// use lihambozy::MAX_LINE_BYTES;
+///
+/// let mut volume = [0; 512];
+/// write_volume(&[0, 0, 0], &[], &mut volume)?;
+///
+/// let plan = [voice(1), END, voice(2), END, EITHER, voice(2), voice(1), END, BOTH].concat();
+/// let mut out = [0; MAX_LINE_BYTES];
+/// let written = plan_to_line(&volume, &plan, &mut out)?;
+/// assert_eq!(out[..written.bytes as usize], *b"([1]|[2])&[2 1]");
+///
+/// let refusal = plan_to_line(&volume, &plan, &mut out[..14]).unwrap_err();
+/// assert_eq!((refusal.number, refusal.at), (16, 0));
+/// let refusal = plan_to_line(&volume, &plan[..32], &mut out).unwrap_err();
+/// assert_eq!((refusal.number, refusal.at), (14, 0));
+/// # Ok::<(), lihambozy::Refusal>(())
+/// ```
+pub fn plan_to_line(volume: &[u8], plan: &[u32], out: &mut [u8]) -> Result<WrittenLine, Refusal> {
+    let answer = ffi::plan_to_line(volume, plan, out);
+    accepted(answer.refusal, answer.at)?;
+    Ok(WrittenLine { bytes: answer.bytes })
 }
 
 /// Splits the two fields that an answer starts with: number 0 means that the call is answered.

@@ -81,6 +81,22 @@ pub(crate) struct ListMatchesAnswer {
     pub next: [u32; MAX_VARS],
 }
 
+/// An answer of `lhz_line_to_plan`.
+#[repr(C)]
+pub(crate) struct LineToPlanAnswer {
+    pub refusal: u32,
+    pub at: u32,
+    pub words: u32,
+}
+
+/// An answer of `lhz_plan_to_line`.
+#[repr(C)]
+pub(crate) struct PlanToLineAnswer {
+    pub refusal: u32,
+    pub at: u32,
+    pub bytes: u32,
+}
+
 extern "C" {
     fn lhz_check_volume(volume: *const u8, len: usize) -> CheckVolumeAnswer;
 
@@ -149,6 +165,22 @@ extern "C" {
         out: *mut u32,
         out_len: usize,
     ) -> ListMatchesAnswer;
+
+    fn lhz_line_to_plan(
+        line: *const u8,
+        len: usize,
+        out: *mut u32,
+        out_len: usize,
+    ) -> LineToPlanAnswer;
+
+    fn lhz_plan_to_line(
+        volume: *const u8,
+        len: usize,
+        plan: *const u32,
+        plan_len: usize,
+        out: *mut u8,
+        out_len: usize,
+    ) -> PlanToLineAnswer;
 }
 
 pub(crate) fn check_volume(volume: &[u8]) -> CheckVolumeAnswer {
@@ -247,6 +279,27 @@ pub(crate) fn list_matches(
             doc,
             from.as_ptr(),
             from.len(),
+            out.as_mut_ptr(),
+            out.len(),
+        )
+    }
+}
+
+pub(crate) fn line_to_plan(line: &[u8], out: &mut [u32]) -> LineToPlanAnswer {
+    // SAFETY: `line` is read only; `out` is borrowed mutably, so it overlaps no part of `line`, and
+    // each length is that of its slice, in elements.
+    unsafe { lhz_line_to_plan(line.as_ptr(), line.len(), out.as_mut_ptr(), out.len()) }
+}
+
+pub(crate) fn plan_to_line(volume: &[u8], plan: &[u32], out: &mut [u8]) -> PlanToLineAnswer {
+    // SAFETY: `volume` and `plan` are read only and may overlap each other; `out` is borrowed
+    // mutably, so it overlaps neither, and each length is that of its slice, in elements.
+    unsafe {
+        lhz_plan_to_line(
+            volume.as_ptr(),
+            volume.len(),
+            plan.as_ptr(),
+            plan.len(),
             out.as_mut_ptr(),
             out.len(),
         )
@@ -539,5 +592,86 @@ mod tests {
             offset_of!(ListMatchesAnswer, next),
         ];
         assert_eq!((offsets, size_of::<ListMatchesAnswer>()), ([0, 4, 8, 16, 20], 56));
+    }
+
+    #[test]
+    fn line_to_plan_fields() {
+        let fields = |line: &[u8], room: usize| {
+            let mut out = vec![7; room];
+            let answer = line_to_plan(line, &mut out);
+            let written = answer.words as usize;
+            assert!(out[written..].iter().all(|&word| word == 7), "behind {written} words");
+            ([answer.refusal, answer.at, answer.words], out[..written].to_vec())
+        };
+        let refused = |number: u32, at: u32| ([number, at, 0], vec![]);
+        let line = b"[1]|[1 1]";
+        assert_eq!(fields(line, 24), ([0, 0, 24], PLAN.to_vec()));
+        assert_eq!(fields(line, 30), ([0, 0, 24], PLAN.to_vec()));
+        assert_eq!(fields(b"([1])", 8), ([0, 0, 8], PLAN[..8].to_vec()));
+        for (line, at) in [
+            (&b""[..], 0),
+            (b"[", 1),
+            (b"[1", 2),
+            (b"[1]|", 4),
+            (b"[1]]", 3),
+            (b"[1 ]", 3),
+            (b"[01]", 2),
+            (b"[65537]", 5),
+            (b"[1;n 0 1]", 8),
+            (b"[1;n 0 1 2 3]", 10),
+            (b"\xff", 0),
+            (b"[1]\0", 3),
+        ] {
+            for room in [0, 24, 256] {
+                assert_eq!(fields(line, room), refused(21, at), "{line:?}, room {room}");
+            }
+        }
+        for (open, bracket) in [(8, false), (9, true), (12, true)] {
+            let line = [vec![b'('; open], b"[1]".to_vec(), vec![b')'; open]].concat();
+            let expected = if bracket { refused(22, 8) } else { ([0, 0, 8], PLAN[..8].to_vec()) };
+            assert_eq!(fields(&line, 8), expected, "{open} brackets");
+        }
+        assert_eq!(fields(b"(((((((([1](", 8), refused(21, 11), "21 where both name one byte");
+        let mut longest = [&[b'['][..], &b"1 ".repeat(1_022), b"10]"].concat();
+        assert_eq!(longest.len(), 2_048);
+        assert_eq!(fields(&longest, 256), refused(23, 0));
+        longest.push(b')');
+        assert_eq!(fields(&longest, 256), refused(21, 2_048), "over 2,048 bytes");
+        longest[0] = 0;
+        assert_eq!(fields(&longest, 256), refused(21, 2_048), "before anything else");
+        let rows = |count: usize| [&b"["[..], &b"1 ".repeat(count - 2), b"1]"].concat();
+        assert_eq!(fields(&rows(64), 256).0, [0, 0, 256]);
+        for room in [0, 256, 260] {
+            assert_eq!(fields(&rows(65), room), refused(23, 0), "65 rows, room {room}");
+        }
+        assert_eq!(fields(&rows(64), 255), refused(16, 0));
+        for room in 0..24 {
+            assert_eq!(fields(line, room), refused(16, 0), "room {room}");
+        }
+    }
+
+    #[test]
+    fn plan_to_line_fields() {
+        let fields = |volume: &[u8], plan: &[u32], room: usize| {
+            let mut out = vec![7; room];
+            let answer = plan_to_line(volume, plan, &mut out);
+            let written = answer.bytes as usize;
+            assert!(out[written..].iter().all(|&byte| byte == 7), "behind {written} bytes");
+            let line = String::from_utf8(out[..written].to_vec()).unwrap();
+            ([answer.refusal, answer.at, answer.bytes], line)
+        };
+        let volume = volume_with(&[]);
+        assert_eq!(fields(&volume, &PLAN, 9), ([0, 0, 9], "[1]|[1 1]".into()));
+        assert_eq!(fields(&volume, &PLAN, 2_048), ([0, 0, 9], "[1]|[1 1]".into()));
+        assert_eq!(fields(&volume, &PLAN[..8], 3), ([0, 0, 3], "[1]".into()));
+        for room in 0..9 {
+            assert_eq!(fields(&volume, &PLAN, room), ([16, 0, 0], String::new()), "room {room}");
+        }
+        for (volume, plan, [number, at]) in refused_plans() {
+            for room in [0, 2_048] {
+                let answer = fields(&volume, &plan, room);
+                assert_eq!(answer, ([number, at, 0], String::new()), "room {room}");
+            }
+        }
     }
 }

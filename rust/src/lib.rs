@@ -1,5 +1,6 @@
 //! Reads and writes the volumes of a surtitle archive, checks plans over them, lists the documents
-//! that match, and lists all tuples of positions that pass in one of them.
+//! that match, lists all tuples of positions that pass in one of them, and reads and writes plans
+//! as typed lines.
 //!
 //! A [`Volume`] is an inverted index as one piece of bytes: 1 to 1,024 posting lists in blocks of
 //! 512 bytes, each block numbered and under a checksum. A [`Posting`] is a document (01: scene) and
@@ -10,7 +11,7 @@
 //! A [`Plan`] is a query over a volume, as rows of four words: a [`kind`], and the words a, b and c
 //! that it uses ([`row`]). Its patterns (01: figures) are made of variables (01: voices) and
 //! predicates on their positions (01: conditions); operators join the answers of the patterns into
-//! one.
+//! one. It can be typed as a line ([`Plan::from_line`]) and told as one ([`Plan::to_line`]).
 //!
 //! A tuple of positions (01: choice), one for each variable of a pattern, passes in a document if
 //! each is in its variable's list there and all predicates hold. A pattern is found where some
@@ -49,6 +50,10 @@
 //! let matches = volume.matches(&near, 0, 1)?;
 //! let tuples: Vec<String> = matches.map(|tuple| tuple.to_string()).collect();
 //! assert_eq!(tuples, ["places 2 5", "places 8 5", "places 8 7"]);
+//!
+//! // Both plans as typed lines.
+//! assert_eq!(Plan::from_line("[1 2;b 0 1;t 0 1]")?, plan);
+//! assert_eq!(near.to_line(&volume)?, "[1 2;n 0 1 2]");
 //! # Ok::<(), Box<dyn std::error::Error>>(())
 //! ```
 //!
@@ -105,3 +110,5 @@ pub const MAX_ROWS: usize = 64;
 pub const MAX_PATTERNS: usize = 8;
 /// Variables of a pattern, at most.
 pub const MAX_VARS: usize = 8;
+/// Bytes of a line, at most. A buffer of so many holds the line of every plan.
+pub const MAX_LINE_BYTES: usize = 2_048;

@@ -2,7 +2,7 @@
 
 use crate::row::PlanRow;
 use crate::text::{self, Mistake};
-use crate::{Refusal, MAX_ROWS};
+use crate::{calls, Refusal, Volume, MAX_LINE_BYTES, MAX_ROWS, ROW_WORDS};
 use std::fmt;
 use std::str::FromStr;
 
@@ -62,6 +62,62 @@ impl Plan {
     /// The plan's words as bytes, little-endian: a plan file.
     pub fn to_bytes(&self) -> Vec<u8> {
         self.words().iter().flat_map(|word| word.to_le_bytes()).collect()
+    }
+
+    /// The plan that a typed line tells, such as `[1 2;b 0 1]|([3]&[4])`.
+    ///
+    /// A line is parts joined by `|` (EITHER); a part is items joined by `&` (BOTH) or `!` (FIRST
+    /// NOT SECOND); both join left to right. An item is a pattern (01: figure), or a line in round
+    /// brackets. A pattern holds in square brackets one or more list numbers, then predicates (01:
+    /// conditions), each after a semicolon: `n a b c` (NEAR), `b a b` (BEFORE), `t a b` (SAME
+    /// TITLE), `s c` (SPAN), `a a b least most` (APART). One space separates the words of a list or
+    /// predicate and stands nowhere else. Numbers have no leading zero and are at most 65,536,
+    /// least and most at most 65,535. The rows follow the line's order, operators behind their
+    /// whole second side.
+    ///
+    /// Refused with 21 (over 2,048 bytes, or at the first byte that no line could have there, or at
+    /// the end where no line could end) and 22 (at a round bracket inside eight open ones),
+    /// whichever byte comes first, then with 23 (over 64 rows). Whether the plan is in order over a
+    /// volume is told by [`Volume::check`].
+    ///
+    /// ```
+    /// use lihambozy::Plan;
+    ///
+    /// let plan = Plan::from_line("[1 2;b 0 1]|([3]&[4])")?;
+    /// let rows = "VOICE 1\nVOICE 2\nBEFORE 0 1\nEND\nVOICE 3\nEND\nVOICE 4\nEND\nBOTH\nEITHER\n";
+    /// assert_eq!(plan.to_string(), rows);
+    ///
+    /// let refusal = Plan::from_line("[1 ]").unwrap_err();
+    /// assert_eq!((refusal.number, refusal.at), (21, 3));
+    /// # Ok::<(), lihambozy::Refusal>(())
+    /// ```
+    pub fn from_line(line: impl AsRef<[u8]>) -> Result<Plan, Refusal> {
+        let mut words = [0; MAX_ROWS * ROW_WORDS];
+        let read = calls::line_to_plan(line.as_ref(), &mut words)?;
+        Ok(Plan::new(words[..read.words as usize].as_chunks().0))
+    }
+
+    /// The plan as a line that [`Plan::from_line`] reads as this plan, with no round bracket that
+    /// could be dropped.
+    ///
+    /// Refused with 9 to 14 as by [`Volume::check`]: a plan that is not in order has no line.
+    ///
+    /// ```
+    /// use lihambozy::{text, Plan, Volume};
+    ///
+    /// let volume = Volume::of_lists(&text::lists("-\n1:2\n1:5\n")?)?;
+    /// let plan = Plan::from_line("([1]&([2]))|(([1])|[2 2;s 4])")?;
+    /// assert_eq!(plan.to_line(&volume)?, "[1]&[2]|([1]|[2 2;s 4])");
+    ///
+    /// let refusal = Plan::from_line("[3]")?.to_line(&volume).unwrap_err();
+    /// assert_eq!((refusal.number, refusal.at), (11, 0));
+    /// # Ok::<(), Box<dyn std::error::Error>>(())
+    /// ```
+    pub fn to_line(&self, volume: &Volume<'_>) -> Result<String, Refusal> {
+        let mut line = vec![0; MAX_LINE_BYTES];
+        let written = calls::plan_to_line(volume.as_bytes(), self.words(), &mut line)?;
+        line.truncate(written.bytes as usize);
+        Ok(String::from_utf8(line).expect("a line is ASCII"))
     }
 
     /// The plan's rows.

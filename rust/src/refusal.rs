@@ -1,5 +1,6 @@
 //! Why a call was not answered.
 
+use crate::MAX_LINE_BYTES;
 use std::error::Error;
 use std::fmt;
 
@@ -16,8 +17,9 @@ use std::fmt;
 pub struct Refusal {
     /// Document 01's number of the refusal.
     pub number: u32,
-    /// The block, list, stream index or row of a plan that it is about (01: place), from 0; 0 where
-    /// the refusal is about none.
+    /// The block, list, stream index, row of a plan or byte of a line that it is about (01: place),
+    /// from 0; 0 where the refusal is about none. The byte is the length of the line where the line
+    /// breaks off, and 2,048 where it is longer than that.
     pub at: u32,
 }
 
@@ -65,8 +67,8 @@ impl fmt::Display for Refusal {
             14 => f.write_str("the plan ends with a figure open, or not with one answer"),
             15 => f.write_str("the start scene is over 65,535"),
             16 => f.write_str(
-                "the buffer is shorter than one row of the listing, than one choice, or than the \
-                 list",
+                "the buffer is shorter than one row of the listing, than one choice, than the \
+                 list, than the rows of the line, or than the written line",
             ),
             17 => f.write_str(
                 "there is no list or figure of that number, the number of places is not that of \
@@ -75,6 +77,15 @@ impl fmt::Display for Refusal {
             18 => f.write_str("the counts do not sum to the number of postings"),
             19 => f.write_str("the volume would have over 1,032,192 words"),
             20 => f.write_str("the output is shorter than the volume"),
+            21 if at as usize == MAX_LINE_BYTES => f.write_str(
+                "the line has over 2,048 bytes, or ends at byte 2048, where no line could end",
+            ),
+            21 => write!(f, "no line could have what this one has at byte {at}, or end there"),
+            22 => write!(
+                f,
+                "the round bracket at byte {at} of the line is opened inside eight open ones"
+            ),
+            23 => f.write_str("the line needs over 64 rows"),
             _ => f.write_str("the call was refused"),
         }?;
         write!(f, " (refused {number} {at})")
@@ -111,15 +122,33 @@ mod tests {
             (
                 16,
                 0,
-                "the buffer is shorter than one row of the listing, than one choice, or than the \
-                 list (refused 16 0)",
+                "the buffer is shorter than one row of the listing, than one choice, than the \
+                 list, than the rows of the line, or than the written line (refused 16 0)",
             ),
+            (
+                21,
+                2_047,
+                "no line could have what this one has at byte 2047, or end there (refused 21 2047)",
+            ),
+            (
+                21,
+                2_048,
+                "the line has over 2,048 bytes, or ends at byte 2048, where no line could end \
+                 (refused 21 2048)",
+            ),
+            (
+                22,
+                8,
+                "the round bracket at byte 8 of the line is opened inside eight open ones \
+                 (refused 22 8)",
+            ),
+            (23, 0, "the line needs over 64 rows (refused 23 0)"),
         ];
         for (number, at, sentence) in rows {
             assert_eq!(Refusal { number, at }.to_string(), sentence);
         }
         let unknown = Refusal { number: 0, at: 0 }.to_string();
-        for number in 1..=20 {
+        for number in 1..=23 {
             let told = Refusal { number, at: 0 }.to_string();
             assert!(told.ends_with(&format!(" (refused {number} 0)")), "{told}");
             assert_ne!(
@@ -128,7 +157,7 @@ mod tests {
                 "refusal {number} has no sentence of its own"
             );
         }
-        for number in [2, 3, 7, 8, 10, 11, 12, 13] {
+        for number in [2, 3, 7, 8, 10, 11, 12, 13, 21, 22] {
             let told = Refusal { number, at: 7_654 }.to_string();
             assert_eq!(told.matches("7654").count(), 2, "the place is not told: {told}");
         }
