@@ -36,18 +36,24 @@ impl Error for Mistake {}
 
 /// A word of a text, and where it stands.
 #[derive(Clone, Copy)]
-struct Word<'a> {
-    text: &'a str,
-    line: usize,
-    column: usize,
+pub(crate) struct Word<'a> {
+    pub text: &'a str,
+    pub line: usize,
+    pub column: usize,
 }
 
 impl Word<'_> {
     /// The characters that a sentence shows, at most.
     const SHOWN: usize = 40;
 
-    fn mistake(self, what: impl Into<String>) -> Mistake {
+    pub fn mistake(self, what: impl Into<String>) -> Mistake {
         Mistake { line: self.line, column: self.column, what: what.into() }
+    }
+
+    /// A mistake where something is missing behind the word.
+    pub fn mistake_behind(self, what: impl Into<String>) -> Mistake {
+        let column = self.column + self.text.chars().count();
+        Word { column, ..self }.mistake(what)
     }
 }
 
@@ -67,9 +73,20 @@ fn is_blank(sign: char) -> bool {
 }
 
 /// The words of a line, without its comment.
-fn words(number: usize, line: &str) -> impl Iterator<Item = Word<'_>> {
-    let mut rest = line;
-    let mut column = 1;
+pub(crate) fn words(number: usize, line: &str) -> impl Iterator<Item = Word<'_>> {
+    words_from(number, 1, line)
+}
+
+/// The words of a line that is a comment, without a comment in it.
+pub(crate) fn comment(number: usize, line: &str) -> Option<impl Iterator<Item = Word<'_>>> {
+    let rest = line.trim_start_matches(is_blank).strip_prefix('#')?;
+    let column = 1 + line[..line.len() - rest.len()].chars().count();
+    Some(words_from(number, column, rest))
+}
+
+/// The words of what stands in a line from a column on, without its comment.
+fn words_from(number: usize, column: usize, rest: &str) -> impl Iterator<Item = Word<'_>> {
+    let (mut rest, mut column) = (rest, column);
     std::iter::from_fn(move || {
         let word = rest.trim_start_matches(is_blank);
         column += rest[..rest.len() - word.len()].chars().count();
@@ -84,7 +101,7 @@ fn words(number: usize, line: &str) -> impl Iterator<Item = Word<'_>> {
 }
 
 /// The lines of a text: their numbers, from 1, and themselves.
-fn lines(text: &str) -> impl Iterator<Item = (usize, &str)> {
+pub(crate) fn lines(text: &str) -> impl Iterator<Item = (usize, &str)> {
     (1..).zip(text.lines())
 }
 
@@ -97,7 +114,7 @@ fn list_lines(text: &str) -> impl Iterator<Item = (usize, &str)> {
 const EMPTY: &str = "-";
 
 /// No carriage return stands in a text but at the end of a line.
-fn check_line_ends(text: &str) -> Result<(), Mistake> {
+pub(crate) fn check_line_ends(text: &str) -> Result<(), Mistake> {
     let within = |(line, signs): (usize, &str)| {
         let column = 1 + signs[..signs.find('\r')?].chars().count();
         let what = "a carriage return without a line feed behind it ends no line".into();
@@ -126,7 +143,7 @@ pub fn lists(text: &str) -> Result<Vec<Vec<Posting>>, Mistake> {
 }
 
 /// The list that a line tells.
-fn list(number: usize, line: &str) -> Result<Vec<Posting>, Mistake> {
+pub(crate) fn list(number: usize, line: &str) -> Result<Vec<Posting>, Mistake> {
     let mut words = words(number, line);
     let Some(first) = words.next() else {
         let what = format!("the line is empty; an empty list is told by `{EMPTY}`");
@@ -179,7 +196,7 @@ fn no_posting(word: Word<'_>) -> Mistake {
 }
 
 /// Whether a word is digits alone.
-fn is_number(word: &str) -> bool {
+pub(crate) fn is_number(word: &str) -> bool {
     !word.is_empty() && word.bytes().all(|byte| byte.is_ascii_digit())
 }
 
@@ -337,9 +354,7 @@ fn numbers(
         return Err(word.mistake(takes()));
     }
     if told.len() < used.len() {
-        let mut behind = line[line.len() - 1];
-        behind.column += behind.text.chars().count();
-        return Err(behind.mistake(takes()));
+        return Err(line[line.len() - 1].mistake_behind(takes()));
     }
     let mut row = [0; ROW_WORDS];
     for (number, word) in used.iter().zip(told) {
