@@ -11,8 +11,9 @@
 //! A [`Plan`] is a query over a volume, as rows of four words: a [`kind`], and the words a, b and c
 //! that it uses ([`row`]). Its patterns (01: figures) are made of variables (01: voices) and
 //! predicates on their positions (01: conditions); operators join the answers of the patterns into
-//! one. It can be typed as a line ([`Plan::from_line`]) and told as one ([`Plan::to_line`]); [`line`]
-//! tells what could stand where a typed line is refused, and [`Names`] the words of its lists.
+//! one. It can be typed as a line ([`Plan::from_line`]) and told as one ([`Plan::to_line`]).
+//! [`line`] tells what could stand where a typed line is refused, and [`Names`] tells the words of
+//! its lists.
 //!
 //! A tuple of positions (01: choice), one for each variable of a pattern, passes in a document if
 //! each is in its variable's list there and all predicates hold. A pattern is found where some

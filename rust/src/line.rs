@@ -65,7 +65,8 @@ fn broken_at(text: &[u8]) -> Option<usize> {
     }
 }
 
-/// The signs of a line in the order in which [`Follow`] shows them, behind digits. Others come last.
+/// The signs of a line in the order in which [`Follow`] shows them, behind digits. Any others come
+/// last.
 const ORDER: &[u8] = b" [(&!|;nbtsa])";
 
 impl fmt::Display for Follow {
@@ -111,8 +112,8 @@ fn shown(byte: u8) -> String {
     }
 }
 
-/// Why a line is refused with 21 or 22, as a sentence that says what could stand at the byte. `None`
-/// for any other refusal.
+/// Why a line is refused with 21 or 22, as a sentence that says what could stand at the byte.
+/// `None` for any other refusal.
 ///
 /// ```
 /// use lihambozy::{line, Plan};

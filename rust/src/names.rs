@@ -7,12 +7,12 @@ use std::str::FromStr;
 
 /// The words of lists by the numbers of the lists, as a text tells them.
 ///
-/// A line of the text is `N word`, where `N` is the number of a list, or a comment `# list N: word`.
-/// All else that a text of lists ([`text`]) may hold is skipped: lists, other comments, and what
-/// stands behind the words of a line from a word that starts with `#` on. So the text of a volume's
-/// lists tells their words too, where it names each list in a comment. Empty lines are skipped. The
-/// word may be several words, with one space between them. Any other line is a mistake, and so is
-/// another word for a number that has one.
+/// A line of the text is `N word`, where `N` is the number of a list, or a comment
+/// `# list N: word`. All else that a text of lists ([`text`]) may hold is skipped: lists, other
+/// comments, and what stands behind the words of a line from a word that starts with `#` on. So the
+/// text of a volume's lists tells their words too, where it names each list in a comment. Empty
+/// lines are skipped. The word may be several words, with one space between them. Any other line is
+/// a mistake, and so is another word for a number that has one.
 ///
 /// ```
 /// use lihambozy::Names;

@@ -38,6 +38,8 @@ fn answers_on_the_sample() {
         ("plan sample.txt written.plan", "rows 5\n"),
         ("show sample.plan", SAMPLE_PLAN),
         ("show titles.vol sample.plan 0", SAMPLE_PLAN),
+        ("show --line titles.vol sample.plan", "[1 2;b 0 1;t 0 1]\n"),
+        ("list titles.vol --line [1]&[2]", "scene 1 1 2 1 5\nscene 2 1 4 1 9\ndone 6\n"),
     ] {
         assert_eq!(folder.lhz(line).told(), (0, stdout, ""), "lhz {line}");
     }
@@ -73,6 +75,11 @@ fn standard_input_and_output() {
         ("show -", &plan, rows),
         ("show - sample.plan 0", &volume, rows),
         ("show titles.vol - 0", &plan, rows),
+        ("check - --line [1]", &volume, b"lists 3 postings 8\nfigures 1 voices 1\n"),
+        ("list --line [1]![2] -", &volume, b"done 6\n"),
+        ("show --line - sample.plan", &volume, b"[1 2;b 0 1;t 0 1]\n"),
+        ("show --line titles.vol -", &plan, b"[1 2;b 0 1;t 0 1]\n"),
+        ("plan --line [1] -", b"", &plan_bytes(&[voice(1), END])),
     ] {
         let ended = folder.lhz_given(line, stdin);
         assert_eq!((ended.status, &*ended.stderr), (0, ""), "lhz {line}");
@@ -92,7 +99,16 @@ fn standard_input_and_output() {
 #[test]
 fn standard_input_twice() {
     let folder = Folder::with_sample();
-    for line in ["check - -", "list - -", "test - - 0 1 2 5", "matches - - 0 1", "show - - 0"] {
+    for line in [
+        "check - -",
+        "list - -",
+        "test - - 0 1 2 5",
+        "matches - - 0 1",
+        "show - - 0",
+        "show --line - -",
+        "show --line --names - - sample.plan",
+        "show --line --names - titles.vol -",
+    ] {
         let sentence = folder.lhz_given(line, &sample().volume()).failure(2, "").to_string();
         assert!(sentence.contains("standard input"), "lhz {line}: {sentence}");
     }

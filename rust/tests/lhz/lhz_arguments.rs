@@ -63,6 +63,45 @@ fn arguments_that_are_not_taken() {
         "check --version",
         "list ---",
         "read titles.vol -1",
+        "read titles.vol --line [1]",
+        "write --line [1] new.vol",
+        "check --line",
+        "check --line [1]",
+        "check titles.vol --line",
+        "check titles.vol sample.plan --line [1]",
+        "check titles.vol --line [1] --line [1]",
+        "check --line=[1] titles.vol",
+        "check -line [1] titles.vol",
+        "check titles.vol --names names.txt",
+        "list --line [1]",
+        "list titles.vol --line",
+        "list titles.vol sample.plan --line [1]",
+        "list titles.vol --names names.txt sample.plan",
+        "matches titles.vol --line [1]",
+        "matches titles.vol --line [1] 0",
+        "matches titles.vol sample.plan --line [1] 0 1",
+        "test titles.vol --line [1] 0",
+        "test titles.vol sample.plan --line [1] 0 1 2",
+        "plan --line",
+        "plan --line [1]",
+        "plan new.plan --line",
+        "plan sample.txt new.plan --line [1]",
+        "plan --line [1] --line [2] new.plan",
+        "show --line",
+        "show --line sample.plan",
+        "show --line 1]",
+        "show --line --line titles.vol sample.plan",
+        "show --line [1] --line [2]",
+        "show --line [1] sample.plan",
+        "show --line titles.vol sample.plan 0",
+        "show --line titles.vol --line [1] 0",
+        "show --names",
+        "show --names lists.txt sample.plan",
+        "show --names lists.txt titles.vol sample.plan 0",
+        "show --names lists.txt --line [1]",
+        "show --line --names titles.vol sample.plan",
+        "show --line titles.vol sample.plan --names",
+        "show --line --names lists.txt --names lists.txt titles.vol sample.plan",
     ] {
         let sentence = folder.lhz(line).failure(2, "").to_string();
         assert!(sentence.contains("lhz --help"), "lhz {line}: {sentence}");
@@ -88,6 +127,17 @@ fn what_is_wrong_is_named() {
         ("matches titles.vol sample.plan 0 1:", "SCENE `1:`"),
         ("matches titles.vol sample.plan 0 1 2 5,", "PLACE `5,`"),
         ("show titles.vol sample.plan first", "FIGURE `first`"),
+        ("show --line sample.plan", "lhz show --line [--names FILE] VOLUME PLAN"),
+        ("plan --line [1]", "lhz plan PLANTEXT PLAN, lhz plan --line LINE PLAN"),
+        ("list titles.vol --line", "LINE is missing behind --line"),
+        ("list titles.vol --line [1] --line [1]", "--line is given twice"),
+        ("show --line --line titles.vol sample.plan", "--line is given twice"),
+        ("show --line titles.vol sample.plan --names", "FILE is missing behind --names"),
+        ("show --line --names a --names b titles.vol sample.plan", "--names is given twice"),
+        ("read titles.vol --line [1]", "`--line`"),
+        ("list titles.vol --names lists.txt sample.plan", "`--names`"),
+        ("list titles.vol --line=[1]", "`--line=[1]`"),
+        ("matches titles.vol sample.plan --line [1] 0 1", "FIGURE `sample.plan`"),
     ] {
         let sentence = folder.lhz(line).failure(2, "").to_string();
         assert!(sentence.contains(named), "lhz {line}: {sentence}");
@@ -172,6 +222,7 @@ fn names_behind_two_hyphens() {
     folder.write("-x", sample().volume());
     folder.write("--help", folder.read("sample.plan"));
     folder.write("--", sample().volume());
+    folder.write("--line", folder.read("sample.plan"));
     for (line, stdout) in [
         ("check -- -x", "lists 3 postings 8\n"),
         ("check -- --", "lists 3 postings 8\n"),
@@ -181,6 +232,10 @@ fn names_behind_two_hyphens() {
         ("read -- -x 0", "1:0 1:6\n"),
         ("read titles.vol --", SAMPLE_LISTS),
         ("show -- --help", SAMPLE_PLAN),
+        ("show -- --line", SAMPLE_PLAN),
+        ("list titles.vol -- --line", SAMPLE_LISTING),
+        ("show --line -- -x --line", "[1 2;b 0 1;t 0 1]\n"),
+        ("list --line [1] -- -x", "scene 1 1 2\nscene 2 1 4\ndone 3\n"),
         ("write lists.txt -- -y", "lists 3 postings 8 blocks 1\n"),
         ("check ./-x", "lists 3 postings 8\n"),
     ] {

@@ -8,7 +8,7 @@ use crate::support::*;
 const COMMANDS: [&str; 8] = ["check", "list", "matches", "read", "test", "write", "plan", "show"];
 
 /// How each command is used.
-const USES: [&str; 9] = [
+const USES: [&str; 11] = [
     "lhz check VOLUME [PLAN]",
     "lhz list VOLUME PLAN",
     "lhz matches VOLUME PLAN FIGURE SCENE [PLACE..]",
@@ -16,8 +16,10 @@ const USES: [&str; 9] = [
     "lhz test VOLUME PLAN FIGURE SCENE PLACE..",
     "lhz write TEXT VOLUME",
     "lhz plan PLANTEXT PLAN",
+    "lhz plan --line LINE PLAN",
     "lhz show PLAN",
     "lhz show VOLUME PLAN FIGURE",
+    "lhz show --line [--names FILE] VOLUME PLAN",
 ];
 
 /// A line of the shell in a page, and the lines that are shown to follow it.
@@ -59,7 +61,8 @@ fn pages() {
         assert_eq!(told.count(), 1, "{used} in lhz --help");
         let command = used.split(' ').nth(1).unwrap();
         let page = folder.lhz(&format!("{command} --help")).answer().to_string();
-        assert!(page.lines().next().unwrap().split(", ").any(|line| line == used), "{page}");
+        let mut shown = page.lines().take_while(|line| !line.is_empty());
+        assert!(shown.any(|line| line == used), "{page}");
         assert!(page.ends_with('\n') && page.lines().all(|line| line.len() <= 80), "{page}");
         for line in ["-h", "titles.vol --help", "--help a b c d e f"] {
             assert_eq!(folder.lhz(&format!("{command} {line}")).answer(), page, "{command} {line}");
@@ -108,5 +111,6 @@ fn examples_from_texts_to_a_listing() {
     let examples: Vec<&str> = examples.lines().filter_map(|line| line.strip_prefix("  ")).collect();
     let printed: String =
         examples.iter().map(|line| folder.sh(line).answer().to_string()).collect();
-    assert_eq!(printed, format!("lists 3 postings 8 blocks 1\nrows 5\n{SAMPLE_LISTING}"));
+    let typed = "scene 1 1 2 5\nscene 2 1 4 9\ndone 6\n";
+    assert_eq!(printed, format!("lists 3 postings 8 blocks 1\nrows 5\n{SAMPLE_LISTING}{typed}"));
 }

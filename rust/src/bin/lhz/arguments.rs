@@ -29,19 +29,98 @@ pub fn number<'a>(what: &str, argument: &'a OsStr) -> Result<Number<'a>, Failure
     }
 }
 
-/// The arguments without options, and whether help is asked for.
-pub fn split(arguments: impl Iterator<Item = OsString>) -> Result<(Vec<OsString>, bool), Failure> {
-    let mut words = Vec::new();
-    let (mut help, mut only_words) = (false, false);
-    for argument in arguments {
-        match argument.to_str() {
-            Some("--") if !only_words => only_words = true,
-            Some("--help" | "-h") if !only_words => help = true,
-            Some(option) if !only_words && option.len() > 1 && option.starts_with('-') => {
-                return Err(Failure::Usage(format!("there is no option `{option}`")));
+/// An argument that is no option, or a typed line, which stands in place of a plan.
+#[derive(Clone, Copy)]
+pub enum Argument<'a> {
+    Word(&'a OsStr),
+    Line(&'a OsStr),
+}
+
+use Argument::{Line, Word};
+
+/// The arguments behind a command's name.
+#[derive(Default)]
+pub struct Arguments {
+    words: Vec<OsString>,
+    line: Option<OsString>,
+    /// Whether a plan is to be shown as a line.
+    pub as_line: bool,
+    /// The file that tells the words of lists.
+    pub names: Option<OsString>,
+    /// Whether help is asked for.
+    pub help: bool,
+}
+
+impl Arguments {
+    /// The arguments of a command. Its options may stand anywhere among them, in front of `--`.
+    pub fn new(
+        command: &str,
+        arguments: impl Iterator<Item = OsString>,
+    ) -> Result<Arguments, Failure> {
+        let takes_line = matches!(command, "check" | "list" | "matches" | "test" | "plan" | "show");
+        let shows = command == "show";
+        let mut split = Arguments::default();
+        let mut only_words = false;
+        let mut arguments = arguments.peekable();
+        while let Some(argument) = arguments.next() {
+            match argument.to_str().filter(|_| !only_words) {
+                Some("--") => only_words = true,
+                Some("--help" | "-h") => split.help = true,
+                Some("--line") if shows && !arguments.peek().is_some_and(starts_line) => {
+                    if split.as_line {
+                        return Err(twice("--line"));
+                    }
+                    split.as_line = true;
+                }
+                Some("--line") if takes_line => {
+                    set(&mut split.line, "--line", "LINE", arguments.next())?;
+                }
+                Some("--names") if shows => {
+                    set(&mut split.names, "--names", "FILE", arguments.next())?;
+                }
+                Some(option) if option.len() > 1 && option.starts_with('-') => {
+                    return Err(Failure::Usage(format!("there is no option `{option}`")));
+                }
+                _ => split.words.push(argument),
             }
-            _ => words.push(argument),
+        }
+        Ok(split)
+    }
+
+    /// The arguments that are no options, with a typed line at the place of the plan that it stands
+    /// for: behind the volume, or in front where there is none or the plan is to be written.
+    pub fn in_place(&self, command: &str) -> Vec<Argument<'_>> {
+        let mut words: Vec<Argument<'_>> = self.words.iter().map(|word| Word(word)).collect();
+        if let Some(line) = &self.line {
+            let place = if command == "plan" { 0 } else { words.len().min(1) };
+            words.insert(place, Line(line));
+        }
+        words
+    }
+}
+
+/// Whether an argument starts as every line does.
+fn starts_line(argument: &OsString) -> bool {
+    matches!(argument.as_encoded_bytes(), [b'[' | b'(', ..])
+}
+
+/// Sets what an option takes.
+fn set(
+    option: &mut Option<OsString>,
+    name: &str,
+    takes: &str,
+    value: Option<OsString>,
+) -> Result<(), Failure> {
+    match (&option, value) {
+        (Some(_), _) => Err(twice(name)),
+        (None, None) => Err(Failure::Usage(format!("{takes} is missing behind {name}"))),
+        (None, value) => {
+            *option = value;
+            Ok(())
         }
     }
-    Ok((words, help))
+}
+
+fn twice(name: &str) -> Failure {
+    Failure::Usage(format!("{name} is given twice"))
 }

@@ -1,11 +1,12 @@
 //! The commands, one function each.
 
-use crate::arguments::{number, split, Number};
-use crate::failure::Failure;
+use crate::arguments::Argument::{self, Line, Word};
+use crate::arguments::{number, Arguments, Number};
+use crate::failure::{self, Failure};
 use crate::{files, help};
 use lihambozy::calls::CheckedPlan;
 use lihambozy::text::{self, ListLine};
-use lihambozy::{kind, Plan, Refusal, Volume, BLOCK_BYTES};
+use lihambozy::{kind, line, Names, Plan, Refusal, Volume, BLOCK_BYTES};
 use std::ffi::{OsStr, OsString};
 use std::io::Write;
 
@@ -28,30 +29,35 @@ pub fn run(
     let Some(page) = help::page(&command) else {
         return Err(Failure::Usage(format!("there is no command `{command}`")));
     };
-    let (arguments, helps) = split(arguments)?;
-    if helps {
+    let arguments = Arguments::new(&command, arguments)?;
+    if arguments.help {
         return print(out, page);
     }
-    let arguments: Vec<&OsStr> = arguments.iter().map(OsString::as_os_str).collect();
-    match (&*command, &arguments[..]) {
-        ("check", &[volume]) => check(volume, None, out),
-        ("check", &[volume, plan]) => check(volume, Some(plan), out),
-        ("list", &[volume, plan]) => list(volume, plan, out),
-        ("matches", &[volume, plan, pattern, doc, ref from @ ..]) => {
+    let Arguments { as_line, names, .. } = &arguments;
+    match (&*command, &arguments.in_place(&command)[..]) {
+        ("check", &[Word(volume)]) => check(volume, None, out),
+        ("check", &[Word(volume), plan]) => check(volume, Some(plan), out),
+        ("list", &[Word(volume), plan]) => list(volume, plan, out),
+        ("matches", &[Word(volume), plan, Word(pattern), Word(doc), ref from @ ..]) => {
             let asked = Asked { may_lack_places: true, ..Asked::new(pattern, doc, from)? };
             matches(volume, plan, &asked, out)
         }
-        ("read", &[volume]) => read(volume, None, out),
-        ("read", &[volume, list]) => read(volume, Some(list), out),
-        ("test", &[volume, plan, pattern, doc, ref positions @ ..]) => {
+        ("read", &[Word(volume)]) => read(volume, None, out),
+        ("read", &[Word(volume), Word(list)]) => read(volume, Some(list), out),
+        ("test", &[Word(volume), plan, Word(pattern), Word(doc), ref positions @ ..]) => {
             test(volume, plan, &Asked::new(pattern, doc, positions)?, out)
         }
-        ("write", &[text, volume]) => write(text, volume, out),
-        ("plan", &[text, plan]) => write_plan(text, plan, out),
-        ("show", &[plan]) => show(plan, out),
-        ("show", &[volume, plan, pattern]) => show_pattern(volume, plan, pattern, out),
+        ("write", &[Word(text), Word(volume)]) => write(text, volume, out),
+        ("plan", &[text, Word(plan)]) => write_plan(text, plan, out),
+        ("show", &[Word(volume), plan]) if *as_line => {
+            show_line(volume, plan, names.as_deref(), out)
+        }
+        ("show", &[plan]) if !as_line && names.is_none() => show(plan, out),
+        ("show", &[Word(volume), plan, Word(pattern)]) if !as_line && names.is_none() => {
+            show_pattern(volume, plan, pattern, out)
+        }
         _ => {
-            let used = page.lines().next().unwrap_or_default();
+            let used = help::uses(page).collect::<Vec<&str>>().join(", ");
             Err(Failure::Usage(format!("{command} takes other arguments: {used}")))
         }
     }
@@ -67,46 +73,79 @@ fn open(path: &OsStr) -> Result<Volume<'static>, Failure> {
     Volume::new(bytes).map_err(|refusal| Failure::refused(files::name(path), refusal))
 }
 
-/// The plan of a file.
-fn open_plan(path: &OsStr) -> Result<Plan, Failure> {
-    let bytes = files::plan(path)?;
-    Plan::from_bytes(&bytes).map_err(|refusal| Failure::refused(files::name(path), refusal))
+/// A plan, as its argument names it for a person.
+fn plan_name(plan: Argument<'_>) -> String {
+    match plan {
+        Word(path) => files::name(path),
+        Line(_) => failure::TYPED.into(),
+    }
 }
 
-/// The volume of a file, and a plan of another that is accepted over it.
+/// Whether a plan is read from standard input.
+fn is_input(plan: Argument<'_>) -> bool {
+    matches!(plan, Word(path) if path == "-")
+}
+
+/// The plan of a file, or of a typed line.
+fn open_plan(plan: Argument<'_>) -> Result<Plan, Failure> {
+    let read = match plan {
+        Word(path) => Plan::from_bytes(&files::plan(path)?),
+        Line(typed) => return read_line(typed.as_encoded_bytes()),
+    };
+    read.map_err(|refusal| Failure::refused(plan_name(plan), refusal))
+}
+
+/// The plan of a typed line.
+fn read_line(typed: &[u8]) -> Result<Plan, Failure> {
+    Plan::from_line(typed).map_err(|refusal| match line::refused(typed, refusal) {
+        Some(why) => {
+            let sentence = with_number(&why, refusal);
+            let marked = line::Marked::new(typed, refusal.at as usize).to_string();
+            Failure::Line { refusal, sentence, marked }
+        }
+        None => Failure::refused(failure::TYPED, refusal),
+    })
+}
+
+/// The volume of a file, and a plan that is accepted over it.
 fn open_both(
     volume: &OsStr,
-    plan: &OsStr,
+    source: Argument<'_>,
 ) -> Result<(Volume<'static>, Plan, CheckedPlan), Failure> {
-    if volume == "-" && plan == "-" {
+    if volume == "-" && is_input(source) {
         return Err(Failure::Usage("volume and plan cannot both be standard input".into()));
     }
-    let file = files::name(plan);
     let volume = open(volume)?;
-    let plan = open_plan(plan)?;
+    let plan = open_plan(source)?;
     match volume.check(&plan) {
         Ok(checked) => Ok((volume, plan, checked)),
-        Err(refusal) => Err(Failure::Refused {
-            file,
-            refusal,
-            sentence: match refusal.number {
-                10..=13 => {
-                    let row = Plan::new([plan.rows()[refusal.at as usize]]).to_string();
-                    format!("{refusal}; the row is `{}`", row.trim_end())
+        Err(refusal) => {
+            let row = |at: u32| Plan::new([plan.rows()[at as usize]]).to_string();
+            let sentence = match (refusal.number, refusal.at, source) {
+                (10..=13, at, Word(_)) => {
+                    format!("{refusal}; the row is `{}`", row(at).trim_end())
+                }
+                (10..=13, at, Line(_)) => {
+                    format!("{refusal}; row {at}, counted from 0: {}", row(at).trim_end())
                 }
                 _ => refusal.to_string(),
-            },
-        }),
+            };
+            Err(Failure::Refused { file: plan_name(source), refusal, sentence })
+        }
     }
 }
 
-/// What a call refuses with 17, told of a file.
-fn no_such(path: &OsStr, refusal: Refusal, why: String) -> Failure {
-    let sentence = format!("{why} (refused {} {})", refusal.number, refusal.at);
-    Failure::Refused { file: files::name(path), refusal, sentence }
+/// A sentence on a refusal, with the refusal's number and place behind it.
+fn with_number(why: &str, Refusal { number, at }: Refusal) -> String {
+    format!("{why} (refused {number} {at})")
 }
 
-fn check(volume: &OsStr, plan: Option<&OsStr>, out: &mut impl Write) -> Result<(), Failure> {
+/// What a call refuses with 17, told of a file or a typed line.
+fn no_such(file: String, refusal: Refusal, why: String) -> Failure {
+    Failure::Refused { file, refusal, sentence: with_number(&why, refusal) }
+}
+
+fn check(volume: &OsStr, plan: Option<Argument<'_>>, out: &mut impl Write) -> Result<(), Failure> {
     let tell = |volume: &Volume<'_>| {
         format!("lists {} postings {}\n", volume.list_count(), volume.posting_count())
     };
@@ -120,8 +159,8 @@ fn check(volume: &OsStr, plan: Option<&OsStr>, out: &mut impl Write) -> Result<(
     }
 }
 
-fn list(volume: &OsStr, plan: &OsStr, out: &mut impl Write) -> Result<(), Failure> {
-    let file = files::name(plan);
+fn list(volume: &OsStr, plan: Argument<'_>, out: &mut impl Write) -> Result<(), Failure> {
+    let file = plan_name(plan);
     let (volume, plan, _) = open_both(volume, plan)?;
     let mut search = volume.search(&plan).map_err(|refusal| Failure::refused(file, refusal))?;
     for row in search.by_ref() {
@@ -140,7 +179,8 @@ fn read(path: &OsStr, list: Option<&OsStr>, out: &mut impl Write) -> Result<(), 
         Some(list) => match volume.list(list.value) {
             Ok(list) => print(out, format_args!("{}\n", ListLine(&list))),
             Err(refusal) => {
-                Err(no_such(path, refusal, not_there("list", list, volume.list_count())))
+                let why = not_there("list", list, volume.list_count());
+                Err(no_such(files::name(path), refusal, why))
             }
         },
     }
@@ -157,10 +197,10 @@ struct Asked<'a> {
 }
 
 impl<'a> Asked<'a> {
-    fn new(pattern: &'a OsStr, doc: &'a OsStr, places: &[&'a OsStr]) -> Result<Self, Failure> {
+    fn new(pattern: &'a OsStr, doc: &'a OsStr, places: &[Argument<'a>]) -> Result<Self, Failure> {
         let pattern = number("FIGURE", pattern)?;
         let doc = number("SCENE", doc)?;
-        let places = places.iter().map(|pos| number("PLACE", pos));
+        let places = places.iter().map(|&(Word(pos) | Line(pos))| number("PLACE", pos));
         let places = places.collect::<Result<Vec<Number<'_>>, Failure>>()?;
         let positions = places.iter().map(|pos| pos.value).collect();
         Ok(Asked { pattern, doc, places, positions, may_lack_places: false })
@@ -169,13 +209,14 @@ impl<'a> Asked<'a> {
     /// Why a call that is asked this refuses it with 17.
     fn refused(
         &self,
-        path: &OsStr,
+        source: Argument<'_>,
         (volume, plan, checked): &(Volume<'_>, Plan, CheckedPlan),
         refusal: Refusal,
     ) -> Failure {
         let Asked { pattern, doc, places, positions, may_lack_places } = self;
         let Ok(rows) = volume.pattern_rows(plan, pattern.value) else {
-            return no_such(path, refusal, not_there("figure", *pattern, checked.patterns));
+            let why = not_there("figure", *pattern, checked.patterns);
+            return no_such(plan_name(source), refusal, why);
         };
         let vars = rows.iter().filter(|row| row[0] == kind::VOICE).count();
         let over = [doc].into_iter().chain(places).find(|number| number.value > 65_535);
@@ -190,38 +231,38 @@ impl<'a> Asked<'a> {
                 positions.len()
             ),
         };
-        no_such(path, refusal, why)
+        no_such(plan_name(source), refusal, why)
     }
 }
 
 fn test(
     volume: &OsStr,
-    path: &OsStr,
+    source: Argument<'_>,
     asked: &Asked<'_>,
     out: &mut impl Write,
 ) -> Result<(), Failure> {
-    let opened = open_both(volume, path)?;
+    let opened = open_both(volume, source)?;
     let (volume, plan, _) = &opened;
     match volume.test(plan, asked.pattern.value, asked.doc.value, &asked.positions) {
         Ok(passes) => print(out, if passes { "yes\n" } else { "no\n" }),
-        Err(refusal) => Err(asked.refused(path, &opened, refusal)),
+        Err(refusal) => Err(asked.refused(source, &opened, refusal)),
     }
 }
 
 fn matches(
     volume: &OsStr,
-    path: &OsStr,
+    source: Argument<'_>,
     asked: &Asked<'_>,
     out: &mut impl Write,
 ) -> Result<(), Failure> {
-    let opened = open_both(volume, path)?;
+    let opened = open_both(volume, source)?;
     let (volume, plan, _) = &opened;
     let (pattern, doc) = (asked.pattern.value, asked.doc.value);
     let matches = match &asked.positions[..] {
         [] => volume.matches(plan, pattern, doc),
         from => volume.matches_from(plan, pattern, doc, from),
     };
-    let matches = matches.map_err(|refusal| asked.refused(path, &opened, refusal))?;
+    let matches = matches.map_err(|refusal| asked.refused(source, &opened, refusal))?;
     let mut count: u64 = 0;
     for tuple in matches {
         print(out, format_args!("{tuple}\n"))?;
@@ -257,13 +298,18 @@ fn write(path: &OsStr, volume: &OsStr, out: &mut impl Write) -> Result<(), Failu
     print(out, format_args!("lists {lists} postings {postings} blocks {blocks}\n"))
 }
 
-fn write_plan(path: &OsStr, plan: &OsStr, out: &mut impl Write) -> Result<(), Failure> {
-    apart(path, plan)?;
-    let wrong = |mistake| Failure::Text { file: files::name(path), mistake, refusal: None };
-    let written: Plan = files::plan_text(path)?.parse().map_err(wrong)?;
+fn write_plan(source: Argument<'_>, plan: &OsStr, out: &mut impl Write) -> Result<(), Failure> {
+    let written = match source {
+        Line(typed) => read_line(typed.as_encoded_bytes())?,
+        Word(path) => {
+            apart(path, plan)?;
+            let wrong = |mistake| Failure::Text { file: files::name(path), mistake, refusal: None };
+            files::plan_text(path)?.parse().map_err(wrong)?
+        }
+    };
     let bytes = written.to_bytes();
     // Not every number of rows makes a plan file.
-    Plan::from_bytes(&bytes).map_err(|refusal| Failure::refused(files::name(path), refusal))?;
+    Plan::from_bytes(&bytes).map_err(|refusal| Failure::refused(plan_name(source), refusal))?;
     files::write(plan, &bytes, out)?;
     if plan == "-" {
         return Ok(());
@@ -280,20 +326,58 @@ fn apart(read: &OsStr, written: &OsStr) -> Result<(), Failure> {
     Ok(())
 }
 
-fn show(plan: &OsStr, out: &mut impl Write) -> Result<(), Failure> {
+fn show(plan: Argument<'_>, out: &mut impl Write) -> Result<(), Failure> {
     print(out, open_plan(plan)?)
 }
 
 fn show_pattern(
     volume: &OsStr,
-    path: &OsStr,
+    source: Argument<'_>,
     pattern: &OsStr,
     out: &mut impl Write,
 ) -> Result<(), Failure> {
     let pattern = number("FIGURE", pattern)?;
-    let (volume, plan, checked) = open_both(volume, path)?;
+    let (volume, plan, checked) = open_both(volume, source)?;
     let rows = volume.pattern_rows(&plan, pattern.value).map_err(|refusal| {
-        no_such(path, refusal, not_there("figure", pattern, checked.patterns))
+        let why = not_there("figure", pattern, checked.patterns);
+        no_such(plan_name(source), refusal, why)
     })?;
     print(out, Plan::new(rows))
+}
+
+/// A plan as a line, and beside it the word of each list that it names, in the line's order.
+fn show_line(
+    volume: &OsStr,
+    source: Argument<'_>,
+    names: Option<&OsStr>,
+    out: &mut impl Write,
+) -> Result<(), Failure> {
+    if names.is_some_and(|path| path == "-") && (volume == "-" || is_input(source)) {
+        return Err(Failure::Usage(
+            "names and volume or plan cannot both be standard input".into(),
+        ));
+    }
+    let (volume, plan, _) = open_both(volume, source)?;
+    let names = names.map(open_names).transpose()?;
+    let line = plan.to_line(&volume);
+    let line = line.map_err(|refusal| Failure::refused(plan_name(source), refusal))?;
+    print(out, format_args!("{line}\n"))?;
+    let Some(names) = names else {
+        return Ok(());
+    };
+    let mut told: Vec<u32> = vec![];
+    for row in plan.rows().iter().filter(|row| row[0] == kind::VOICE) {
+        let list = row[1];
+        if !told.contains(&list) {
+            told.push(list);
+            print(out, format_args!("{list} {}\n", names.word(list).unwrap_or("(no word)")))?;
+        }
+    }
+    Ok(())
+}
+
+/// The words of lists that a file tells.
+fn open_names(path: &OsStr) -> Result<Names, Failure> {
+    let wrong = |mistake| Failure::Text { file: files::name(path), mistake, refusal: None };
+    files::lists_text(path)?.parse().map_err(wrong)
 }

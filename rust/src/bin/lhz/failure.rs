@@ -5,11 +5,17 @@ use lihambozy::Refusal;
 use std::io::{self, Write};
 use std::process::ExitCode;
 
+/// What a typed line is called where a file would be named.
+pub const TYPED: &str = "--line";
+
 /// Why the command does not answer.
 pub enum Failure {
     /// Document 01 refuses what a file holds, or what is asked of it: the file, the refusal, and a
     /// sentence.
     Refused { file: String, refusal: Refusal, sentence: String },
+    /// A typed line is refused at one of its bytes: the refusal, a sentence, and the line with the
+    /// byte marked.
+    Line { refusal: Refusal, sentence: String, marked: String },
     /// A text has a mistake, and the refusal that document 01 has for it, if it has one.
     Text { file: String, mistake: Mistake, refusal: Option<Refusal> },
     /// A file cannot be read or written, and why.
@@ -44,7 +50,7 @@ impl Failure {
     /// The refusal, the sentence and the exit status: 1 for what was refused, 2 for all else.
     pub fn tell(self, out: &mut impl Write) -> ExitCode {
         let refusal = match &self {
-            Failure::Refused { refusal, .. } => Some(*refusal),
+            Failure::Refused { refusal, .. } | Failure::Line { refusal, .. } => Some(*refusal),
             Failure::Text { refusal, .. } => *refusal,
             _ => None,
         };
@@ -52,15 +58,20 @@ impl Failure {
             let printed = writeln!(out, "refused {number} {at}").and_then(|()| out.flush());
             printed.err().map(Failure::output)
         });
+        let mut below = String::new();
         let (status, sentence) = match self {
             Failure::Refused { file, sentence, .. } => (1, format!("{file}: {sentence}")),
+            Failure::Line { sentence, marked, .. } => {
+                below.extend(marked.lines().map(|line| format!("  {line}\n")));
+                (1, format!("{TYPED}: {sentence}"))
+            }
             Failure::Text { file, mistake, .. } => (1, format!("{file}:{mistake}")),
             Failure::File { file, why } => (2, format!("{file}: {why}")),
             Failure::Unread => return ExitCode::from(2),
             Failure::Usage(why) => (2, format!("{why} (lhz --help shows how it is used)")),
         };
         // A sentence that standard error does not take has nowhere else to go.
-        let _ = writeln!(io::stderr(), "lhz: {}", on_one_line(&sentence));
+        let _ = write!(io::stderr(), "lhz: {}\n{below}", on_one_line(&sentence));
         match unprinted {
             Some(failure) => failure.tell(&mut io::sink()),
             None => ExitCode::from(status),

@@ -11,11 +11,16 @@ lhz checks, reads, writes and searches the volumes of a surtitle archive.
   lhz test VOLUME PLAN FIGURE SCENE PLACE..       ask whether places pass
   lhz write TEXT VOLUME                           write a volume from a text
   lhz plan PLANTEXT PLAN                          write a plan from its text
+  lhz plan --line LINE PLAN                       write a plan from a typed line
   lhz show PLAN                                   print a plan as text
   lhz show VOLUME PLAN FIGURE                     print one figure's own rows
+  lhz show --line [--names FILE] VOLUME PLAN      print a plan as a typed line
   lhz COMMAND --help                              more on one, with examples
   lhz --version
 
+Wherever a plan is read, `--line LINE`, anywhere among the arguments, stands in
+place of PLAN: a plan as it is typed, such as '[1 2;b 0 1]|([3]&[4])'. How that
+is done is told by lhz plan --help.
 `-` stands for standard input, or for standard output where a file is written.
 What is refused is printed as `refused`, document 01's number and place; a
 sentence on it goes to standard error.
@@ -27,9 +32,15 @@ Examples, from lists to the scenes of a plan:
   lhz write lists.txt titles.vol
   lhz plan wording.txt wording.plan
   lhz list titles.vol wording.plan
+  lhz list titles.vol --line '[1 2;b 0 1]'
 ";
 
-/// The page of one command; its first line shows how it is used.
+/// How a page shows that its command is used: its lines up to the first that is empty.
+pub fn uses(page: &str) -> impl Iterator<Item = &str> {
+    page.lines().take_while(|line| !line.is_empty())
+}
+
+/// The page of one command.
 pub fn page(command: &str) -> Option<&'static str> {
     Some(match command {
         "check" => CHECK,
@@ -49,11 +60,15 @@ lhz check VOLUME [PLAN]
 
 Checks every byte of a volume, and a plan over it if one is given. Prints the
 number of lists and of postings, then the number of figures and of voices, or
-`refused`, document 01's number and place.
+`refused`, document 01's number and place. `--line LINE` may stand in place of
+PLAN (lhz plan --help).
 
   $ lhz check titles.vol sample.plan
   lists 3 postings 8
   figures 1 voices 2
+  $ lhz check titles.vol --line '[1]|[2 1;n 0 1 3]'
+  lists 3 postings 8
+  figures 2 voices 3
 ";
 
 const LIST: &str = "\
@@ -63,11 +78,14 @@ Lists all true scenes of a plan, rising, each once. A line is `scene`, the
 scene, and for each figure 1 and the earliest places of its voices, or 0 and
 zeros where the figure is not found in that scene. The last line is `done` and
 the number of postings of the voices' lists; without it the listing is not
-whole.
+whole. `--line LINE` may stand in place of PLAN (lhz plan --help).
 
   $ lhz list titles.vol sample.plan
   scene 1 1 2 5
   done 6
+  $ lhz list titles.vol --line '[1 2;b 0 1]![2 1;n 0 1 0]'
+  scene 2 1 4 9 0 0 0
+  done 12
 ";
 
 const MATCHES: &str = "\
@@ -82,13 +100,17 @@ they are not all. Figures are numbered from 0 in the order in which they open.
 Without PLACE.. the first line has the earliest places. lhz list shows them too
 if the scene is true. With PLACE.., one for each voice, choices before those
 places are left out. The places given need not pass. If they do, they come
-first.
+first. `--line LINE` may stand in place of PLAN (lhz plan --help).
 
   $ lhz matches titles.vol sample.plan 0 1
   places 2 5
   done 1
   $ lhz matches titles.vol sample.plan 0 1 2 6     # behind place 5 of voice 1
   done 0
+  $ lhz matches titles.vol --line '[1 2;b 0 1]' 0 1
+  places 2 5
+  places 2 7
+  done 2
 ";
 
 const READ: &str = "\
@@ -107,7 +129,7 @@ lhz test VOLUME PLAN FIGURE SCENE PLACE..
 
 Asks whether places pass: one place for each voice of the figure, in the order
 of its voices. Figures are numbered from 0 in the order in which they open.
-Prints yes or no.
+Prints yes or no. `--line LINE` may stand in place of PLAN (lhz plan --help).
 
   $ lhz test titles.vol sample.plan 0 1 2 5
   yes
@@ -115,6 +137,8 @@ Prints yes or no.
   no
   $ lhz test titles.vol sample.plan 0 2 4 9     # no title starts in scene 2
   no
+  $ lhz test titles.vol --line '[1 2;b 0 1]' 0 2 4 9
+  yes
 ";
 
 const WRITE: &str = "\
@@ -137,6 +161,7 @@ its line and column, and the old file stays.
 
 const PLAN: &str = "\
 lhz plan PLANTEXT PLAN
+lhz plan --line LINE PLAN
 
 Writes a plan from its text, one row a line. Voices are numbered from 0 in each
 figure. What follows # is skipped, and so are empty lines.
@@ -164,13 +189,44 @@ is told by lhz check VOLUME PLAN.
   END
   $ lhz plan sample.txt sample.plan
   rows 5
+
+With --line it writes the plan of a typed line, one argument in quotes. A figure
+stands in square brackets: its lists, and behind them its conditions.
+
+  [1 2;b 0 1]      VOICE 1, VOICE 2, BEFORE 0 1, END
+  ;n a b c         NEAR          ;b a b    BEFORE    ;t a b    SAME TITLE
+  ;a a b least most    APART     ;s c      SPAN
+  LINE|LINE        EITHER
+  LINE&LINE        BOTH
+  LINE!LINE        FIRST NOT SECOND
+  (LINE)           what belongs together
+
+& and ! bind before |, and both sorts join from left to right. One space parts
+numbers and stands nowhere else. Numbers have no leading zero and are at most
+65536, least and most at most 65535. A line has at most 2048 bytes, eight round
+brackets open at one place, and 64 rows. Where it is refused, it is shown with
+a mark under the byte and with what could stand there.
+
+  $ lhz plan --line '[1 2;b 0 1;t 0 1]' sample.plan
+  rows 5
 ";
 
 const SHOW: &str = "\
-lhz show PLAN, lhz show VOLUME PLAN FIGURE
+lhz show PLAN
+lhz show VOLUME PLAN FIGURE
+lhz show --line [--names FILE] VOLUME PLAN
 
 Prints a plan as the text that lhz plan reads, or one figure's own rows of a
 plan that is in order, from its first VOICE to its END.
+
+With --line it prints a plan that is in order as a line, with no bracket that
+could be dropped. With --names each list of the line follows with its word, one
+a line. FILE tells the words: it is a text of lists with comments `# list N:
+word`, or has lines `N word`.
+
+Here too a typed line may stand in place of PLAN: --line in front of an argument
+that starts with [ or ( is that line. In front of any other, or at the end, it
+asks for the line of a plan.
 
   $ lhz show sample.plan
   VOICE 1
@@ -178,4 +234,24 @@ plan that is in order, from its first VOICE to its END.
   BEFORE 0 1
   SAME TITLE 0 1
   END
+  $ lhz show --line titles.vol sample.plan
+  [1 2;b 0 1;t 0 1]
+  $ cat words.txt
+  1 silver
+  2 oath
+  $ lhz show --line --names words.txt titles.vol sample.plan
+  [1 2;b 0 1;t 0 1]
+  1 silver
+  2 oath
+  $ lhz show --line '[1]&[2]'
+  VOICE 1
+  END
+  VOICE 2
+  END
+  BOTH
+  $ lhz show titles.vol --line '[1]&[2]' 1
+  VOICE 2
+  END
+  $ lhz show --line titles.vol --line '([1]&[2])|[1]'
+  [1]&[2]|[1]
 ";
