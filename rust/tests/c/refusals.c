@@ -13,6 +13,8 @@
     lhz_list_matches(volume, sizeof volume, plan, plan_len, 0, doc, out, LHZ_MAX_VARS, tuple, room)
 #define READ(list, room) lhz_read_list(volume, sizeof volume, list, out, room)
 #define WRITE(lists, sum, room) lhz_write_volume(counts, lists, postings, sum, written, room)
+#define LINE(len, room) lhz_line_to_plan(line, len, plan, room)
+#define TELL(room) lhz_plan_to_line(volume, sizeof volume, plan, plan_len, written, room)
 
 /* Two blocks: list 0 is empty, list 1 rises by 2. The last word that is used is word 133. */
 static uint32_t counts[2] = {0, 130};
@@ -20,6 +22,7 @@ static uint32_t postings[LHZ_MAX_WORDS];
 static uint8_t volume[2 * LHZ_BLOCK_BYTES], written[2 * LHZ_BLOCK_BYTES];
 static uint32_t plan[LHZ_MAX_PLAN_WORDS + LHZ_ROW_WORDS], out[LHZ_MAX_ROW_WORDS];
 static uint32_t tuple[LHZ_MAX_VARS];
+static uint8_t line[LHZ_MAX_LINE_BYTES + 1];
 static size_t plan_len;
 
 static void show(const char *name, unsigned number, uint32_t refusal, uint32_t at) {
@@ -134,5 +137,23 @@ int main(void) {
     SHOW(LHZ_REFUSED_SHORT_OUTPUT, WRITE(2, LHZ_MAX_WORDS - 4, LHZ_BLOCK_BYTES));
     counts[0] += 1;
     SHOW(LHZ_REFUSED_TOO_LARGE, WRITE(2, LHZ_MAX_WORDS - 3, sizeof written));
+
+    memcpy(line, "[1]&[1;s 9]|[1]", 15);
+    SHOW(LHZ_REFUSED_LINE_FORM, LINE(sizeof line, LHZ_MAX_PLAN_WORDS));
+    SHOW(LHZ_REFUSED_LINE_FORM, LINE(0, LHZ_MAX_PLAN_WORDS));
+    SHOW(LHZ_REFUSED_LINE_FORM, LINE(12, LHZ_MAX_PLAN_WORDS));
+    SHOW(LHZ_REFUSED_LINE_FORM, LINE(16, LHZ_MAX_PLAN_WORDS));
+    SHOW(LHZ_REFUSED_SHORT_BUFFER, LINE(15, 8 * LHZ_ROW_WORDS));
+    plan_len = LINE(15, 9 * LHZ_ROW_WORDS).words;
+    SHOW(LHZ_REFUSED_SHORT_BUFFER, TELL(14));
+    plan_len -= LHZ_ROW_WORDS;
+    SHOW(LHZ_REFUSED_UNFINISHED, TELL(14));
+    memset(line, '(', sizeof line);
+    SHOW(LHZ_REFUSED_LINE_FORM, LINE(LHZ_MAX_LINE_DEPTH, LHZ_MAX_PLAN_WORDS));
+    SHOW(LHZ_REFUSED_LINE_DEPTH, LINE(LHZ_MAX_LINE_DEPTH + 1, LHZ_MAX_PLAN_WORDS));
+    line[0] = '[';
+    for (size_t i = 1; i < 2 * LHZ_MAX_ROWS; i += 2) memcpy(line + i, "1 ", 2);
+    line[2 * LHZ_MAX_ROWS] = ']';
+    SHOW(LHZ_REFUSED_LINE_ROWS, LINE(2 * LHZ_MAX_ROWS + 1, 0));
     return 0;
 }

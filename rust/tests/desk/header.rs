@@ -202,6 +202,88 @@ matches 3 0 0 0, 0 0 0 0 0 0 0 0
     assert_eq!(printed("search"), expected);
 }
 
+#[test]
+fn lines() {
+    let expected = "\
+read answer 12: 0 4 8
+line answer 12: 0 4 8
+limits 2048 8
+[1 2;b 0 1;t 0 1]
+read 0 0 20: 1 1 0 0: 1 2 0 0: 3 0 1 0: 4 0 1 0: 6 0 0 0
+read 0 0 20: 1 1 0 0: 1 2 0 0: 3 0 1 0: 4 0 1 0: 6 0 0 0
+read 16 0 0
+read 16 0 0
+line 0 0 17: [1 2;b 0 1;t 0 1]
+line 0 0 17: [1 2;b 0 1;t 0 1]
+line 16 0 0
+line 16 0 0
+[1 2;b 0 1]|([2]&[1])
+read 0 0 40: 1 1 0 0: 1 2 0 0: 3 0 1 0: 6 0 0 0: 1 2 0 0: 6 0 0 0: 1 1 0 0: 6 0 0 0: 7 0 0 0: \
+8 0 0 0
+line 0 0 19: [1 2;b 0 1]|[2]&[1]
+((([1]|[2])))!([1]&[2])
+read 0 0 44: 1 1 0 0: 6 0 0 0: 1 2 0 0: 6 0 0 0: 8 0 0 0: 1 1 0 0: 6 0 0 0: 1 2 0 0: 6 0 0 0: \
+7 0 0 0: 9 0 0 0
+line 0 0 19: ([1]|[2])!([1]&[2])
+[2 1;n 1 0 65535;s 65536;a 0 1 0 65535]
+read 0 0 24: 1 2 0 0: 1 1 0 0: 2 1 0 65535: 5 0 0 65536: 10 0 1 65535: 6 0 0 0
+line 0 0 39: [2 1;n 1 0 65535;s 65536;a 0 1 0 65535]
+[1]&[3]
+read 0 0 20: 1 1 0 0: 6 0 0 0: 1 3 0 0: 6 0 0 0: 7 0 0 0
+line 11 2 0
+[1 2;b 2 65536]
+read 0 0 16: 1 1 0 0: 1 2 0 0: 3 2 65536 0: 6 0 0 0
+line 13 2 0
+[1;s 0]
+read 0 0 12: 1 1 0 0: 5 0 0 0: 6 0 0 0
+line 10 1 0
+line 3 0 0
+line 9 0 0
+
+read 21 0 0
+[65537
+read 21 5 0
+[65536
+read 21 6 0
+[655360]
+read 21 6 0
+[01]
+read 21 2 0
+[1 ]
+read 21 3 0
+[1;n 0 1]
+read 21 8 0
+[1;n 0 1 2 3]
+read 21 10 0
+[1;a 0 1 65535 65536]
+read 21 19 0
+[1]
+
+read 21 3 0
+[1]]
+read 21 3 0
+read 0 0 8: 1 1 0 0: 6 0 0 0
+(((((((([1]))))))))
+read 0 0 8: 1 1 0 0: 6 0 0 0
+((((((((([1])))))))))
+read 22 8 0
+(((((((([1](
+read 21 11 0
+((((((((x(
+read 21 8 0
+read 0 0 256
+read 16 0 0
+read 23 0 0
+read 23 0 0
+read 23 0 0
+read 21 2047 0
+read 21 2048 0
+read 21 0 0
+read 21 2048 0
+";
+    assert_eq!(printed("line"), expected);
+}
+
 /// Each name of a refusal is the number that its cause has, and the longest row is reached.
 #[test]
 fn refusals() {
@@ -235,6 +317,16 @@ LHZ_REFUSED_SHORT_BUFFER 16: 16 0
 LHZ_REFUSED_COUNT_SUM 18: 18 0
 LHZ_REFUSED_SHORT_OUTPUT 20: 20 0
 LHZ_REFUSED_TOO_LARGE 19: 19 0
+LHZ_REFUSED_LINE_FORM 21: 21 2048
+LHZ_REFUSED_LINE_FORM 21: 21 0
+LHZ_REFUSED_LINE_FORM 21: 21 12
+LHZ_REFUSED_LINE_FORM 21: 21 15
+LHZ_REFUSED_SHORT_BUFFER 16: 16 0
+LHZ_REFUSED_SHORT_BUFFER 16: 16 0
+LHZ_REFUSED_UNFINISHED 14: 14 0
+LHZ_REFUSED_LINE_FORM 21: 21 8
+LHZ_REFUSED_LINE_DEPTH 22: 22 8
+LHZ_REFUSED_LINE_ROWS 23: 23 0
 ";
     assert_eq!(printed("refusals"), expected);
 }

@@ -10,16 +10,30 @@ use std::os::unix::fs::PermissionsExt;
 use std::process::Stdio;
 
 /// Every way in which a file is read: `F` is the file.
-const OF_VOLUME: [&str; 5] =
-    ["check F", "check F sample.plan", "list F sample.plan", "read F", "show F sample.plan 0"];
-const OF_PLAN: [&str; 5] = [
+const OF_VOLUME: [&str; 7] = [
+    "check F",
+    "check F sample.plan",
+    "list F sample.plan",
+    "list F --line [1]",
+    "read F",
+    "show F sample.plan 0",
+    "show --line F sample.plan",
+];
+const OF_PLAN: [&str; 6] = [
     "check titles.vol F",
     "list titles.vol F",
     "test titles.vol F 0 1 2 5",
     "show F",
     "show titles.vol F 0",
+    "show --line titles.vol F",
 ];
-const OF_TEXT: [&str; 4] = ["write F new", "write F -", "plan F new", "plan F -"];
+const OF_TEXT: [&str; 5] = [
+    "write F new",
+    "write F -",
+    "plan F new",
+    "plan F -",
+    "show --line --names F titles.vol sample.plan",
+];
 
 fn lines<'a>(commands: &'a [&str], file: &'a str) -> impl Iterator<Item = String> + 'a {
     commands.iter().map(move |line| line.replace('F', file))
@@ -51,6 +65,7 @@ fn files_that_cannot_be_read() {
         "list absent folder",
         "test absent folder 0 1 2 5",
         "show absent folder 0",
+        "show --line absent folder --names lists.txt",
     ] {
         assert!(folder.lhz(line).failure(2, "").starts_with("absent: "), "lhz {line}");
     }
@@ -110,6 +125,8 @@ fn files_that_are_pipes() {
         "mkfifo pipe; cat titles.vol > pipe & lhz list pipe sample.plan",
         "cat lists.txt | lhz write /dev/stdin - | lhz list - sample.plan",
         "lhz plan sample.txt - | lhz list titles.vol -",
+        "lhz plan --line '[1 2;b 0 1;t 0 1]' - | lhz list titles.vol -",
+        "lhz list titles.vol --line \"$(lhz show --line titles.vol sample.plan)\"",
         "lhz read titles.vol | lhz write - new.vol > told; lhz list new.vol sample.plan",
     ] {
         assert_eq!(folder.sh(line).told(), (0, SAMPLE_LISTING, ""), "{line}");
@@ -158,6 +175,11 @@ fn a_full_standard_output() {
         "test titles.vol sample.plan 0 1 2 5",
         "show sample.plan",
         "show titles.vol sample.plan 0",
+        "show --line titles.vol sample.plan",
+        "show --line --names lists.txt titles.vol sample.plan",
+        "list titles.vol --line [1]",
+        "plan --line [1] -",
+        "plan --line [1] typed.plan",
         "write lists.txt -",
         "plan sample.txt -",
         "write lists.txt written.vol",

@@ -11,7 +11,7 @@ use crate::support::*;
 /// The commands that read a volume alone, and those that read a plan too, with what they are asked
 /// of the sample. All of them answer where nothing is refused.
 const OF_VOLUME: [&str; 3] = ["check V", "read V", "read V 1"];
-const OF_BOTH: [&str; 7] = [
+const OF_BOTH: [&str; 8] = [
     "check V P",
     "list V P",
     "test V P 0 1 2 5",
@@ -19,6 +19,18 @@ const OF_BOTH: [&str; 7] = [
     "matches V P 0 1",
     "matches V P 0 70000 2 5",
     "show V P 0",
+    "show --line V P",
+];
+
+/// Those that read a volume and a typed line, which may be refused too.
+const OF_LINE: [&str; 7] = [
+    "check V --line [1]",
+    "list --line [1 V",
+    "test V 0 1 2 --line [0]",
+    "matches --line ((((((((( V 0 1",
+    "show V --line [1] 0",
+    "show --line V --line [9]",
+    "show --line [1;s V --line",
 ];
 
 /// Each of the commands over these files refuses so, and says it of one of them: the sentences.
@@ -59,8 +71,8 @@ fn words_of((number, at): Refused) -> String {
     }
 }
 
-/// 1 to 8 come first, through every command, whatever the plan is: in order, refused itself, or
-/// absent.
+/// 1 to 8 come first, through every command, whatever the plan is: in order, refused itself,
+/// absent, or a typed line.
 #[test]
 fn of_a_volume() {
     let folder = Folder::with_sample();
@@ -79,6 +91,7 @@ fn of_a_volume() {
         for plan in ["sample.plan", "short.plan", "unknown.plan", "absent.plan"] {
             sentences.extend(refuses(&folder, &OF_BOTH, ("bad.vol", plan), refused, "bad.vol"));
         }
+        sentences.extend(refuses(&folder, &OF_LINE, ("bad.vol", ""), refused, "bad.vol"));
         for sentence in sentences {
             assert!(sentence.contains(&words_of(refused)), "row {row}: {sentence}");
         }
@@ -238,6 +251,18 @@ fn of_a_number() {
         (
             "matches titles.vol sample.plan 0 1 2 65536",
             "sample.plan",
+            ["65536 is over 65535", "scene", "place"],
+        ),
+        ("show titles.vol --line [1] 1", "--line", ["no figure 1;", "only figure", "figure 0"]),
+        ("test titles.vol --line [1]&[2] 2 1", "--line", ["no figure 2;", "figures", "0 to 1"]),
+        (
+            "matches titles.vol --line [1]|[2] 1 1 2 5",
+            "--line",
+            ["voices of figure 1 is 1", "places", "is 2"],
+        ),
+        (
+            "test titles.vol --line [1] 0 1 65536",
+            "--line",
             ["65536 is over 65535", "scene", "place"],
         ),
     ] {
