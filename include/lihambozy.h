@@ -69,8 +69,8 @@
  * or a line feed at its end. In its grammar a sign in quotes stands for itself, what stands in
  * braces may be absent or come any number of times, and / parts what may stand there:
  *
- *    line       part { "|" part }            EITHER
- *    part       item { "&" item / "!" item } BOTH, FIRST NOT SECOND
+ *    line       part { "|" part }                 EITHER
+ *    part       item { "&" item / "!" item }      BOTH, FIRST NOT SECOND
  *    item       pattern / "(" line ")"
  *    pattern    "[" list { " " list } { ";" predicate } "]"
  *    predicate  "n " a " " b " " c                NEAR

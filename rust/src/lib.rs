@@ -12,8 +12,8 @@
 //! that it uses ([`row`]). Its patterns (01: figures) are made of variables (01: voices) and
 //! predicates on their positions (01: conditions); operators join the answers of the patterns into
 //! one. It can be typed as a line ([`Plan::from_line`]) and told as one ([`Plan::to_line`]).
-//! [`line`] tells what could stand where a typed line is refused, and [`Names`] tells the words of
-//! its lists.
+//! [`mod@line`] tells what could stand where a typed line is refused, and [`Names`] tells the words
+//! of its lists.
 //!
 //! A tuple of positions (01: choice), one for each variable of a pattern, passes in a document if
 //! each is in its variable's list there and all predicates hold. A pattern is found where some

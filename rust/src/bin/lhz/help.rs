@@ -190,22 +190,26 @@ is told by lhz check VOLUME PLAN.
   $ lhz plan sample.txt sample.plan
   rows 5
 
-With --line it writes the plan of a typed line, one argument in quotes. A figure
-stands in square brackets: its lists, and behind them its conditions.
+With --line it writes the plan of a typed line, which is one argument, in single
+quotes. A figure stands in square brackets: the lists of its voices, then its
+conditions, each behind a semicolon.
 
-  [1 2;b 0 1]      VOICE 1, VOICE 2, BEFORE 0 1, END
-  ;n a b c         NEAR          ;b a b    BEFORE    ;t a b    SAME TITLE
-  ;a a b least most    APART     ;s c      SPAN
-  LINE|LINE        EITHER
-  LINE&LINE        BOTH
-  LINE!LINE        FIRST NOT SECOND
-  (LINE)           what belongs together
+  [1 2;b 0 1]          VOICE 1, VOICE 2, BEFORE 0 1, END
+  ;n a b c             NEAR a b c
+  ;b a b               BEFORE a b
+  ;t a b               SAME TITLE a b
+  ;s c                 SPAN c
+  ;a a b least most    APART a b least most
+  LINE|LINE            EITHER
+  LINE&LINE            BOTH
+  LINE!LINE            FIRST NOT SECOND
+  (LINE)               what belongs together
 
-& and ! bind before |, and both sorts join from left to right. One space parts
-numbers and stands nowhere else. Numbers have no leading zero and are at most
-65536, least and most at most 65535. A line has at most 2048 bytes, eight round
-brackets open at one place, and 64 rows. Where it is refused, it is shown with
-a mark under the byte and with what could stand there.
+& and ! bind tighter than |, and all of them join from left to right. One space
+parts words and stands nowhere else. Numbers have no leading zero and are at
+most 65536, least and most at most 65535. A line has at most 2048 bytes, eight
+round brackets open at one place, and 64 rows. A line that is refused at a byte
+is shown with a mark under it, and what could stand there is told.
 
   $ lhz plan --line '[1 2;b 0 1;t 0 1]' sample.plan
   rows 5
@@ -221,8 +225,8 @@ plan that is in order, from its first VOICE to its END.
 
 With --line it prints a plan that is in order as a line, with no bracket that
 could be dropped. With --names each list of the line follows with its word, one
-a line. FILE tells the words: it is a text of lists with comments `# list N:
-word`, or has lines `N word`.
+a line. FILE tells the words by lines `N word`, or is a text of lists, with
+comments `# list N: word`.
 
 Here too a typed line may stand in place of PLAN: --line in front of an argument
 that starts with [ or ( is that line. In front of any other, or at the end, it
