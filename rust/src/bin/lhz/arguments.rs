@@ -52,7 +52,9 @@ pub struct Arguments {
 }
 
 impl Arguments {
-    /// The arguments of a command. Its options may stand anywhere among them, in front of `--`.
+    /// The arguments of a command. Its options may stand anywhere among them, in front of `--`. In
+    /// `lhz show`, `--line` in front of an argument that starts as a line takes it, and in front of
+    /// any other, or at the end, asks for the line of a plan.
     pub fn new(
         command: &str,
         arguments: impl Iterator<Item = OsString>,
