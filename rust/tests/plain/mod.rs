@@ -5,6 +5,7 @@
 
 #![allow(dead_code)]
 
+pub mod line;
 pub mod plan;
 pub mod search;
 pub mod text;
