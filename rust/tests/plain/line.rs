@@ -356,10 +356,21 @@ pub fn without(line: &str, (open, close): (usize, usize)) -> String {
     [&line[..open], &line[open + 1..close], &line[close + 1..]].concat()
 }
 
-/// Whether a line reads as the same plan without a pair of its brackets.
+/// A line with the number of each figure in place of what stands in it.
+fn numbered(line: &str) -> String {
+    let pieces: Vec<&str> = line.split('[').collect();
+    let mut text = pieces[0].to_string();
+    for (number, piece) in pieces[1..].iter().enumerate() {
+        text += &format!("[{number}{}", &piece[piece.find(']').unwrap()..]);
+    }
+    text
+}
+
+/// Whether a line reads as the same plan without a pair of its brackets. That what is left is a line
+/// again does not depend on what its figures hold.
 pub fn is_needless(line: &str, pair: (usize, usize)) -> bool {
     let without = without(line, pair);
-    breaks(without.as_bytes()).is_none() && rows(&without) == rows(line)
+    breaks(numbered(&without).as_bytes()).is_none() && rows(&without) == rows(line)
 }
 
 /// The line that is left where needless pairs are dropped, one at a time. The pairs are tried in
@@ -376,34 +387,11 @@ pub fn dropped(line: &str, mut turn: impl FnMut(&mut Vec<(usize, usize)>)) -> St
     }
 }
 
-/// A line with each of its figures replaced by the number of the figure in it, and the figures.
-fn numbered(line: &str) -> (String, Vec<&str>) {
-    let (mut shape, mut figures) = (String::new(), vec![]);
-    let mut rest = line;
-    while let Some((front, behind)) = rest.split_once('[') {
-        let (inside, behind) = behind.split_once(']').unwrap();
-        shape += &format!("{front}[{}]", figures.len());
-        figures.push(inside);
-        rest = behind;
-    }
-    (shape + rest, figures)
-}
-
-/// The line of an accepted plan, with no bracket that could be dropped. Which brackets can does not
-/// depend on what the figures hold, so they are dropped with short figures.
+/// The line of an accepted plan, with no bracket that could be dropped.
 pub fn line_of(rows: &[Row]) -> String {
-    let line = bracketed(rows);
-    let (shape, figures) = numbered(&line);
-    let mut written = String::new();
-    for piece in dropped(&shape, |_| {}).split_inclusive(']') {
-        let (front, number) = piece.split_once('[').unwrap_or((piece, ""));
-        written += front;
-        if let Some(number) = number.strip_suffix(']') {
-            written += &format!("[{}]", figures[number.parse::<usize>().unwrap()]);
-        }
-    }
-    assert_eq!(plan_of(written.as_bytes()).as_deref(), Ok(rows), "{written}");
-    written
+    let line = dropped(&bracketed(rows), |_| {});
+    assert_eq!(plan_of(line.as_bytes()).as_deref(), Ok(rows), "{line}");
+    line
 }
 
 /// Writes the line of a plan to the front of `out`: how many bytes it has.

@@ -1,0 +1,17 @@
+//! Typed lines: those of document 02, all short ones, prefixes and changes of many, those at the
+//! limits, those that are refused, and plans as lines, there and back.
+
+#[path = "../plain/mod.rs"]
+mod plain;
+#[path = "../support/mod.rs"]
+mod support;
+
+mod inputs;
+mod trial;
+
+mod document;
+mod exhaustive;
+mod limits;
+mod prefixes;
+mod refusals;
+mod round_trip;
