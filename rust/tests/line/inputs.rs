@@ -90,9 +90,30 @@ pub fn random_line(rng: &mut Rng) -> String {
 /// A piece of a line, or what is none.
 fn piece(rng: &mut Rng) -> Vec<u8> {
     const PIECES: [&str; 24] = [
-        "[1]", "[1 2]", "[0;b 0 0]", "([1])", "(", ")", "((((((((", "))))))))", "((((((((([1]", "]",
-        "[", "|", "&", "!", ";", " ", "  ", "65536", "65537", "00", ";s 1", ";a 0 1 2 65535",
-        ";n 0 1", "<2:[1],[2]>",
+        "[1]",
+        "[1 2]",
+        "[0;b 0 0]",
+        "([1])",
+        "(",
+        ")",
+        "((((((((",
+        "))))))))",
+        "((((((((([1]",
+        "]",
+        "[",
+        "|",
+        "&",
+        "!",
+        ";",
+        " ",
+        "  ",
+        "65536",
+        "65537",
+        "00",
+        ";s 1",
+        ";a 0 1 2 65535",
+        ";n 0 1",
+        "<2:[1],[2]>",
     ];
     match rng.below(6) {
         0 | 1 => rng.pick(&PIECES).into(),
@@ -130,9 +151,8 @@ pub fn loosely_written(rng: &mut Rng, rows: &[Row]) -> String {
     let mut line = bracketed(rows);
     let seldom = 1 + rng.below(4);
     for _ in 0..pairs(&line).len() {
-        let left: Vec<(usize, usize)> = { pairs(&line).into_iter() }
-            .filter(|&pair| is_needless(&line, pair))
-            .collect();
+        let left: Vec<(usize, usize)> =
+            { pairs(&line).into_iter() }.filter(|&pair| is_needless(&line, pair)).collect();
         if left.is_empty() {
             break;
         }

@@ -366,8 +366,8 @@ fn numbered(line: &str) -> String {
     text
 }
 
-/// Whether a line reads as the same plan without a pair of its brackets. That what is left is a line
-/// again does not depend on what its figures hold.
+/// Whether a line reads as the same plan without a pair of its brackets. That what is left is a
+/// line again does not depend on what its figures hold.
 pub fn is_needless(line: &str, pair: (usize, usize)) -> bool {
     let without = without(line, pair);
     breaks(numbered(&without).as_bytes()).is_none() && rows(&without) == rows(line)
