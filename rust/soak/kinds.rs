@@ -2,7 +2,7 @@
 
 use crate::case::Case;
 use crate::support::Rng;
-use crate::{large, package, plans, searches, texts, volumes};
+use crate::{large, lines, package, plans, searches, texts, volumes};
 
 /// A kind of case.
 pub struct Kind {
@@ -14,7 +14,7 @@ pub struct Kind {
 }
 
 /// The kinds of cases. The first one is that of case 0 alone.
-pub static KINDS: [Kind; 10] = [
+pub static KINDS: [Kind; 11] = [
     Kind { name: "bytes changed", weight: 0, run: volumes::bytes_changed },
     Kind { name: "writing", weight: 1200, run: volumes::writing },
     Kind { name: "damage", weight: 2500, run: volumes::damaged },
@@ -24,6 +24,7 @@ pub static KINDS: [Kind; 10] = [
     Kind { name: "matches", weight: 1400, run: searches::matches },
     Kind { name: "package", weight: 2500, run: package::package },
     Kind { name: "texts", weight: 700, run: texts::texts },
+    Kind { name: "lines", weight: 300, run: lines::lines },
     Kind { name: "large", weight: 3, run: large::large },
 ];
 

@@ -1,6 +1,6 @@
-//! The soak: random and mutated volumes, plans, buffers and texts go to the library and to the Rust
-//! package, and to the plain reader, the plain writer and the naive searcher beside them, for a
-//! given time. Every answer and every lent element is compared, and the first difference ends the
+//! The soak: random and mutated volumes, plans, buffers, texts and typed lines go to the library and
+//! to the Rust package, and to the plain reader, the plain writer and the naive searcher beside
+//! them, for a given time. Every answer and every lent element is compared, and the first difference ends the
 //! run.
 //!
 //! ```text
@@ -14,10 +14,16 @@ mod plain;
 #[path = "../tests/support/mod.rs"]
 mod support;
 
+#[path = "../tests/line/inputs.rs"]
+mod line_inputs;
+#[path = "../tests/line/trial.rs"]
+mod line_trial;
+
 mod case;
 mod inputs;
 mod kinds;
 mod large;
+mod lines;
 mod options;
 mod package;
 mod plans;

@@ -1,30 +1,58 @@
 //! What a run counts, and what it tells.
 
+use crate::line_trial::{Lines, Way};
 use crate::support::{Call, Met, Trial};
 use std::collections::BTreeMap;
 use std::time::Duration;
 
+/// A call of the library, by what compares it.
+#[derive(Clone, Copy)]
+enum Of {
+    Trial(Call),
+    Lines(Way),
+}
+
 /// The calls by their names in the header, with the numbers that each of them can tell; 0 stands
 /// for an answer that is no refusal. `lhz_pattern_rows` tells none: an empty part counts as the
 /// refusal that it stands for.
-const CALLS: [(&str, Call, &[u32]); 8] = [
-    ("check_volume", Call::Check, &[0, 1, 2, 3, 4, 5, 6, 7, 8]),
-    ("read_list", Call::Read, &[0, 1, 2, 3, 4, 5, 6, 7, 8, 16, 17]),
-    ("write_volume", Call::Write, &[0, 5, 7, 18, 19, 20]),
-    ("check_plan", Call::Plan, &[0, 1, 2, 3, 4, 5, 6, 7, 8, 9, 10, 11, 12, 13, 14]),
-    ("pattern_rows", Call::Rows, &[0, 1, 2, 3, 4, 5, 6, 7, 8, 9, 10, 11, 12, 13, 14, 17]),
-    ("test_positions", Call::Test, &[0, 1, 2, 3, 4, 5, 6, 7, 8, 9, 10, 11, 12, 13, 14, 17]),
-    ("list", Call::List, &[0, 1, 2, 3, 4, 5, 6, 7, 8, 9, 10, 11, 12, 13, 14, 15, 16]),
-    ("list_matches", Call::Matches, &[0, 1, 2, 3, 4, 5, 6, 7, 8, 9, 10, 11, 12, 13, 14, 16, 17]),
+const CALLS: [(&str, Of, &[u32]); 10] = [
+    ("check_volume", Of::Trial(Call::Check), &[0, 1, 2, 3, 4, 5, 6, 7, 8]),
+    ("read_list", Of::Trial(Call::Read), &[0, 1, 2, 3, 4, 5, 6, 7, 8, 16, 17]),
+    ("write_volume", Of::Trial(Call::Write), &[0, 5, 7, 18, 19, 20]),
+    ("check_plan", Of::Trial(Call::Plan), &[0, 1, 2, 3, 4, 5, 6, 7, 8, 9, 10, 11, 12, 13, 14]),
+    (
+        "pattern_rows",
+        Of::Trial(Call::Rows),
+        &[0, 1, 2, 3, 4, 5, 6, 7, 8, 9, 10, 11, 12, 13, 14, 17],
+    ),
+    (
+        "test_positions",
+        Of::Trial(Call::Test),
+        &[0, 1, 2, 3, 4, 5, 6, 7, 8, 9, 10, 11, 12, 13, 14, 17],
+    ),
+    ("list", Of::Trial(Call::List), &[0, 1, 2, 3, 4, 5, 6, 7, 8, 9, 10, 11, 12, 13, 14, 15, 16]),
+    (
+        "list_matches",
+        Of::Trial(Call::Matches),
+        &[0, 1, 2, 3, 4, 5, 6, 7, 8, 9, 10, 11, 12, 13, 14, 16, 17],
+    ),
+    ("line_to_plan", Of::Lines(Way::Read), &[0, 16, 21, 22, 23]),
+    (
+        "plan_to_line",
+        Of::Lines(Way::Write),
+        &[0, 1, 2, 3, 4, 5, 6, 7, 8, 9, 10, 11, 12, 13, 14, 16],
+    ),
 ];
 
 /// The counts of a run.
 #[derive(Default)]
 pub struct Counts {
-    /// The calls of the library.
+    /// The calls of the library, but for those of typed lines.
     pub trial: Trial,
+    /// The calls of typed lines.
+    pub lines: Lines,
     /// The searches and enumerations, through these calls and through the package, and what they
-    /// met.
+    /// met; and the plans and lines that went there and back.
     pub searches: Met,
     /// The calls of the package.
     pub package: Met,
@@ -45,8 +73,16 @@ impl Counts {
         self.kinds.values().map(|(cases, ..)| cases).sum()
     }
 
+    /// How often a call gave each number.
+    fn met(&self, of: Of) -> BTreeMap<u32, usize> {
+        match of {
+            Of::Trial(call) => self.trial.met(call),
+            Of::Lines(way) => self.lines.met(way),
+        }
+    }
+
     fn compared(&self) -> usize {
-        let calls = CALLS.iter().map(|&(_, call, _)| self.trial.made(call));
+        let calls = CALLS.iter().map(|&(_, of, _)| self.met(of).values().sum());
         calls.chain(self.package.0.values().copied()).sum()
     }
 
@@ -83,9 +119,9 @@ impl Counts {
             println!("{kind:16}{cases:>9}{all:>11.1}{longest:>13.1}");
         }
 
-        let met = CALLS.map(|(_, call, _)| self.trial.met(call));
+        let met = CALLS.map(|(_, of, _)| self.met(of));
         println!("\n{:16}{}", "calls", CALLS.map(|(name, ..)| format!("{name:>15}")).concat());
-        for number in 0..=20 {
+        for number in 0..=23 {
             let cells = met.iter().zip(CALLS).map(|(met, (_, _, can))| match met.get(&number) {
                 Some(times) => format!("{times:>15}"),
                 None if can.contains(&number) => format!("{:>15}", 0),
@@ -107,8 +143,8 @@ impl Counts {
 
     /// The numbers that a call can tell and never did.
     pub fn missed(&self) -> Vec<String> {
-        let of_call = |(name, call, can): (&str, Call, &[u32])| {
-            let met = self.trial.met(call);
+        let of_call = |(name, of, can): (&str, Of, &[u32])| {
+            let met = self.met(of);
             let never = can.iter().filter(|number| !met.contains_key(number));
             never.map(|number| format!("{name} never met {number}")).collect::<Vec<_>>()
         };

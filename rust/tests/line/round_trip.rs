@@ -31,6 +31,17 @@ fn trees(from: u32, count: u32) -> Vec<Vec<Row>> {
     all
 }
 
+/// A line that is written for these rows reads as them, and without any pair of its brackets it
+/// does not.
+#[track_caller]
+fn assert_fewest(lines: &mut Lines, line: &str, rows: &[Row]) {
+    assert_eq!(lines.read(line).as_deref(), Ok(rows), "{}: {line}", lines.case);
+    for pair in pairs(line) {
+        let fewer = lines.read(without(line, pair));
+        assert_ne!(fewer.as_deref(), Ok(rows), "{}: {line}", lines.case);
+    }
+}
+
 /// Whether none of a line's brackets could be dropped.
 fn is_bare(line: &str) -> bool {
     pairs(line).into_iter().all(|pair| !is_needless(line, pair))
@@ -50,8 +61,7 @@ fn every_tree() {
     for figures in 1..=5 {
         for rows in trees(1, figures) {
             let line = lines.write(&volume, &rows.concat()).unwrap();
-            assert_eq!(lines.read(&line), Ok(rows.clone()), "{line}");
-            assert!(is_bare(&line), "{line}");
+            assert_fewest(&mut lines, &line, &rows);
             count += 1;
         }
     }
@@ -111,8 +121,7 @@ fn random_plans() {
         let rows = random_plan(&mut rng, *count);
         lines.case = format!("seed {seed}, round {round}");
         let line = lines.write(volume, &rows.concat()).unwrap();
-        assert_eq!(lines.read(&line), Ok(rows.clone()), "{}", lines.case);
-        assert!(is_bare(&line), "{}: {line}", lines.case);
+        assert_fewest(&mut lines, &line, &rows);
         assert!(line.len() <= 26 * rows.len(), "{}: {line}", lines.case);
         let packed = Plan::new(&rows[..]).to_line(&Volume::new(&volume[..]).unwrap());
         assert_eq!(packed.as_deref(), Ok(&line[..]), "{}", lines.case);
