@@ -1,10 +1,13 @@
 //! Typed lines: those of document 02, all short ones, prefixes and changes of many, those at the
-//! limits, those that are refused, and plans as lines, there and back.
+//! limits, those that are refused, and plans as lines, there and back; and the yardstick of the
+//! benchmarks.
 
 #[path = "../plain/mod.rs"]
 mod plain;
 #[path = "../support/mod.rs"]
 mod support;
+#[path = "../../benches/yardstick/mod.rs"]
+mod yardstick;
 
 mod inputs;
 mod trial;
@@ -15,3 +18,4 @@ mod limits;
 mod prefixes;
 mod refusals;
 mod round_trip;
+mod yardstick_line;
