@@ -2,7 +2,7 @@
 //! archives, and how the time grows with the positions of one document. The results are compared
 //! before anything is timed. Then it times how all tuples of a crowded document are listed: where
 //! few pass, beside a listing of that document, and where all pass, tuple by tuple as the document
-//! grows. Run as a test, it makes one round and prints no times.
+//! grows. Last come typed lines (`lines`). Run as a test, it makes one round and prints no times.
 //!
 //! A listing checks its volume; what it does beyond that is its walk. Only whole calls of the
 //! library can be timed, so on both sides a walk's time is that of a listing less that of a check
@@ -11,6 +11,7 @@
 //! archive's other lists are empty: the same walk after a short check.
 
 mod archives;
+mod lines;
 mod support;
 mod yardstick;
 
@@ -101,8 +102,9 @@ fn main() {
     missed |= time_growth(timed);
     missed |= time_few(timed);
     missed |= time_all(timed);
+    missed |= lines::time(timed);
     if !timed {
-        println!("the library and the yardstick agree on every listing");
+        println!("the library and the yardstick agree on every listing and every line");
     }
     if missed {
         std::process::exit(1);

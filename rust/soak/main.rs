@@ -1,7 +1,7 @@
-//! The soak: random and mutated volumes, plans, buffers, texts and typed lines go to the library and
-//! to the Rust package, and to the plain reader, the plain writer and the naive searcher beside
-//! them, for a given time. Every answer and every lent element is compared, and the first difference ends the
-//! run.
+//! The soak: random and mutated volumes, plans, buffers, texts and typed lines go to the library
+//! and to the Rust package, and to the plain reader, the plain writer and the naive searcher beside
+//! them, for a given time. Every answer and every lent element is compared, and the first
+//! difference ends the run.
 //!
 //! ```text
 //! cargo test --release --test soak -- --seconds 600

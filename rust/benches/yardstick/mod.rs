@@ -1,6 +1,6 @@
 //! The yardsticks, which the benchmarks time the library beside: Rust as one would write it for
-//! speed, without intrinsics. `late` checks and writes volumes, `walk` searches them, `line` reads and
-//! writes typed lines.
+//! speed, without intrinsics. `late` checks and writes volumes, `walk` searches them, `line` reads
+//! and writes typed lines.
 
 #![allow(dead_code)]
 
