@@ -146,29 +146,24 @@ pub fn any_bytes(rng: &mut Rng) -> Vec<u8> {
     }
 }
 
-/// A line of these rows with some of the brackets that could be dropped, and some more.
+/// A line of these rows with some of the brackets that could be dropped, or none of them, and now
+/// and then with a pair around a figure.
 pub fn loosely_written(rng: &mut Rng, rows: &[Row]) -> String {
     let mut line = bracketed(rows);
     let seldom = 1 + rng.below(4);
-    for _ in 0..pairs(&line).len() {
-        let left: Vec<(usize, usize)> =
-            { pairs(&line).into_iter() }.filter(|&pair| is_needless(&line, pair)).collect();
-        if left.is_empty() {
-            break;
-        }
-        if rng.below(seldom) == 0 {
-            line = without(&line, rng.pick(&left));
+    for _ in pairs(&line) {
+        let mut needless = pairs(&line);
+        needless.retain(|&pair| is_needless(&line, pair));
+        if !needless.is_empty() && rng.below(seldom) == 0 {
+            line = without(&line, rng.pick(&needless));
         }
     }
     if rng.below(2) == 0 {
-        let around = rng.below(line.len());
-        let figure = line[around..].find('[').map(|at| around + at);
-        if let Some((open, close)) =
-            figure.and_then(|open| Some((open, open + line[open..].find(']')?)))
-        {
-            line.insert(close + 1, ')');
-            line.insert(open, '(');
-        }
+        let figures: Vec<(usize, &str)> = line.match_indices('[').collect();
+        let open = rng.pick(&figures).0;
+        let close = open + line[open..].find(']').unwrap();
+        line.insert(close + 1, ')');
+        line.insert(open, '(');
     }
     line
 }

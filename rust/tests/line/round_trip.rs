@@ -47,15 +47,15 @@ fn is_bare(line: &str) -> bool {
     pairs(line).into_iter().all(|pair| !is_needless(line, pair))
 }
 
-/// A volume of as many lists as there can be, all empty.
-fn most_lists() -> Vec<u8> {
-    Lists::new(&vec![[0; 0]; 1_024]).volume()
+/// A volume of so many lists, all empty.
+fn empty_lists(count: usize) -> Vec<u8> {
+    Lists::new(&vec![[0; 0]; count]).volume()
 }
 
 /// All plans of up to five figures with one voice each.
 #[test]
 fn every_tree() {
-    let volume = most_lists();
+    let volume = empty_lists(6);
     let mut lines = Lines::default();
     let mut count = 0;
     for figures in 1..=5 {
@@ -70,18 +70,21 @@ fn every_tree() {
     lines.assert_met(Way::Write, count, &[0, 16]);
 }
 
-/// Which brackets are left does not depend on the order in which they are tried: of all sets of
-/// pairs without which the line reads as the same plan, one holds all others.
+/// One line of a plan has the fewest brackets, and it is the one written. From every set of
+/// brackets with which the line reads as the plan it is left, whatever the order in which pairs are
+/// dropped.
 #[test]
 fn one_line_has_the_fewest_brackets() {
     let seed = 5_401;
     let mut rng = Rng::new(seed);
+    let mut lines = Lines::default();
+    let volume = empty_lists(6);
     for figures in 1..=5 {
         for rows in trees(1, figures) {
             let whole = bracketed(&rows);
             let all = pairs(&whole);
             assert_eq!(all.len(), figures as usize - 1, "{whole}");
-            let line = line_of(&rows);
+            let line = lines.write(&volume, &rows.concat()).unwrap();
             // Every set of pairs, dropped together.
             for set in 0..1u32 << all.len() {
                 let is_dropped = |at: usize| {
@@ -114,7 +117,8 @@ fn random_plans() {
     let seed = 5_402;
     let mut rng = Rng::new(seed);
     let mut lines = Lines::default();
-    let volumes = [(most_lists(), 1_024), (sample().volume(), 3), (four_blocks().volume(), 5)];
+    let volumes =
+        [(empty_lists(1_024), 1_024), (sample().volume(), 3), (four_blocks().volume(), 5)];
     let (mut longest, mut largest, mut brackets) = (0, 0, 0);
     for round in 0..400 {
         let (volume, count) = &volumes[rng.below(3)];
@@ -137,7 +141,7 @@ fn random_plans() {
 /// eight figures that keep a bracket each.
 #[test]
 fn longest_lines() {
-    let volume = most_lists();
+    let volume = empty_lists(1_024);
     let mut lines = Lines::default();
     let wide = [&[voice(1_023); 8][..], &[apart(7, 7, 65_535, 65_535); 55], &[END]].concat();
     let line = lines.write(&volume, &wide.concat()).unwrap();
@@ -162,7 +166,7 @@ fn lines_there_and_back() {
     let mut lines = Lines::default();
     let volume = sample().volume();
     let (mut same, mut shorter) = (0, 0);
-    for round in 0..600 {
+    for round in 0..400 {
         let rows = random_plan(&mut rng, 3);
         let line = loosely_written(&mut rng, &rows);
         lines.case = format!("seed {seed}, round {round}");
@@ -177,7 +181,7 @@ fn lines_there_and_back() {
             shorter += 1;
         }
     }
-    assert!(same > 100 && shorter > 100, "{same} {shorter}");
+    assert!(same > 80 && shorter > 80, "{same} {shorter}");
 }
 
 /// Random lines whose numbers are brought into range, so that they are accepted.
@@ -186,9 +190,9 @@ fn random_lines_there_and_back() {
     let seed = 5_404;
     let mut rng = Rng::new(seed);
     let mut lines = Lines::default();
-    let volume = most_lists();
+    let volume = empty_lists(1_024);
     let mut accepted = 0;
-    for round in 0..2_000 {
+    for round in 0..1_200 {
         let line = random_line(&mut rng);
         lines.case = format!("seed {seed}, round {round}");
         let Ok(mut rows) = plan_of(line.as_bytes()) else { continue };
@@ -210,7 +214,7 @@ fn random_lines_there_and_back() {
         let back = lines.write(&volume, &rows.concat()).unwrap();
         assert_eq!(lines.read(&back), Ok(rows), "{}: {back}", lines.case);
     }
-    assert!(accepted > 300, "{accepted}");
+    assert!(accepted > 200, "{accepted}");
 }
 
 /// The documents that a line is true of, read on its own: each figure is judged by the naive
