@@ -66,7 +66,7 @@ impl Sort {
     }
 }
 
-/// Figures, each but the last two in a bracket more than the one before it.
+/// Figures, each in a bracket more than the one before it, but for the last.
 fn nested(figure: &str, count: usize) -> String {
     let mut line = figure.to_string();
     for (behind, sign) in (1..count).zip("&|!".chars().cycle()) {
