@@ -1,7 +1,7 @@
 // Patterns (01: figures), written from the end of their text to its beginning.
 ghost use mathlib.Core.List.{_∷_, []};
 ghost use mathlib.Core.Path.{_≡_};
-ghost use Prim.Native.Nat.{_<_, _≤_};
+ghost use Prim.Native.Nat.{_≤_};
 ghost use lib.ListN.{length};
 ghost use Rattle.grammar.specs.Grammar.{conditionText};
 ghost use Rattle.grammar.specs.Query.{conditionOf};
@@ -43,7 +43,8 @@ fn put_letter(letter: u8, out: &mut [u8], end: usize) -> usize
 // The same with the two variables that it names.
 fn put_pair(letter: u8, a: u32, b: u32, out: &mut [u8], end: usize) -> usize
     requires { ⌜ length (begun letter (a ∷ b ∷ [])) ≤ end ⌝ }
-    ensures { λ r. ⌜ PutBack (begun letter (a ∷ b ∷ [])) (now (out .entry)) end (now (out .exit)) r ⌝ }
+    ensures { λ r. ⌜ PutBack (begun letter (a ∷ b ∷ [])) (now (out .entry)) end
+        (now (out .exit)) r ⌝ }
 {
     let second = put_spaced(b, out, end);
     let first = put_spaced(a, out, second);
@@ -53,7 +54,8 @@ fn put_pair(letter: u8, a: u32, b: u32, out: &mut [u8], end: usize) -> usize
 // A condition.
 fn put_condition(predicate: Predicate, out: &mut [u8], end: usize) -> usize
     requires { ⌜ length (conditionText (conditionOf predicate)) ≤ end ⌝ }
-    ensures { λ r. ⌜ PutBack (conditionText (conditionOf predicate)) (now (out .entry)) end (now (out .exit)) r ⌝ }
+    ensures { λ r. ⌜ PutBack (conditionText (conditionOf predicate)) (now (out .entry)) end
+        (now (out .exit)) r ⌝ }
 {
     match predicate {
         Predicate::Distance { a, b, limit } => {
@@ -101,7 +103,8 @@ fn behind_voice(plan: &[u32], row: usize) -> bool
 // The list numbers of a pattern whose last VOICE is row `last`, with `[` in front.
 fn put_lists(plan: &[u32], last: usize, out: &mut [u8], end: usize) -> Back
     requires { ⌜ ListsRoom (now plan) last end ⌝ }
-    ensures { λ r. ⌜ ListsPut (now (plan .entry)) last (now (out .entry)) end (now (out .exit)) r ⌝ }
+    ensures { λ r. ⌜ ListsPut (now (plan .entry)) last (now (out .entry)) end
+        (now (out .exit)) r ⌝ }
 {
     let list = list_at(plan, last);
     let number = put_number(list, out, end);
@@ -134,7 +137,8 @@ fn put_open(plan: &[u32], last: usize, out: &mut [u8], end: usize) -> Back
 // A pattern, where row `last` is its END.
 pub fn put_pattern(plan: &[u32], last: usize, out: &mut [u8], end: usize) -> Back
     requires { ⌜ PatternRoom (now plan) last end ⌝ }
-    ensures { λ r. ⌜ PatternPut (now (plan .entry)) last (now (out .entry)) end (now (out .exit)) r ⌝ }
+    ensures { λ r. ⌜ PatternPut (now (plan .entry)) last (now (out .entry)) end
+        (now (out .exit)) r ⌝ }
 {
     let at = put_byte(b']', out, end);
     put_open(plan, last - 1, out, at)

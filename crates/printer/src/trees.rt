@@ -1,5 +1,5 @@
-// Trees of patterns, written from the end of their text to its beginning, with no round bracket that
-// could be dropped.
+// Trees of patterns, written from the end of their text to its beginning, with no round bracket
+// that could be dropped.
 ghost use mathlib.Core.Path.{_≡_};
 ghost use Rattle.printer.specs.Inner.Trees.{bracketed, leftLevel, rightLevel, operatorByte};
 ghost use Rattle.printer.specs.Inner.Trees.{TreeRoom, TreePut};
@@ -69,7 +69,8 @@ fn byte_of(operator: Operator) -> u8
 // The tree whose last row is row `last`.
 pub fn put_tree(plan: &[u32], last: usize, level: Level, out: &mut [u8], end: usize) -> Back
     requires { ⌜ TreeRoom (now plan) last level end ⌝ }
-    ensures { λ r. ⌜ TreePut (now (plan .entry)) last level (now (out .entry)) end (now (out .exit)) r ⌝ }
+    ensures { λ r. ⌜ TreePut (now (plan .entry)) last level (now (out .entry)) end
+        (now (out .exit)) r ⌝ }
 {
     let row = row_at(plan, last);
     let kind = row.kind;

@@ -6,15 +6,14 @@
 --     put-as, put-then           the same text in other words; more is stored in front
 --     digits-first, digits-next, digits-done     the digits of a number, the last one first
 -- Assumes nothing.
-use Prim.Native.Nat.{ℕ, zero, suc, _+_, _-_, _*_, _/_, _%_, _<_, _≤_}
-use native.Mathlib.Nat.{add-zero, zero-add, suc-add, add-suc}
-use native.Mathlib.Numerals.{add-one}
+use Prim.Native.Nat.{ℕ, suc, _+_, _-_, _/_, _%_, _<_, _≤_}
+use native.Mathlib.Nat.{add-zero}
 use native.Mathlib.Omega.{arith}
-use mathlib.Core.Path.{_≡_, refl, sym, ap, ap₂, _∙_, subst}
+use mathlib.Core.Path.{_≡_, refl, sym, ap, _∙_, subst}
 use mathlib.Core.Bool.{Bool, true, false}
 use mathlib.Core.Logic.{⊎-elim}
 use mathlib.Core.List.{List, [], _∷_, _++_, append-assoc, append-nil}
-use lib.ListN.{length, set, drop, length-append, length-set}
+use lib.ListN.{length, set, drop, length-append}
 use lib.Seq.{set-out}
 use Rattle.seq.specs.Decimal.{digit, decimal}
 use Rattle.seq.proofs.Laws.Decimal.{decimal-digit, decimal-tens}
@@ -23,7 +22,8 @@ use Rattle.seq.proofs.Laws.Lists.{length-snoc}
 use Rattle.printer.specs.Inner.Writing.{storedBytes, PutBack, only, Digits}
 
 -- the second part first
-pub stored-append : (out : List ℕ) (at : ℕ) (a b : List ℕ) → storedBytes (storedBytes out (at + length a) b) at a ≡ storedBytes out at (a ++ b)
+pub stored-append : (out : List ℕ) (at : ℕ) (a b : List ℕ)
+    → storedBytes (storedBytes out (at + length a) b) at a ≡ storedBytes out at (a ++ b)
 unfolding storedBytes
 stored-append out at [] b = ap (λ (k : ℕ). storedBytes out k b) (add-zero at)
 stored-append out at (x ∷ a) b =
@@ -69,13 +69,15 @@ pub put-as : {t s : List ℕ} → t ≡ s → {out out′ : List ℕ} {end r : �
 put-as e {out} {out′} {end} {r} h = subst (λ (x : List ℕ). PutBack x out end out′ r) (sym e) h
 
 -- a is stored in front of b
-pub put-then : (a b : List ℕ) {out out′ out″ : List ℕ} {end m r : ℕ} → PutBack b out end out′ m → PutBack a out′ m out″ r → PutBack (a ++ b) out end out″ r
+pub put-then : (a b : List ℕ) {out out′ out″ : List ℕ} {end m r : ℕ} → PutBack b out end out′ m → PutBack a out′ m out″ r
+    → PutBack (a ++ b) out end out″ r
 put-then a b {out} {out′} {out″} {end} {m} {r} x y =
     let e = y .ends in
     let f = x .ends in
     let l = length-append a b in
     record {
-      stored = y .stored ∙ ap (λ (l : List ℕ). storedBytes l r a) (x .stored ∙ ap (λ (k : ℕ). storedBytes out k b) (sym e)) ∙ stored-append out r a b;
+      stored = y .stored ∙ ap (λ (l : List ℕ). storedBytes l r a) (x .stored ∙ ap (λ (k : ℕ). storedBytes out k b) (sym e))
+          ∙ stored-append out r a b;
       ends = omega arith;
     }
 
@@ -95,10 +97,12 @@ module _ {n left : ℕ} {out : List ℕ} {end : ℕ} {out′ : List ℕ} {at : �
   pub digits-room : length (decimal n) ≤ end → length (decimal left) ≤ at
   digits-room h = let l = length-append (decimal left) (d .text) in let e = ap length (d .whole) in let f = d .put .ends in omega arith
 
-  pub digits-next : 10 ≤ left → {out″ : List ℕ} {r : ℕ} → PutBack (digit (left % 10) ∷ []) out′ at out″ r → Digits n (left / 10) out end out″ r
+  pub digits-next : 10 ≤ left → {out″ : List ℕ} {r : ℕ} → PutBack (digit (left % 10) ∷ []) out′ at out″ r
+      → Digits n (left / 10) out end out″ r
   digits-next h y = record {
     text = digit (left % 10) ∷ d .text;
-    whole = sym (append-assoc (decimal (left / 10)) (digit (left % 10) ∷ []) (d .text)) ∙ ap (λ (l : List ℕ). l ++ d .text) (sym (decimal-tens left h)) ∙ d .whole;
+    whole = sym (append-assoc (decimal (left / 10)) (digit (left % 10) ∷ []) (d .text))
+        ∙ ap (λ (l : List ℕ). l ++ d .text) (sym (decimal-tens left h)) ∙ d .whole;
     put = put-then (digit (left % 10) ∷ []) (d .text) (d .put) y;
   }
 

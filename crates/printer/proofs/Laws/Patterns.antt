@@ -8,19 +8,18 @@
 --     open-condition .. open-lists        a pattern without its closing bracket
 --     pattern-room, pattern-put           a pattern
 -- Assumes nothing.
-use Prim.Native.Nat.{ℕ, zero, suc, _+_, _-_, _<_, _≤_}
-use native.Mathlib.Nat.{add-zero, zero-add}
+use Prim.Native.Nat.{ℕ, zero, suc, _+_, _-_, _≤_}
+use native.Mathlib.Nat.{zero-add}
 use native.Mathlib.Numerals.{add-one}
 use native.Mathlib.Omega.{arith}
-use mathlib.Core.Path.{_≡_, refl, sym, ap, ap₂, _∙_, subst}
-use mathlib.Core.Bool.{Bool, true, false, true≢false}
+use mathlib.Core.Path.{_≡_, refl, sym, ap, ap₂, _∙_}
+use mathlib.Core.Bool.{true, false, true≢false}
 use mathlib.Core.Logic.{_⊎_, inl, inr, ⊎-elim}
 use mathlib.Core.List.{List, [], _∷_, _++_, map, append-assoc, append-nil, map-append}
-use lib.ListN.{length, getD, length-append, length-map}
+use lib.ListN.{length, length-append, length-map}
 use Rattle.seq.specs.Decimal.{decimal}
 use Rattle.seq.specs.Lists.{joined}
-use Rattle.seq.specs.Numbers.{run}
-use Rattle.seq.proofs.Laws.Lists.{length-snoc, joined-append}
+use Rattle.seq.proofs.Laws.Lists.{length-snoc}
 use Rattle.seq.proofs.Laws.Numbers.{run-snoc, length-run}
 use Rattle.plan.specs.declared.row.Predicate.{Predicate}
 use Rattle.plan.specs.declared.row.Predicate.the-variants.{Distance, Ordered, Samepara, Window, Proximity}
@@ -46,12 +45,15 @@ gap (n ∷ ns) = refl
 -- one number more
 begun-behind : (letter : ℕ) (ns : List ℕ) (n : ℕ) → begun letter (ns ++ (n ∷ [])) ≡ begun letter ns ++ spaced n
 unfolding begun
-begun-behind letter ns n = ap (λ (l : List ℕ). 59 ∷ letter ∷ l) (lead-behind 32 ns n ∙ ap (λ (x : ℕ). lead 32 ns ++ (x ∷ decimal n)) (gap ns))
+begun-behind letter ns n =
+    ap (λ (l : List ℕ). 59 ∷ letter ∷ l) (lead-behind 32 ns n ∙ ap (λ (x : ℕ). lead 32 ns ++ (x ∷ decimal n)) (gap ns))
 
-pub length-begun : (letter : ℕ) (ns : List ℕ) (n : ℕ) → length (begun letter (ns ++ (n ∷ []))) ≡ length (begun letter ns) + length (spaced n)
+pub length-begun : (letter : ℕ) (ns : List ℕ) (n : ℕ)
+    → length (begun letter (ns ++ (n ∷ []))) ≡ length (begun letter ns) + length (spaced n)
 length-begun letter ns n = ap length (begun-behind letter ns n) ∙ length-append (begun letter ns) (spaced n)
 
-pub put-begun : (letter : ℕ) (ns : List ℕ) (n : ℕ) {out out′ out″ : List ℕ} {end m r : ℕ} → PutBack (spaced n) out end out′ m → PutBack (begun letter ns) out′ m out″ r
+pub put-begun : (letter : ℕ) (ns : List ℕ) (n : ℕ) {out out′ out″ : List ℕ} {end m r : ℕ} → PutBack (spaced n) out end out′ m
+    → PutBack (begun letter ns) out′ m out″ r
     → PutBack (begun letter (ns ++ (n ∷ []))) out end out″ r
 put-begun letter ns n x y = rw (begun-behind letter ns n) (put-then (begun letter ns) (spaced n) x y)
 
@@ -78,7 +80,8 @@ module _ {c : Predicate} where
   unfolding begun
   window-text e = ap (λ (x : Predicate). conditionText (conditionOf x)) e
 
-  pub proximity-text : {a b least most : ℕ} → c ≡ Proximity a b least most → conditionText (conditionOf c) ≡ begun 97 (a ∷ b ∷ least ∷ most ∷ [])
+  pub proximity-text : {a b least most : ℕ} → c ≡ Proximity a b least most
+      → conditionText (conditionOf c) ≡ begun 97 (a ∷ b ∷ least ∷ most ∷ [])
   unfolding begun
   proximity-text e = ap (λ (x : Predicate). conditionText (conditionOf x)) e
 
@@ -97,7 +100,8 @@ snoc-or {A} (x ∷ xs) =
     (snoc-or xs)
 
 pub some-snoc : {A : Type 0} (xs : List A) → 1 ≤ length xs → Snoc xs
-some-snoc {A} xs h = ⊎-elim (λ (e : xs ≡ []). absurd (let n = ap length e in let z : ⊥ = omega arith in z)) (λ (s : Snoc xs). s) (snoc-or xs)
+some-snoc {A} xs h =
+    ⊎-elim (λ (e : xs ≡ []). absurd (let n = ap length e in let z : ⊥ = omega arith in z)) (λ (s : Snoc xs). s) (snoc-or xs)
 
 pub record SnocSame {A : Type 0} (xs ys : List A) (x y : A) : Type 0 where
   pub front : xs ≡ ys
@@ -160,7 +164,8 @@ shut-behind p zero rest h e b = true≢false (sym b)
 shut-behind p (suc i) rest h e b =
     let v = voice-kind (rowAt p i .kind) b in
     let r : rowAt p (0 + i) ≡ voiceRow (v .0) = ap (rowAt p) (zero-add i) ∙ ap (λ (k : Kind). record { kind = k }) (v .1) in
-    h .no-voice (rowsBefore p i) (v .0) (sym e ∙ ap (rowsBefore p) (sym (add-one i)) ∙ run-snoc (rowAt p) 0 i ∙ ap (λ (x : Row). rowsBefore p i ++ (x ∷ [])) r)
+    h .no-voice (rowsBefore p i) (v .0)
+    (sym e ∙ ap (rowsBefore p) (sym (add-one i)) ∙ run-snoc (rowAt p) 0 i ∙ ap (λ (x : Row). rowsBefore p i ++ (x ∷ [])) r)
 
 -- the list numbers of a pattern, the last one first
 record ListsLast (p : List ℕ) (last : ℕ) (rest : List Row) (lists : List ℕ) : Type 0 where
@@ -174,7 +179,8 @@ lists-last : {p : List ℕ} {last : ℕ} {rest : List Row} {lists : List ℕ} �
 lists-last {p} {last} {rest} {lists} h =
     let s = some-snoc lists (h .some) in
     let w = rows-last p last (rest ++ map voiceRow (s .front)) (voiceRow (s .last))
-    (h .rows ∙ ap (λ (l : List ℕ). rest ++ map voiceRow l) (s .is) ∙ ap (λ (l : List Row). rest ++ l) (map-append voiceRow (s .front) (s .last ∷ []))
+    (h .rows ∙ ap (λ (l : List ℕ). rest ++ map voiceRow l) (s .is)
+    ∙ ap (λ (l : List Row). rest ++ l) (map-append voiceRow (s .front) (s .last ∷ []))
     ∙ sym (append-assoc rest (map voiceRow (s .front)) (voiceRow (s .last) ∷ []))) in
     record { front = s .front; list = s .last; is = s .is; row = ap (λ (r : Row). r .kind) (w .last); rows = w .front }
 
@@ -183,17 +189,20 @@ voice-same : {k : Kind} {a b : ℕ} → k ≡ kind.Voice a → k ≡ kind.Voice 
 voice-same e f = cc
 
 -- behind a VOICE there are lists in front; behind another row there are none
-lists-some : (p : List ℕ) (last : ℕ) (rest : List Row) (front : List ℕ) → Shut rest → rowsBefore p last ≡ rest ++ map voiceRow front → behindVoice p last ≡ true → 1 ≤ length front
+lists-some : (p : List ℕ) (last : ℕ) (rest : List Row) (front : List ℕ) → Shut rest → rowsBefore p last ≡ rest ++ map voiceRow front
+    → behindVoice p last ≡ true → 1 ≤ length front
 lists-some p last rest [] h e b = absurd (shut-behind p last rest h (e ∙ append-nil rest) b)
 lists-some p last rest (x ∷ front) h e b = omega arith
 
-lists-none : (p : List ℕ) (last : ℕ) (rest : List Row) (front : List ℕ) → rowsBefore p last ≡ rest ++ map voiceRow front → behindVoice p last ≡ false → front ≡ []
+lists-none : (p : List ℕ) (last : ℕ) (rest : List Row) (front : List ℕ) → rowsBefore p last ≡ rest ++ map voiceRow front
+    → behindVoice p last ≡ false → front ≡ []
 lists-none p last rest front e b =
     ⊎-elim
     (λ (z : front ≡ []). z)
     (λ (s : Snoc front).
     absurd (true≢false (sym (behind-last p last (rest ++ map voiceRow (s .front)) (voiceRow (s .last))
-    (e ∙ ap (λ (l : List ℕ). rest ++ map voiceRow l) (s .is) ∙ ap (λ (l : List Row). rest ++ l) (map-append voiceRow (s .front) (s .last ∷ []))
+    (e ∙ ap (λ (l : List ℕ). rest ++ map voiceRow l) (s .is)
+    ∙ ap (λ (l : List Row). rest ++ l) (map-append voiceRow (s .front) (s .last ∷ []))
     ∙ sym (append-assoc rest (map voiceRow (s .front)) (voiceRow (s .last) ∷ [])))) ∙ b)))
     (snoc-or front)
 
@@ -202,7 +211,8 @@ gap-some [] h = absurd (let z : ⊥ = omega arith in z)
 gap-some (n ∷ ns) h = refl
 
 -- the text of lists, by the last one
-lists-text : {lists : List ℕ} (front : List ℕ) {list n : ℕ} → lists ≡ front ++ (list ∷ []) → list ≡ n → lead 91 lists ≡ lead 91 front ++ (gapAfter 91 front ∷ decimal n)
+lists-text : {lists : List ℕ} (front : List ℕ) {list n : ℕ} → lists ≡ front ++ (list ∷ []) → list ≡ n
+    → lead 91 lists ≡ lead 91 front ++ (gapAfter 91 front ∷ decimal n)
 lists-text {lists} front {list} {n} e f =
     ap (lead 91) e ∙ lead-behind 91 front list ∙ ap (λ (x : ℕ). lead 91 front ++ (gapAfter 91 front ∷ decimal x)) f
 
@@ -222,7 +232,8 @@ module _ {p : List ℕ} {last : ℕ} where
         omega arith
 
     -- the list in front of it is next
-    lists-before : {rest : List Row} {lists : List ℕ} → behindVoice p last ≡ true → (h : ListsEnd p last rest lists) → ListsEnd p (last - 1) rest (lists-last h .front)
+    lists-before : {rest : List Row} {lists : List ℕ} → behindVoice p last ≡ true → (h : ListsEnd p last rest lists)
+        → ListsEnd p (last - 1) rest (lists-last h .front)
     lists-before {rest} {lists} b h =
         let w = lists-last h in
         let s = lists-some p last rest (w .front) (h .shut) (w .rows) b in
@@ -231,7 +242,8 @@ module _ {p : List ℕ} {last : ℕ} where
         let m : length (map voiceRow (w .front)) ≡ length (w .front) = length-map (w .front) voiceRow in
         record { rows = rows-back p last (rest ++ map voiceRow (w .front)) (omega arith) (w .rows); some = s; shut = h .shut }
 
-    module _ (b : behindVoice p last ≡ true) {out : List ℕ} {end : ℕ} {out₁ : List ℕ} {m : ℕ} (number : PutBack (decimal n) out end out₁ m) {out₂ : List ℕ} {k : ℕ} (byte : PutBack (32 ∷ []) out₁ m out₂ k) where
+    module _ (b : behindVoice p last ≡ true) {out : List ℕ} {end : ℕ} {out₁ : List ℕ} {m : ℕ}
+        (number : PutBack (decimal n) out end out₁ m) {out₂ : List ℕ} {k : ℕ} (byte : PutBack (32 ∷ []) out₁ m out₂ k) where
       pub lists-room : ListsRoom p last end → ListsRoom p (last - 1) k
       lists-room h =
           let w = lists-last (h .ends) in
@@ -251,8 +263,13 @@ module _ {p : List ℕ} {last : ℕ} where
               let g = lists-before b e in
               let d = h .all rest (w .front) g in
               let t : lead 91 lists ≡ lead 91 (w .front) ++ ((32 ∷ []) ++ decimal n) =
-              lists-text (w .front) (w .is) (voice-same (w .row) is-voice) ∙ ap (λ (x : ℕ). lead 91 (w .front) ++ (x ∷ decimal n)) (gap-some (w .front) (g .some)) in
-              record { row = d .row; put = put-as t (put-then (lead 91 (w .front)) ((32 ∷ []) ++ decimal n) (put-then (32 ∷ []) (decimal n) number byte) (d .put)) }
+              lists-text (w .front) (w .is) (voice-same (w .row) is-voice)
+              ∙ ap (λ (x : ℕ). lead 91 (w .front) ++ (x ∷ decimal n)) (gap-some (w .front) (g .some)) in
+              record {
+                row = d .row;
+                put = put-as t
+                    (put-then (lead 91 (w .front)) ((32 ∷ []) ++ decimal n) (put-then (32 ∷ []) (decimal n) number byte) (d .put));
+              }
 
     -- it is the first one
     pub lists-first : behindVoice p last ≡ false → {out : List ℕ} {end : ℕ} {out₁ : List ℕ} {m : ℕ} → PutBack (decimal n) out end out₁ m
@@ -260,12 +277,14 @@ module _ {p : List ℕ} {last : ℕ} where
     unfolding lead
     lists-first b {out} {end} {out₁} {m} number {out₂} {k} byte = record { all = go }
       where
-        go : (rest : List Row) (lists : List ℕ) → ListsEnd p last rest lists → Laid (lead 91 lists) rest out end out₂ (record { row = last; at = k })
+        go : (rest : List Row) (lists : List ℕ) → ListsEnd p last rest lists
+            → Laid (lead 91 lists) rest out end out₂ (record { row = last; at = k })
         go rest lists e =
             let w = lists-last e in
             let z = lists-none p last rest (w .front) (w .rows) b in
             let t : lead 91 lists ≡ (91 ∷ []) ++ decimal n =
-            lists-text (w .front) (w .is) (voice-same (w .row) is-voice) ∙ ap (λ (l : List ℕ). lead 91 l ++ (gapAfter 91 l ∷ decimal n)) z in
+            lists-text (w .front) (w .is) (voice-same (w .row) is-voice)
+            ∙ ap (λ (l : List ℕ). lead 91 l ++ (gapAfter 91 l ∷ decimal n)) z in
             record {
               row = rows-count p last rest (w .rows ∙ ap (λ (l : List ℕ). rest ++ map voiceRow l) z ∙ append-nil rest);
               put = put-as t (put-then (91 ∷ []) (decimal n) number byte);
@@ -273,7 +292,8 @@ module _ {p : List ℕ} {last : ℕ} where
 
 -- one condition more
 conditions-behind : (cs : List Predicate) (c : Predicate)
-    → joined (map conditionText (map conditionOf (cs ++ (c ∷ [])))) ≡ joined (map conditionText (map conditionOf cs)) ++ conditionText (conditionOf c)
+    → joined (map conditionText (map conditionOf (cs ++ (c ∷ [])))) ≡ joined (map conditionText (map conditionOf cs)) ++ conditionText
+    (conditionOf c)
 unfolding joined
 conditions-behind [] c = append-nil (conditionText (conditionOf c))
 conditions-behind (d ∷ cs) c =
@@ -284,7 +304,8 @@ conditions-behind (d ∷ cs) c =
 abbrev with : Pattern → List Predicate → Pattern
 with f cs = record { vars = f .vars; predicates = cs }
 
-open-behind : (f : Pattern) (cs : List Predicate) (c : Predicate) → openText (figureOf (with f (cs ++ (c ∷ [])))) ≡ openText (figureOf (with f cs)) ++ conditionText (conditionOf c)
+open-behind : (f : Pattern) (cs : List Predicate) (c : Predicate)
+    → openText (figureOf (with f (cs ++ (c ∷ [])))) ≡ openText (figureOf (with f cs)) ++ conditionText (conditionOf c)
 unfolding openText
 open-behind f cs c =
     ap (λ (l : List ℕ). lead 91 (f .vars) ++ l) (conditions-behind cs c)
@@ -295,7 +316,8 @@ unfolding openText joined
 open-bare f = append-nil (lead 91 (f .vars))
 
 open-rows : (f : Pattern) (cs : List Predicate) (c : Predicate) (rest : List Row)
-    → rest ++ (map voiceRow (f .vars) ++ map conditionRow (cs ++ (c ∷ []))) ≡ (rest ++ (map voiceRow (f .vars) ++ map conditionRow cs)) ++ (conditionRow c ∷ [])
+    → rest ++ (map voiceRow (f .vars) ++ map conditionRow (cs ++ (c ∷ []))) ≡ (rest ++ (map voiceRow (f .vars) ++ map conditionRow cs)) ++
+    (conditionRow c ∷ [])
 open-rows f cs c rest =
     ap (λ (l : List Row). rest ++ (map voiceRow (f .vars) ++ l)) (map-append conditionRow cs (c ∷ []))
     ∙ ap (λ (l : List Row). rest ++ l) (sym (append-assoc (map voiceRow (f .vars)) (map conditionRow cs) (conditionRow c ∷ [])))
@@ -317,24 +339,33 @@ record OpenVoice (p : List ℕ) (last : ℕ) (rest : List Row) (f : Pattern) : T
   lists : ListsEnd p last rest (f .vars)
   text : openText (figureOf f) ≡ lead 91 (f .vars)
 
-open-last : {p : List ℕ} {last : ℕ} {rest : List Row} {f : Pattern} → OpenEnd p last rest f → OpenCondition p last rest f ⊎ OpenVoice p last rest f
+open-last : {p : List ℕ} {last : ℕ} {rest : List Row} {f : Pattern} → OpenEnd p last rest f
+    → OpenCondition p last rest f ⊎ OpenVoice p last rest f
 open-last {p} {last} {rest} {f} h = ⊎-elim (λ e. inr (voice e)) (λ s. inl (condition s)) (snoc-or (f .predicates))
   where
     voice : f .predicates ≡ [] → OpenVoice p last rest f
     voice e =
         let g : ListsEnd p last rest (f .vars) = record {
-          rows = h .rows ∙ ap (λ (l : List Predicate). rest ++ (map voiceRow (f .vars) ++ map conditionRow l)) e ∙ ap (λ (l : List Row). rest ++ l) (append-nil (map voiceRow (f .vars)));
+          rows = h .rows ∙ ap (λ (l : List Predicate). rest ++ (map voiceRow (f .vars) ++ map conditionRow l)) e
+              ∙ ap (λ (l : List Row). rest ++ l) (append-nil (map voiceRow (f .vars)));
           some = h .some;
           shut = h .shut;
         } in
         let w = lists-last g in
-        record { list = w .list; row = w .row; lists = g; text = ap (λ (l : List Predicate). openText (figureOf (with f l))) e ∙ open-bare f }
+        record {
+          list = w .list;
+          row = w .row;
+          lists = g;
+          text = ap (λ (l : List Predicate). openText (figureOf (with f l))) e
+              ∙ open-bare f;
+        }
 
     condition : Snoc (f .predicates) → OpenCondition p last rest f
     condition s =
         let front = rest ++ (map voiceRow (f .vars) ++ map conditionRow (s .front)) in
         let w = rows-last p last front (conditionRow (s .last))
-        (h .rows ∙ ap (λ (l : List Predicate). rest ++ (map voiceRow (f .vars) ++ map conditionRow l)) (s .is) ∙ open-rows f (s .front) (s .last) rest) in
+        (h .rows ∙ ap (λ (l : List Predicate). rest ++ (map voiceRow (f .vars) ++ map conditionRow l)) (s .is)
+        ∙ open-rows f (s .front) (s .last) rest) in
         let n = rows-count p last front (w .front) in
         let a = length-append rest (map voiceRow (f .vars) ++ map conditionRow (s .front)) in
         let b = length-append (map voiceRow (f .vars)) (map conditionRow (s .front)) in
@@ -364,7 +395,13 @@ module _ {p : List ℕ} {last : ℕ} where
         ⊎-elim
         (λ (w : OpenCondition p last rest f).
         let e : w .predicate ≡ c = let x = w .row in cc in
-        record { front = w .front; some = w .some; before = w .before; text = w .text ∙ ap (λ (x : Predicate). openText (figureOf (with f (w .front))) ++ conditionText (conditionOf x)) e })
+        record {
+          front = w .front;
+          some = w .some;
+          before = w .before;
+          text = w .text
+              ∙ ap (λ (x : Predicate). openText (figureOf (with f (w .front))) ++ conditionText (conditionOf x)) e;
+        })
         (λ (w : OpenVoice p last rest f). absurd (let x = w .row in let z : _≡_ {A = ℕ} 0 1 = cc in let y : ⊥ = omega arith in y))
         (open-last h)
 
@@ -387,7 +424,14 @@ module _ {p : List ℕ} {last : ℕ} where
           let l = length-append (openText (figureOf (with (h .pattern) (w .front)))) (conditionText (conditionOf c)) in
           let r = h .room in
           let x = put .ends in
-          record { formed = formed-back (h .formed); rest = h .rest; pattern = with (h .pattern) (w .front); ends = w .before; room = omega arith }
+          record {
+            formed = formed-back (h .formed);
+            rest = h .rest;
+            pattern = with (h .pattern)
+                (w .front);
+            ends = w .before;
+            room = omega arith;
+          }
 
       pub open-next : {out₂ : List ℕ} {r : Back} → OpenPut p (last - 1) out₁ m out₂ r → OpenPut p last out end out₂ r
       open-next {out₂} {r} h = record { all = go }
@@ -396,7 +440,11 @@ module _ {p : List ℕ} {last : ℕ} where
           go rest f e =
               let w = open-at e in
               let d = h .all rest (with f (w .front)) (w .before) in
-              record { row = d .row; put = put-as (w .text) (put-then (openText (figureOf (with f (w .front)))) (conditionText (conditionOf c)) put (d .put)) }
+              record {
+                row = d .row;
+                put = put-as (w .text)
+                    (put-then (openText (figureOf (with f (w .front)))) (conditionText (conditionOf c)) put (d .put));
+              }
 
   -- row `last` is a VOICE
   module _ {n : ℕ} (is-voice : rowAt p last .kind ≡ kind.Voice n) where
@@ -418,7 +466,8 @@ module _ {p : List ℕ} {last : ℕ} where
     open-first {out} {end} {out₁} {r} h = record { all = go }
       where
         go : (rest : List Row) (f : Pattern) → OpenEnd p last rest f → Laid (openText (figureOf f)) rest out end out₁ r
-        go rest f e = let w = open-voice e in let d = h .all rest (f .vars) (w .lists) in record { row = d .row; put = put-as (w .text) (d .put) }
+        go rest f e =
+            let w = open-voice e in let d = h .all rest (f .vars) (w .lists) in record { row = d .row; put = put-as (w .text) (d .put) }
 
   -- it is nothing else
   pub open-no-end : rowAt p last .kind ≡ kind.End → {end : ℕ} → OpenRoom p last end → ⊥
@@ -439,7 +488,8 @@ module _ {p : List ℕ} {last : ℕ} where
   pattern-open : {rest : List Row} {f : Pattern} → PatternEnd p last rest f → (1 ≤ last) × OpenEnd p (last - 1) rest f
   pattern-open {rest} {f} h =
       let shown = map voiceRow (f .vars) ++ map conditionRow (f .predicates) in
-      let w = rows-last p last (rest ++ shown) (record { kind = kind.End }) (h .rows ∙ sym (append-assoc rest shown (record { kind = kind.End } ∷ []))) in
+      let w = rows-last p last (rest ++ shown) (record { kind = kind.End })
+      (h .rows ∙ sym (append-assoc rest shown (record { kind = kind.End } ∷ []))) in
       let n = rows-count p last (rest ++ shown) (w .front) in
       let a = length-append rest shown in
       let b = length-append (map voiceRow (f .vars)) (map conditionRow (f .predicates)) in
@@ -462,11 +512,20 @@ module _ {p : List ℕ} {last : ℕ} where
         let l = length-snoc (openText (figureOf (h .pattern))) 93 in
         let r = h .room in
         let x = byte .ends in
-        record { formed = formed-back (h .formed); rest = h .rest; pattern = h .pattern; ends = pattern-open (h .ends) .1; room = omega arith }
+        record {
+          formed = formed-back (h .formed);
+          rest = h .rest;
+          pattern = h .pattern;
+          ends = pattern-open
+              (h .ends) .1;
+          room = omega arith;
+        }
 
     pub pattern-put : {out₂ : List ℕ} {r : Back} → OpenPut p (last - 1) out₁ m out₂ r → PatternPut p last out end out₂ r
     unfolding figureText
     pattern-put {out₂} {r} h = record { all = go }
       where
         go : (rest : List Row) (f : Pattern) → PatternEnd p last rest f → Laid (figureText (figureOf f)) rest out end out₂ r
-        go rest f e = let d = h .all rest f (pattern-open e .1) in record { row = d .row; put = put-then (openText (figureOf f)) (93 ∷ []) byte (d .put) }
+        go rest f e =
+            let d = h .all rest f (pattern-open e .1) in
+            record { row = d .row; put = put-then (openText (figureOf f)) (93 ∷ []) byte (d .put) }

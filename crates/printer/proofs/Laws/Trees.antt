@@ -4,10 +4,10 @@
 --     tree-leaf, tree-pattern         where a tree ends in END
 --     node-inner .. node-put          where it ends in an operator, piece by piece
 -- Assumes nothing.
-use Prim.Native.Nat.{ℕ, zero, suc, _+_, _-_, _<_, _≤_}
+use Prim.Native.Nat.{ℕ, _+_, _-_, _<_, _≤_}
 use native.Mathlib.Omega.{arith}
-use mathlib.Core.Path.{_≡_, refl, sym, ap, ap₂, _∙_, subst}
-use mathlib.Core.Bool.{Bool, true, false, true≢false}
+use mathlib.Core.Path.{_≡_, refl, sym, ap, _∙_, subst}
+use mathlib.Core.Bool.{true, false, true≢false}
 use mathlib.Core.Logic.{_⊎_, inl, inr, ⊎-elim}
 use mathlib.Core.List.{List, [], _∷_, _++_, map, append-assoc, append-nil}
 use lib.ListN.{length, take, length-append}
@@ -21,16 +21,15 @@ use Rattle.plan.specs.declared.row.Predicate.{Predicate}
 use Rattle.plan.specs.declared.row.Kind.{Kind}
 use Rattle.plan.specs.declared.row.Kind.the-variants as kind
 use Rattle.plan.specs.declared.row.Row.{Row}
-use Rattle.plan.specs.Rows.{rowCount, rowAt, rowsBefore, isVoice}
+use Rattle.plan.specs.Rows.{rowAt, rowsBefore, isVoice}
 use Rattle.plan.specs.Patterns.{Pattern}
-use Rattle.plan.specs.Parts.{patternRows}
 use Rattle.grammar.specs.Grammar.{figureText, written, partText, itemText}
 use Rattle.grammar.specs.Meaning.{operatorRow}
 use Rattle.grammar.specs.Query.{Query, leaf, node, queryRows, stackRows, figureOf, typed}
 use Rattle.printer.specs.declared.patterns.Back.{Back}
 use Rattle.printer.specs.declared.trees.Level.{Level}
 use Rattle.printer.specs.declared.trees.Level.the-variants as level
-use Rattle.printer.specs.Inner.Writing.{PutBack, only, Formed, voiceRow, conditionRow, Shut, Laid, PatternEnd, PatternRoom, PatternPut}
+use Rattle.printer.specs.Inner.Writing.{PutBack, only, voiceRow, conditionRow, Shut, Laid, PatternEnd, PatternRoom, PatternPut}
 use Rattle.printer.specs.Inner.Trees.{textAt, bracketed, leftLevel, rightLevel, operatorByte, Voiced, TreeEnd, TreeRoom, TreePut}
 use Rattle.printer.proofs.Laws.Bytes.{put-as, put-then}
 use Rattle.printer.proofs.Laws.Patterns.{snoc-inj, rows-last, rows-count, rows-back, formed-back}
@@ -44,13 +43,28 @@ record Ended (rows : List Row) : Type 0 where
 
 query-ended : (q : Query) → Ended (queryRows q)
 unfolding queryRows
-query-ended (leaf f) = record { front = map voiceRow (f .vars) ++ map conditionRow (f .predicates); last = record { kind = kind.End }; is = refl; other = refl }
-query-ended (node o a b) = record { front = queryRows a ++ queryRows b; last = record { kind = kind.Operator o }; is = sym (append-assoc (queryRows a) (queryRows b) (operatorRow o)); other = refl }
+query-ended (leaf f) =
+    record {
+      front = map voiceRow (f .vars) ++ map conditionRow
+          (f .predicates);
+      last = record { kind = kind.End };
+      is = refl;
+      other = refl;
+    }
+query-ended (node o a b) =
+    record {
+      front = queryRows a ++ queryRows b;
+      last = record { kind = kind.Operator o };
+      is = sym
+          (append-assoc (queryRows a) (queryRows b) (operatorRow o));
+      other = refl;
+    }
 
 ended-shut : (xs ys : List Row) → Ended ys → Shut (xs ++ ys)
 ended-shut xs ys h = record {
   no-voice = λ zs list e.
-      let s = snoc-inj (xs ++ h .front) zs (h .last) (voiceRow list) (append-assoc xs (h .front) (h .last ∷ []) ∙ ap (λ (l : List Row). xs ++ l) (sym (h .is)) ∙ e) in
+      let s = snoc-inj (xs ++ h .front) zs (h .last) (voiceRow list)
+      (append-assoc xs (h .front) (h .last ∷ []) ∙ ap (λ (l : List Row). xs ++ l) (sym (h .is)) ∙ e) in
       true≢false (ap (λ (r : Row). isVoice (r .kind)) (sym (s .last)) ∙ h .other);
 }
 
@@ -68,7 +82,8 @@ rows-front p n xs ys e =
     let k = rows-count p n (xs ++ ys) e in
     let l = length-append xs ys in
     let m : n ≡ length xs + length ys = omega arith in
-    let f : rowsBefore p (length xs) ++ run (rowAt p) (0 + length xs) (length ys) ≡ xs ++ ys = sym (run-append (rowAt p) 0 (length xs) (length ys)) ∙ ap (rowsBefore p) (sym m) ∙ e in
+    let f : rowsBefore p (length xs) ++ run (rowAt p) (0 + length xs) (length ys) ≡ xs ++ ys = sym
+    (run-append (rowAt p) 0 (length xs) (length ys)) ∙ ap (rowsBefore p) (sym m) ∙ e in
     sym (take-at (rowsBefore p (length xs)) (run (rowAt p) (0 + length xs) (length ys)) (length xs) (length-run (rowAt p) 0 (length xs)))
     ∙ ap (take (length xs)) f
     ∙ take-at xs ys (length xs) refl
@@ -81,7 +96,8 @@ rounded : (x y : List ℕ) (j : ℕ) → 40 ∷ ((x ++ (j ∷ y)) ++ (41 ∷ [])
 rounded x y j = ap (λ (l : List ℕ). 40 ∷ l) (append-assoc x (j ∷ y) (41 ∷ []))
 
 abbrev pieces : Level → Operator → Query → Query → List ℕ
-pieces v o a b = only (bracketed v o) 40 ++ (textAt (leftLevel o) a ++ ((operatorByte o ∷ []) ++ (textAt (rightLevel o) b ++ only (bracketed v o) 41)))
+pieces v o a b =
+    only (bracketed v o) 40 ++ (textAt (leftLevel o) a ++ ((operatorByte o ∷ []) ++ (textAt (rightLevel o) b ++ only (bracketed v o) 41)))
 
 node-text : (v : Level) (o : Operator) (a b : Query) → textAt v (node o a b) ≡ pieces v o a b
 unfolding typed written
@@ -97,10 +113,12 @@ node-text level.Item FirstNotSecond a b = rounded (partText (typed a .part)) (it
 
 -- its length
 node-length : (v : Level) (o : Operator) (a b : Query) {q : Query} → q ≡ node o a b
-    → length (textAt v q) ≡ length (only (bracketed v o) 40) + (length (textAt (leftLevel o) a) + (1 + (length (textAt (rightLevel o) b) + length (only (bracketed v o) 41))))
+    → length (textAt v q) ≡ length (only (bracketed v o) 40) +
+    (length (textAt (leftLevel o) a) + (1 + (length (textAt (rightLevel o) b) + length (only (bracketed v o) 41))))
 node-length v o a b e =
     let t = ap length (ap (textAt v) e ∙ node-text v o a b) in
-    let x = length-append (only (bracketed v o) 40) (textAt (leftLevel o) a ++ ((operatorByte o ∷ []) ++ (textAt (rightLevel o) b ++ only (bracketed v o) 41))) in
+    let x = length-append (only (bracketed v o) 40)
+    (textAt (leftLevel o) a ++ ((operatorByte o ∷ []) ++ (textAt (rightLevel o) b ++ only (bracketed v o) 41))) in
     let y = length-append (textAt (leftLevel o) a) ((operatorByte o ∷ []) ++ (textAt (rightLevel o) b ++ only (bracketed v o) 41)) in
     let z = length-append (textAt (rightLevel o) b) (only (bracketed v o) 41) in
     omega arith
@@ -138,12 +156,20 @@ tree-last : (p : List ℕ) (last : ℕ) (qs : List Query) (q : Query) → TreeEn
 unfolding queryRows stackRows Voiced
 tree-last p last qs (leaf f) h =
     let shown = map voiceRow (f .vars) ++ map conditionRow (f .predicates) in
-    let w = rows-last p last (stackRows qs ++ shown) (record { kind = kind.End }) (h .rows ∙ sym (append-assoc (stackRows qs) shown (record { kind = kind.End } ∷ []))) in
-    inl (record { pattern = f; is = refl; row = ap (λ (r : Row). r .kind) (w .last); ends = record { rows = h .rows; some = h .voiced; shut = stack-shut qs } })
+    let w = rows-last p last (stackRows qs ++ shown) (record { kind = kind.End })
+    (h .rows ∙ sym (append-assoc (stackRows qs) shown (record { kind = kind.End } ∷ []))) in
+    inl (record {
+      pattern = f;
+      is = refl;
+      row = ap (λ (r : Row). r .kind)
+          (w .last);
+      ends = record { rows = h .rows; some = h .voiced; shut = stack-shut qs };
+    })
 tree-last p last qs (node o a b) h =
     let front = (stackRows qs ++ queryRows a) ++ queryRows b in
     let w = rows-last p last front (record { kind = kind.Operator o })
-    (h .rows ∙ sym (append-assoc (stackRows qs) (queryRows a) (queryRows b ++ operatorRow o)) ∙ sym (append-assoc (stackRows qs ++ queryRows a) (queryRows b) (operatorRow o))) in
+    (h .rows ∙ sym (append-assoc (stackRows qs) (queryRows a) (queryRows b ++ operatorRow o))
+    ∙ sym (append-assoc (stackRows qs ++ queryRows a) (queryRows b) (operatorRow o))) in
     let n = rows-count p last front (w .front) in
     let l = length-append (stackRows qs ++ queryRows a) (queryRows b) in
     let m = length-append (stackRows qs) (queryRows a) in
@@ -163,7 +189,8 @@ tree-last p last qs (node o a b) h =
         begins = g;
         before = omega arith;
         left = record {
-          rows = rows-back p (length (stackRows qs ++ queryRows a)) (stackRows qs ++ queryRows a) g (rows-front p last (stackRows qs ++ queryRows a) (queryRows b) (w .front));
+          rows = rows-back p (length (stackRows qs ++ queryRows a)) (stackRows qs ++ queryRows a) g
+              (rows-front p last (stackRows qs ++ queryRows a) (queryRows b) (w .front));
           voiced = h .voiced .0;
         };
       };
@@ -176,7 +203,9 @@ module _ {p : List ℕ} {last : ℕ} where
   -- row `last` is END
   module _ (is-end : rowAt p last .kind ≡ kind.End) where
     tree-leaf : {qs : List Query} {q : Query} → TreeEnd p last qs q → TreeLeaf p last qs q
-    tree-leaf {qs} {q} h = ⊎-elim (λ (w : TreeLeaf p last qs q). w) (λ (w : TreeJoin p last qs q). absurd (apart is-end (w .it .row))) (tree-last p last qs q h)
+    tree-leaf {qs} {q} h =
+        ⊎-elim (λ (w : TreeLeaf p last qs q). w) (λ (w : TreeJoin p last qs q). absurd (apart is-end (w .it .row)))
+        (tree-last p last qs q h)
 
     pub leaf-room : {v : Level} {end : ℕ} → TreeRoom p last v end → PatternRoom p last end
     leaf-room {v} {end} h =
@@ -185,7 +214,8 @@ module _ {p : List ℕ} {last : ℕ} where
         let r = h .room in
         record { formed = h .formed; rest = stackRows (h .rest); pattern = w .pattern; ends = w .ends; room = omega arith }
 
-    pub leaf-put : (v : Level) {out : List ℕ} {end : ℕ} {out′ : List ℕ} {r : Back} → PatternPut p last out end out′ r → TreePut p last v out end out′ r
+    pub leaf-put : (v : Level) {out : List ℕ} {end : ℕ} {out′ : List ℕ} {r : Back} → PatternPut p last out end out′ r
+        → TreePut p last v out end out′ r
     leaf-put v {out} {end} {out′} {r} h = record { all = go }
       where
         go : (qs : List Query) (q : Query) → TreeEnd p last qs q → Laid (textAt v q) (stackRows qs) out end out′ r
@@ -275,24 +305,30 @@ module _ {p : List ℕ} {last : ℕ} where
                   let d = second .all (w .first ∷ h .rest) (w .second) (w .right) in
                   let y = d .put .ends in
                   let z = between .ends in
-                  let g = first .all (h .rest) (w .first) (subst (λ (n : ℕ). TreeEnd p (n - 1) (h .rest) (w .first)) (sym (d .row)) (w .left)) .put .ends in
+                  let g = first .all (h .rest) (w .first)
+                  (subst (λ (n : ℕ). TreeEnd p (n - 1) (h .rest) (w .first)) (sym (d .row)) (w .left)) .put .ends in
                   omega arith
 
               pub node-put : {out₅ : List ℕ} {at : ℕ} → PutBack (only (bracketed v o) 40) out₄ (left .at) out₅ at
                   → TreePut p last v out end out₅ (record { row = left .row; at = at })
               node-put {out₅} {at} opening = record { all = go }
                 where
-                  go : (qs : List Query) (q : Query) → TreeEnd p last qs q → Laid (textAt v q) (stackRows qs) out end out₅ (record { row = left .row; at = at })
+                  go : (qs : List Query) (q : Query) → TreeEnd p last qs q
+                      → Laid (textAt v q) (stackRows qs) out end out₅ (record { row = left .row; at = at })
                   go qs q e =
                       let w = tree-node e in
                       let d = second .all (w .first ∷ qs) (w .second) (w .right) in
                       let g = first .all qs (w .first) (subst (λ (n : ℕ). TreeEnd p (n - 1) qs (w .first)) (sym (d .row)) (w .left)) in
                       let x = put-then (textAt (rightLevel o) (w .second)) (only (bracketed v o) 41) shut (d .put) in
                       let y = put-then (operatorByte o ∷ []) (textAt (rightLevel o) (w .second) ++ only (bracketed v o) 41) x between in
-                      let z = put-then (textAt (leftLevel o) (w .first)) ((operatorByte o ∷ []) ++ (textAt (rightLevel o) (w .second) ++ only (bracketed v o) 41)) y (g .put) in
+                      let z = put-then (textAt (leftLevel o) (w .first))
+                      ((operatorByte o ∷ []) ++ (textAt (rightLevel o) (w .second) ++ only (bracketed v o) 41)) y (g .put) in
                       record {
                         row = g .row;
-                        put = put-as (ap (textAt v) (w .is) ∙ node-text v o (w .first) (w .second)) (put-then (only (bracketed v o) 40) (textAt (leftLevel o) (w .first) ++ ((operatorByte o ∷ []) ++ (textAt (rightLevel o) (w .second) ++ only (bracketed v o) 41))) z opening);
+                        put = put-as (ap (textAt v) (w .is) ∙ node-text v o (w .first) (w .second))
+                            (put-then (only (bracketed v o) 40)
+                            (textAt (leftLevel o) (w .first) ++
+                            ((operatorByte o ∷ []) ++ (textAt (rightLevel o) (w .second) ++ only (bracketed v o) 41))) z opening);
                       }
 
   -- it is nothing else

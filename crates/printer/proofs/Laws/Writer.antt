@@ -4,36 +4,33 @@
 --     line-short, line-whole     the line has no room, or is written
 --     write-refused, write-line     the call
 -- Assumes nothing.
-use Prim.Native.Nat.{ℕ, _+_, _-_, _<_, _≤_}
+use Prim.Native.Nat.{ℕ, _-_, _<_, _≤_}
 use native.Mathlib.Omega.{arith}
-use mathlib.Core.Path.{_≡_, refl, sym, ap, _∙_, subst}
-use mathlib.Core.Bool.{Bool, cond}
-use mathlib.Core.List.{List, [], _∷_, _++_}
-use lib.ListN.{length, drop}
-use lib.Dec.{ltb}
+use mathlib.Core.Path.{_≡_, refl, sym, ap, _∙_}
+use mathlib.Core.List.{List, []}
+use lib.ListN.{length}
 use borrow.Author.Tests.{lt-ltb, le-ltb}
-use Rattle.seq.specs.Refusals.{Said, refused, answered, laid}
+use Rattle.seq.specs.Refusals.{answered, laid}
 use Rattle.plan.specs.declared.row.Operator.the-variants.{Both, Either, FirstNotSecond}
 use Rattle.plan.specs.declared.answers.Refusal.{Refusal}
 use Rattle.plan.specs.Answers.{Sizes, saidRefusal}
-use Rattle.plan.specs.Rows.{rowCount, rowsBefore, rowsOf}
+use Rattle.plan.specs.Rows.{rowCount, rowsOf}
 use Rattle.plan.specs.Check.{verdict, sizes, Accepted}
 use Rattle.plan.proofs.Laws.Check.{verdict-passed}
 use Rattle.plan.proofs.Laws.Accepted.{given}
 use Rattle.volume.specs.Layout.{listCount}
 use Rattle.grammar.specs.Grammar.{written, Fits, PartFits, ItemFits}
-use Rattle.grammar.specs.Query.{Query, leaf, node, queryRows, queryOf, stackRows, typed, planLine, planText}
+use Rattle.grammar.specs.Query.{Query, leaf, node, queryOf, stackRows, typed, planLine, planText}
 use Rattle.grammar.proofs.Laws.Written.{plan-tree}
-use Rattle.grammar.specs.Demands.{PlanLine}
 use Rattle.grammar.proofs.Laws.Bounds.{accepted-line}
 use Rattle.printer.specs.declared.answers.Written.{Written}
 use Rattle.printer.specs.declared.answers.Written.the-variants as written
 use Rattle.printer.specs.declared.patterns.Back.{Back}
 use Rattle.printer.specs.declared.trees.Level.the-variants as level
 use Rattle.printer.specs.Answers.{saidWritten}
-use Rattle.printer.specs.Write.{writeBy, writeAnswer, writeOut}
-use Rattle.printer.specs.Inner.Writing.{PutBack, storedBytes, Laid}
-use Rattle.printer.specs.Inner.Trees.{textAt, Voiced, TreeEnd, TreeRoom, TreePut, lineAnswer, LineWritten}
+use Rattle.printer.specs.Write.{writeAnswer, writeOut}
+use Rattle.printer.specs.Inner.Writing.{PutBack, storedBytes}
+use Rattle.printer.specs.Inner.Trees.{Voiced, TreeEnd, TreeRoom, TreePut, LineWritten}
 use Rattle.printer.proofs.Laws.Bytes.{stored-front}
 use Rattle.printer.proofs.Laws.Patterns.{rows-back}
 
@@ -84,7 +81,8 @@ module _ (v p : List ℕ) (ok : Accepted v p) where
   pub plan-short : length (planText p) ≤ 2048
   plan-short = let h = accepted-line v p ok .short in omega arith
 
-  pub plan-put : {out : List ℕ} {end : ℕ} {out′ : List ℕ} {r : Back} → TreePut p (rowCount p - 1) level.Line out end out′ r → PutBack (planText p) out end out′ (r .at)
+  pub plan-put : {out : List ℕ} {end : ℕ} {out′ : List ℕ} {r : Back} → TreePut p (rowCount p - 1) level.Line out end out′ r
+      → PutBack (planText p) out end out′ (r .at)
   unfolding planText planLine
   plan-put h = h .all [] (queryOf (rowsOf p)) plan-end .put
 
@@ -95,7 +93,8 @@ module _ (p out : List ℕ) where
   line-short h = let e = lt-ltb (length out) (length (planText p)) h in record { said = rw e; bytes = rw e }
 
   -- the line is written
-  pub line-whole : {out′ : List ℕ} {n at : ℕ} → n ≡ length (planText p) → n ≤ length out → PutBack (planText p) out n out′ at → LineWritten p out (written.Bytes n) out′
+  pub line-whole : {out′ : List ℕ} {n at : ℕ} → n ≡ length (planText p) → n ≤ length out → PutBack (planText p) out n out′ at
+      → LineWritten p out (written.Bytes n) out′
   unfolding laid
   line-whole {out′} {n} {at} e h w =
       let f = le-ltb (length out) (length (planText p)) (omega arith) in

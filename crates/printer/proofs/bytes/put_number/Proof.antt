@@ -1,5 +1,5 @@
--- `bytes::put_number` meets its contract. The invariant of its loop: the digits stored so far are the last ones of n, and those of `left` are
--- still to come. The measure is `left`. Assumes nothing.
+-- `bytes::put_number` meets its contract. The invariant of its loop: the digits stored so far are the last ones of n, and those of `left`
+-- are still to come. The measure is `left`. Assumes nothing.
 use native.Mathlib.Omega.{arith}
 use borrow.Author.Needs.{needs}
 use mathlib.Core.Path.{_≡_, refl, _∙_}
@@ -30,7 +30,11 @@ digit-of-requires c κs = search needs
 
 -- src/bytes.rt:39:9
 put-byte-requires : tie.Need-put-byte-requires Inv-loop μ-loop
-put-byte-requires c κs = let l = c .before .before .before .loop in omega (arith, digits-room (l .inv .0) (c .before .before .before .before .before .pre), some-digit (l .left))
+put-byte-requires c κs =
+    let l = c .before .before .before .loop in
+    let room = digits-room (l .inv .0) (c .before .before .before .before .before .pre) in
+    let some = some-digit (l .left) in
+    omega arith
 
 -- src/bytes.rt:38:5
 loop-less : tie.Need-loop-less Inv-loop μ-loop
@@ -41,7 +45,8 @@ loop-again : tie.Need-loop-again Inv-loop μ-loop
 loop-again c =
     let l = c .before .before .before .before .before .before .loop in
     let p = c .before .before .put-byte in
-    (digits-next (l .inv .0) (c .before .before .before .before .before .loop-test .taken) (rw (c .before .before .before .before .digit-of .ensures) at (p .ensures)), p .kept .1 .0 ∙ l .inv .1)
+    let byte = rw (c .before .before .before .before .digit-of .ensures) at (p .ensures) in
+    (digits-next (l .inv .0) (c .before .before .before .before .before .loop-test .taken) byte, p .kept .1 .0 ∙ l .inv .1)
 
 -- src/bytes.rt:42:14
 digit-of-requires-2 : tie.Need-digit-of-requires-2 Inv-loop μ-loop
@@ -49,7 +54,11 @@ digit-of-requires-2 c κs = search needs
 
 -- src/bytes.rt:42:5
 put-byte-requires-2 : tie.Need-put-byte-requires-2 Inv-loop μ-loop
-put-byte-requires-2 c κs = let l = c .before .before .before .loop in omega (arith, digits-room (l .inv .0) (c .before .before .before .before .before .pre), some-digit (l .left))
+put-byte-requires-2 c κs =
+    let l = c .before .before .before .loop in
+    let room = digits-room (l .inv .0) (c .before .before .before .before .before .pre) in
+    let some = some-digit (l .left) in
+    omega arith
 
 -- src/bytes.rt:32:1
 same-length : tie.Need-same-length Inv-loop μ-loop

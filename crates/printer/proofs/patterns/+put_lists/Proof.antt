@@ -1,5 +1,5 @@
--- `patterns::put_lists` meets its contract: a list number has a space in front of it where another stands there, else `[`. The measure is the
--- row. Assumes nothing.
+-- `patterns::put_lists` meets its contract: a list number has a space in front of it where another stands there, else `[`. The measure is
+-- the row. Assumes nothing.
 use native.Mathlib.Omega.{arith}
 use borrow.Author.Needs.{needs}
 use mathlib.Core.Path.{sym, _∙_}
@@ -40,7 +40,9 @@ put-lists-list-at-requires : (t : ℕ) → put-lists-lts.Need-list-at-requires (
   put-lists-below t,
   put-lists.Post,
 ) (put-lists-at t) put-lists.Post
-put-lists-list-at-requires t c κs = let h = (c .before .before .pre .1) in (h .formed .inside, (h .formed .formed (c .before .before .args .last) (h .formed .inside), lists-voice h))
+put-lists-list-at-requires t c κs =
+    let h = (c .before .before .pre .1) in
+    (h .formed .inside, (h .formed .formed (c .before .before .args .last) (h .formed .inside), lists-voice h))
 
 put-lists-put-number-requires : (t : ℕ) → put-lists-lts.Need-put-number-requires (
   list-at-reads.Asked,
@@ -68,7 +70,9 @@ put-lists-behind-voice-requires : (t : ℕ) → put-lists-lts.Need-behind-voice-
   put-lists-below t,
   put-lists.Post,
 ) (put-lists-at t) put-lists.Post
-put-lists-behind-voice-requires t c κs = (c .before .before .before .before .before .before .before .pre .1) .formed
+put-lists-behind-voice-requires t c κs =
+    let c₁ = c .before .before .before .before .before .before in
+    (c₁ .before .pre .1) .formed
 
 put-lists-put-byte-requires : (t : ℕ) → put-lists-lts.Need-put-byte-requires (
   list-at-reads.Asked,
@@ -82,7 +86,14 @@ put-lists-put-byte-requires : (t : ℕ) → put-lists-lts.Need-put-byte-requires
   put-lists-below t,
   put-lists.Post,
 ) (put-lists-at t) put-lists.Post
-put-lists-put-byte-requires t c κs = omega (arith, lists-number (c .before .before .before .before .before .before .before .list-at .ensures) (c .before .before .before .before .before .before .before .before .before .before .pre .1), c .before .before .before .before .before .put-number .ensures .ends)
+put-lists-put-byte-requires t c κs =
+    let c₁ = c .before .before .before .before .before .before in
+    omega (
+      arith,
+      lists-number (c₁ .before .list-at .ensures)
+          (c₁ .before .before .before .before .pre .1),
+      c .before .before .before .before .before .put-number .ensures .ends,
+    )
 
 put-lists-sub-put-lists : (t : ℕ) → put-lists-lts.Need-sub-put-lists (
   list-at-reads.Asked,
@@ -96,7 +107,12 @@ put-lists-sub-put-lists : (t : ℕ) → put-lists-lts.Need-sub-put-lists (
   put-lists-below t,
   put-lists.Post,
 ) (put-lists-at t) put-lists.Post
-put-lists-sub-put-lists t c = let a = c .before .before .before .before .before .before .before .before .before .before .before .before .before .args in some-before (now (a .plan)) (a .last) (sym (c .before .before .before .before .before .behind-voice .ensures) ∙ c .before .before .before .before .if1 .taken)
+put-lists-sub-put-lists t c =
+    let c₁ = c .before .before .before .before .before .before in
+    let c₂ = c₁ .before .before .before .before .before .before in
+    let a = c₂ .before .args in
+    some-before (now (a .plan)) (a .last)
+    (sym (c .before .before .before .before .before .behind-voice .ensures) ∙ c .before .before .before .before .if1 .taken)
 
 put-lists-put-lists-requires : (t : ℕ) → put-lists-lts.Need-put-lists-requires (
   list-at-reads.Asked,
@@ -111,10 +127,14 @@ put-lists-put-lists-requires : (t : ℕ) → put-lists-lts.Need-put-lists-requir
   put-lists.Post,
 ) (put-lists-at t) put-lists.Post
 put-lists-put-lists-requires t c κs =
-    let b = sym (c .before .before .before .before .before .before .behind-voice .ensures) ∙ c .before .before .before .before .before .if1 .taken in
-    let a = c .before .before .before .before .before .before .before .before .before .before .before .before .before .before .args in
+    let c₁ = c .before .before .before .before .before .before in
+    let c₂ = c₁ .before .before .before .before .before .before in
+    let b = sym (c₁ .behind-voice .ensures) ∙ c .before .before .before .before .before .if1 .taken in
+    let a = c₂ .before .before .args in
     let s = some-before (now (a .plan)) (a .last) b in
-    (omega (arith, c .before .before .before .before .before .before .before .before .before .before .before .before .before .before .pre .0), lists-room (c .before .before .before .before .before .before .before .before .before .before .before .list-at .ensures) b (c .before .before .before .before .before .before .before .before .before .put-number .ensures) (c .before .before .before .put-byte .ensures) (c .before .before .before .before .before .before .before .before .before .before .before .before .before .before .pre .1))
+    let room = lists-room (c₁ .before .before .before .before .before .list-at .ensures) b (c₁ .before .before .before .put-number .ensures)
+    (c .before .before .before .put-byte .ensures) (c₂ .before .before .pre .1) in
+    (omega (arith, c₂ .before .before .pre .0), room)
 
 put-lists-same-length : (t : ℕ) → put-lists-lts.Need-same-length (
   list-at-reads.Asked,
@@ -143,8 +163,11 @@ put-lists-returns : (t : ℕ) → put-lists-lts.Need-returns (
   put-lists.Post,
 ) (put-lists-at t) put-lists.Post
 put-lists-returns t c =
-    let b = sym (c .before .before .before .before .before .before .before .before .before .behind-voice .ensures) ∙ c .before .before .before .before .before .before .before .before .if1 .taken in
-    lists-next (c .before .before .before .before .before .before .before .before .before .before .before .before .before .before .list-at .ensures) b (c .before .before .before .before .before .before .before .before .before .before .before .before .put-number .ensures) (c .before .before .before .before .before .before .put-byte .ensures) (c .before .before .put-lists .ensures)
+    let c₁ = c .before .before .before .before .before .before in
+    let c₂ = c₁ .before .before .before .before .before .before in
+    let b = sym (c₁ .before .before .before .behind-voice .ensures) ∙ c₁ .before .before .if1 .taken in
+    lists-next (c₂ .before .before .list-at .ensures) b (c₂ .put-number .ensures) (c₁ .put-byte .ensures)
+    (c .before .before .put-lists .ensures)
 
 put-lists-put-byte-requires-2 : (t : ℕ) → put-lists-lts.Need-put-byte-requires-2 (
   list-at-reads.Asked,
@@ -158,7 +181,14 @@ put-lists-put-byte-requires-2 : (t : ℕ) → put-lists-lts.Need-put-byte-requir
   put-lists-below t,
   put-lists.Post,
 ) (put-lists-at t) put-lists.Post
-put-lists-put-byte-requires-2 t c κs = omega (arith, lists-number (c .before .before .before .before .before .before .before .list-at .ensures) (c .before .before .before .before .before .before .before .before .before .before .pre .1), c .before .before .before .before .before .put-number .ensures .ends)
+put-lists-put-byte-requires-2 t c κs =
+    let c₁ = c .before .before .before .before .before .before in
+    omega (
+      arith,
+      lists-number (c₁ .before .list-at .ensures)
+          (c₁ .before .before .before .before .pre .1),
+      c .before .before .before .before .before .put-number .ensures .ends,
+    )
 
 put-lists-same-length-2 : (t : ℕ) → put-lists-lts.Need-same-length-2 (
   list-at-reads.Asked,
@@ -187,8 +217,10 @@ put-lists-returns-2 : (t : ℕ) → put-lists-lts.Need-returns-2 (
   put-lists.Post,
 ) (put-lists-at t) put-lists.Post
 put-lists-returns-2 t c =
+    let c₁ = c .before .before .before .before .before .before in
     let b = sym (c .before .before .before .before .before .behind-voice .ensures) ∙ c .before .before .before .before .if1 .left in
-    lists-first (c .before .before .before .before .before .before .before .before .before .before .list-at .ensures) b (c .before .before .before .before .before .before .before .before .put-number .ensures) (c .before .before .put-byte2 .ensures)
+    lists-first (c₁ .before .before .before .before .list-at .ensures) b (c₁ .before .before .put-number .ensures)
+    (c .before .before .put-byte2 .ensures)
 
 pub +put-lists-spec : {M : Type 1} → statement M
 +put-lists-spec = close μ-put-lists λ t. put-lists-lts.spec (

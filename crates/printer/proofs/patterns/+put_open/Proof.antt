@@ -4,7 +4,8 @@ use native.Mathlib.Omega.{arith}
 use borrow.Author.Needs.{needs}
 use mathlib.Core.Path.{ap, sym, _∙_}
 use Rattle.plan.specs.declared.row.Row.{Row}
-use Rattle.printer.proofs.Laws.Patterns.{open-some, open-condition, open-room, open-next, open-lists, open-first, open-no-end, open-no-operator}
+use Rattle.printer.proofs.Laws.Patterns.{open-some, open-condition, open-room, open-next, open-lists, open-first}
+use Rattle.printer.proofs.Laws.Patterns.{open-no-end, open-no-operator}
 use Prim.Native.Nat.{ℕ, _<_}
 use borrow.Fn.Kinds.{In}
 use borrow.Fn.PlainCycle.{Measures, is, falls, and}
@@ -37,7 +38,9 @@ put-open-row-at-requires : (t : ℕ) → put-open-lts.Need-row-at-requires (
   put-lists-reads.Asked,
   put-lists-reads.Learnt,
 ) (put-open-at t) put-open.Post
-put-open-row-at-requires t c κs = let h = (c .before .before .pre .1) .formed in (h .inside, h .formed (c .before .before .args .last) (h .inside))
+put-open-row-at-requires t c κs =
+    let h = (c .before .before .pre .1) .formed in
+    (h .inside, h .formed (c .before .before .args .last) (h .inside))
 
 put-open-enum-known-kind : (t : ℕ) → put-open-lts.Need-enum-known-kind (
   row-at-reads.Asked,
@@ -61,7 +64,10 @@ put-open-put-condition-requires : (t : ℕ) → put-open-lts.Need-put-condition-
   put-lists-reads.Asked,
   put-lists-reads.Learnt,
 ) (put-open-at t) put-open.Post
-put-open-put-condition-requires t c κs = open-condition (ap (λ (r : Row). r .kind) (sym (c .before .before .before .before .row-at .ensures)) ∙ c .before .before .kind .given .1) (c .before .before .before .before .before .before .before .pre .1)
+put-open-put-condition-requires t c κs =
+    let c₁ = c .before .before .before .before .before .before in
+    let e = (ap (λ (r : Row). r .kind) (sym (c .before .before .before .before .row-at .ensures)) ∙ c .before .before .kind .given .1) in
+    open-condition e (c₁ .before .pre .1)
 
 put-open-sub-put-open : (t : ℕ) → put-open-lts.Need-sub-put-open (
   row-at-reads.Asked,
@@ -73,7 +79,10 @@ put-open-sub-put-open : (t : ℕ) → put-open-lts.Need-sub-put-open (
   put-lists-reads.Asked,
   put-lists-reads.Learnt,
 ) (put-open-at t) put-open.Post
-put-open-sub-put-open t c = open-some (ap (λ (r : Row). r .kind) (sym (c .before .before .before .before .before .before .before .row-at .ensures)) ∙ c .before .before .before .before .before .kind .given .1) (c .before .before .before .before .before .before .before .before .before .before .pre .1)
+put-open-sub-put-open t c =
+    let c₁ = c .before .before .before .before .before .before in
+    let e = (ap (λ (r : Row). r .kind) (sym (c₁ .before .row-at .ensures)) ∙ c .before .before .before .before .before .kind .given .1) in
+    open-some e (c₁ .before .before .before .before .pre .1)
 
 put-open-put-open-requires : (t : ℕ) → put-open-lts.Need-put-open-requires (
   row-at-reads.Asked,
@@ -86,9 +95,13 @@ put-open-put-open-requires : (t : ℕ) → put-open-lts.Need-put-open-requires (
   put-lists-reads.Learnt,
 ) (put-open-at t) put-open.Post
 put-open-put-open-requires t c κs =
-    let e = (ap (λ (r : Row). r .kind) (sym (c .before .before .before .before .before .before .before .before .row-at .ensures)) ∙ c .before .before .before .before .before .before .kind .given .1) in
-    let s = open-some e (c .before .before .before .before .before .before .before .before .before .before .before .pre .1) in
-    (omega (arith, c .before .before .before .before .before .before .before .before .before .before .before .pre .0), open-room e (c .before .before .before .put-condition .ensures) (c .before .before .before .before .before .before .before .before .before .before .before .pre .1))
+    let c₁ = c .before .before .before .before .before .before in
+    let e = (ap (λ (r : Row). r .kind) (sym (c₁ .before .before .row-at .ensures)) ∙ c₁ .kind .given .1) in
+    let s = open-some e (c₁ .before .before .before .before .before .pre .1) in (
+      omega (arith, c₁ .before .before .before .before .before .pre .0),
+      open-room e (c .before .before .before .put-condition .ensures)
+          (c₁ .before .before .before .before .before .pre .1),
+    )
 
 put-open-enum-told : (t : ℕ) → put-open-lts.Need-enum-told (
   row-at-reads.Asked,
@@ -112,7 +125,9 @@ put-open-put-lists-requires : (t : ℕ) → put-open-lts.Need-put-lists-requires
   put-lists-reads.Asked,
   put-lists-reads.Learnt,
 ) (put-open-at t) put-open.Post
-put-open-put-lists-requires t c κs = open-lists (ap (λ (r : Row). r .kind) (sym (c .before .before .before .row-at .ensures)) ∙ c .before .enum-told .given .1) (c .before .before .before .before .before .before .pre .1)
+put-open-put-lists-requires t c κs =
+    let e = (ap (λ (r : Row). r .kind) (sym (c .before .before .before .row-at .ensures)) ∙ c .before .enum-told .given .1) in
+    open-lists e (c .before .before .before .before .before .before .pre .1)
 
 put-open-enum-told-2 : (t : ℕ) → put-open-lts.Need-enum-told-2 (
   row-at-reads.Asked,
@@ -160,7 +175,11 @@ put-open-returns : (t : ℕ) → put-open-lts.Need-returns (
   put-lists-reads.Asked,
   put-lists-reads.Learnt,
 ) (put-open-at t) put-open.Post
-put-open-returns t c = open-next (ap (λ (r : Row). r .kind) (sym (c .before .before .before .before .before .before .before .before .before .before .before .row-at .ensures)) ∙ c .before .before .before .before .before .before .before .before .before .kind .given .1) (c .before .before .before .before .before .before .put-condition .ensures) (c .before .before .put-open .ensures)
+put-open-returns t c =
+    let c₁ = c .before .before .before .before .before .before in
+    let e = (ap (λ (r : Row). r .kind) (sym (c₁ .before .before .before .before .before .row-at .ensures))
+    ∙ c₁ .before .before .before .kind .given .1) in
+    open-next e (c₁ .put-condition .ensures) (c .before .before .put-open .ensures)
 
 put-open-same-length-2 : (t : ℕ) → put-open-lts.Need-same-length-2 (
   row-at-reads.Asked,
@@ -184,7 +203,10 @@ put-open-returns-2 : (t : ℕ) → put-open-lts.Need-returns-2 (
   put-lists-reads.Asked,
   put-lists-reads.Learnt,
 ) (put-open-at t) put-open.Post
-put-open-returns-2 t c = open-first (ap (λ (r : Row). r .kind) (sym (c .before .before .before .before .before .before .row-at .ensures)) ∙ c .before .before .before .before .enum-told .given .1) (c .before .before .put-lists .ensures)
+put-open-returns-2 t c =
+    let e = (ap (λ (r : Row). r .kind) (sym (c .before .before .before .before .before .before .row-at .ensures))
+    ∙ c .before .before .before .before .enum-told .given .1) in
+    open-first e (c .before .before .put-lists .ensures)
 
 put-open-returns-3 : (t : ℕ) → put-open-lts.Need-returns-3 (
   row-at-reads.Asked,
@@ -196,7 +218,9 @@ put-open-returns-3 : (t : ℕ) → put-open-lts.Need-returns-3 (
   put-lists-reads.Asked,
   put-lists-reads.Learnt,
 ) (put-open-at t) put-open.Post
-put-open-returns-3 t c = absurd (open-no-end (ap (λ (r : Row). r .kind) (sym (c .before .before .row-at .ensures)) ∙ c .enum-told2 .given .1) (c .before .before .before .before .before .pre .1))
+put-open-returns-3 t c =
+    let e = (ap (λ (r : Row). r .kind) (sym (c .before .before .row-at .ensures)) ∙ c .enum-told2 .given .1) in
+    absurd (open-no-end e (c .before .before .before .before .before .pre .1))
 
 put-open-returns-4 : (t : ℕ) → put-open-lts.Need-returns-4 (
   row-at-reads.Asked,
@@ -208,7 +232,9 @@ put-open-returns-4 : (t : ℕ) → put-open-lts.Need-returns-4 (
   put-lists-reads.Asked,
   put-lists-reads.Learnt,
 ) (put-open-at t) put-open.Post
-put-open-returns-4 t c = absurd (open-no-operator (ap (λ (r : Row). r .kind) (sym (c .before .before .row-at .ensures)) ∙ c .enum-told3 .given .1) (c .before .before .before .before .before .pre .1))
+put-open-returns-4 t c =
+    let e = (ap (λ (r : Row). r .kind) (sym (c .before .before .row-at .ensures)) ∙ c .enum-told3 .given .1) in
+    absurd (open-no-operator e (c .before .before .before .before .before .pre .1))
 
 pub +put-open-spec : {M : Type 1} → statement M
 +put-open-spec = close μ-put-open λ t. put-open-lts.spec (

@@ -21,7 +21,10 @@ sub-row-at : tie.Need-sub-row-at
 sub-row-at c = search needs
 
 row-at-requires : tie.Need-row-at-requires
-row-at-requires c κs = let a = c .before .before .args in let i = c .before .before .pre .inside in (omega arith, c .before .before .pre .formed (a .row - 1) (omega arith))
+row-at-requires c κs =
+    let a = c .before .before .args in
+    let i = c .before .before .pre .inside in
+    (omega arith, c .before .before .pre .formed (a .row - 1) (omega arith))
 
 is-voice-requires : tie.Need-is-voice-requires
 is-voice-requires c κs = search needs
@@ -29,7 +32,9 @@ is-voice-requires c κs = search needs
 returns-2 : tie.Need-returns-2
 returns-2 c =
     let a = c .before .before .before .before .args in
-    c .is-voice .ensures ∙ ap (λ (r : Row). isVoice (r .kind)) (c .before .row-at .ensures) ∙ sym (behind-is (now (a .plan)) (a .row) (omega arith))
+    c .is-voice .ensures
+    ∙ ap (λ (r : Row). isVoice (r .kind)) (c .before .row-at .ensures)
+    ∙ sym (behind-is (now (a .plan)) (a .row) (omega arith))
 
 pub behind-voice-spec : {M : Type 1} → statement M
 behind-voice-spec =

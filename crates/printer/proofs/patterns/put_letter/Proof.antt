@@ -21,7 +21,9 @@ same-length c = search needs
 
 returns : tie.Need-returns
 unfolding begun lead
-returns c = put-then (59 ∷ []) (c .before .before .before .before .before .before .before .before .before .args .letter ∷ []) (c .before .before .before .before .before .before .put-byte .ensures) (c .before .before .put-byte2 .ensures)
+returns c =
+    let c₁ = c .before .before .before .before .before .before in
+    put-then (59 ∷ []) (c₁ .before .before .before .args .letter ∷ []) (c₁ .put-byte .ensures) (c .before .before .put-byte2 .ensures)
 
 pub put-letter-spec : {M : Type 1} → statement M
 put-letter-spec = tie.close (tie.spec put-byte-requires put-byte-requires-2 same-length returns)

@@ -15,7 +15,9 @@ sub-put-open : tie.Need-sub-put-open
 sub-put-open c = pattern-some (c .before .before .before .before .before .before .pre) .0
 
 put-open-requires : tie.Need-put-open-requires
-put-open-requires c κs = pattern-room (c .before .before .before .put-byte .ensures) (c .before .before .before .before .before .before .before .pre)
+put-open-requires c κs =
+    let c₁ = c .before .before .before .before .before .before in
+    pattern-room (c .before .before .before .put-byte .ensures) (c₁ .before .pre)
 
 same-length : tie.Need-same-length
 same-length c = search needs

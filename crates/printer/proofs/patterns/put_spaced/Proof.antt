@@ -20,7 +20,9 @@ same-length : tie.Need-same-length
 same-length c = search needs
 
 returns : tie.Need-returns
-returns c = put-then (32 ∷ []) (decimal (c .before .before .before .before .before .before .before .before .before .args .n)) (c .before .before .before .before .before .before .put-number .ensures) (c .before .before .put-byte .ensures)
+returns c =
+    let c₁ = c .before .before .before .before .before .before in
+    put-then (32 ∷ []) (decimal (c₁ .before .before .before .args .n)) (c₁ .put-number .ensures) (c .before .before .put-byte .ensures)
 
 pub put-spaced-spec : {M : Type 1} → statement M
 put-spaced-spec = tie.close (tie.spec put-number-requires put-byte-requires same-length returns)

@@ -4,7 +4,8 @@ use native.Mathlib.Omega.{arith}
 use borrow.Author.Needs.{needs}
 use mathlib.Core.Path.{ap, sym, _∙_}
 use Rattle.plan.specs.declared.row.Row.{Row}
-use Rattle.printer.proofs.Laws.Trees.{leaf-room, leaf-put, node-some, node-shut, node-right, node-byte, node-begins, node-left, node-open, node-put, tree-no-voice, tree-no-condition}
+use Rattle.printer.proofs.Laws.Trees.{leaf-room, leaf-put, tree-no-voice, tree-no-condition}
+use Rattle.printer.proofs.Laws.Trees.{node-some, node-shut, node-right, node-byte, node-begins, node-left, node-open, node-put}
 use Prim.Native.Nat.{ℕ, _<_}
 use borrow.Fn.Kinds.{In}
 use borrow.Fn.PlainCycle.{Measures, is, falls, and}
@@ -52,7 +53,9 @@ put-tree-row-at-requires : (t : ℕ) → put-tree-lts.Need-row-at-requires (
   put-pattern-reads.Asked,
   put-pattern-reads.Learnt,
 ) (put-tree-at t) put-tree.Post
-put-tree-row-at-requires t c κs = let h = (c .before .before .pre .1) .formed in (h .inside, h .formed (c .before .before .args .last) (h .inside))
+put-tree-row-at-requires t c κs =
+    let h = (c .before .before .pre .1) .formed in
+    (h .inside, h .formed (c .before .before .args .last) (h .inside))
 
 put-tree-enum-known-kind : (t : ℕ) → put-tree-lts.Need-enum-known-kind (
   row-at-reads.Asked,
@@ -119,8 +122,10 @@ put-tree-put-byte-if-requires : (t : ℕ) → put-tree-lts.Need-put-byte-if-requ
   put-pattern-reads.Learnt,
 ) (put-tree-at t) put-tree.Post
 put-tree-put-byte-if-requires t c κs =
-    let h = c .before .before .before .before .before .before .before .before .pre .1 in
-    let e = (ap (λ (r : Row). r .kind) (sym (c .before .before .before .before .before .row-at .ensures)) ∙ c .before .before .before .kind .given .1) in
+    let c₁ = c .before .before .before .before .before .before in
+    let h = c₁ .before .before .pre .1 in
+    let e = (ap (λ (r : Row). r .kind) (sym (c .before .before .before .before .before .row-at .ensures))
+    ∙ c .before .before .before .kind .given .1) in
     rw (c .before .is-bracketed .ensures) (node-shut e h)
 
 put-tree-sub-put-tree : (t : ℕ) → put-tree-lts.Need-sub-put-tree (
@@ -144,9 +149,9 @@ put-tree-sub-put-tree : (t : ℕ) → put-tree-lts.Need-sub-put-tree (
   put-pattern-reads.Learnt,
 ) (put-tree-at t) put-tree.Post
 put-tree-sub-put-tree t c =
-    let c₁ = c .before .before .before .before .before .before .before .before in
-    let h = c₁ .before .before .before .pre .1 in
-    let e = (ap (λ (r : Row). r .kind) (sym (c₁ .row-at .ensures)) ∙ c .before .before .before .before .before .before .kind .given .1) in
+    let c₁ = c .before .before .before .before .before .before in
+    let h = c₁ .before .before .before .before .before .pre .1 in
+    let e = (ap (λ (r : Row). r .kind) (sym (c₁ .before .before .row-at .ensures)) ∙ c₁ .kind .given .1) in
     node-some e h
 
 put-tree-right-level-requires : (t : ℕ) → put-tree-lts.Need-right-level-requires (
@@ -192,12 +197,13 @@ put-tree-put-tree-requires : (t : ℕ) → put-tree-lts.Need-put-tree-requires (
   put-pattern-reads.Learnt,
 ) (put-tree-at t) put-tree.Post
 put-tree-put-tree-requires t c κs =
-    let c₁ = c .before .before .before .before .before .before .before .before in
-    let h = c₁ .before .before .before .before .before .pre .1 in
-    let e = (ap (λ (r : Row). r .kind) (sym (c₁ .before .before .row-at .ensures)) ∙ c₁ .kind .given .1) in
-    let shut = rw (c .before .before .before .before .before .before .is-bracketed .ensures) at (c .before .before .before .before .put-byte-if .ensures) in
+    let c₁ = c .before .before .before .before .before .before in
+    let c₂ = c₁ .before .before .before .before .before .before in
+    let h = c₂ .before .pre .1 in
+    let e = (ap (λ (r : Row). r .kind) (sym (c₁ .before .before .before .before .row-at .ensures)) ∙ c₁ .before .before .kind .given .1) in
+    let shut = rw (c₁ .is-bracketed .ensures) at (c .before .before .before .before .put-byte-if .ensures) in
     let s = node-some e h in
-    (omega (arith, c₁ .before .before .before .before .before .pre .0), rw (c .before .right-level .ensures) (node-right e h shut))
+    (omega (arith, c₂ .before .pre .0), rw (c .before .right-level .ensures) (node-right e h shut))
 
 put-tree-byte-of-requires : (t : ℕ) → put-tree-lts.Need-byte-of-requires (
   row-at-reads.Asked,
@@ -242,12 +248,14 @@ put-tree-put-byte-requires : (t : ℕ) → put-tree-lts.Need-put-byte-requires (
   put-pattern-reads.Learnt,
 ) (put-tree-at t) put-tree.Post
 put-tree-put-byte-requires t c κs =
-    let c₁ = c .before .before .before .before .before .before .before .before in
-    let c₂ = c₁ .before .before .before .before .before .before .before .before in
-    let h = c₂ .before .before .pre .1 in
-    let e = (ap (λ (r : Row). r .kind) (sym (c₁ .before .before .before .before .before .before .before .row-at .ensures)) ∙ c₁ .before .before .before .before .before .kind .given .1) in
-    let shut = rw (c₁ .before .before .before .is-bracketed .ensures) at (c₁ .before .put-byte-if .ensures) in
-    let second = rw (c .before .before .before .before .before .before .right-level .ensures) at (c .before .before .before .before .put-tree .ensures) in
+    let c₁ = c .before .before .before .before .before .before in
+    let c₂ = c₁ .before .before .before .before .before .before in
+    let c₃ = c₂ .before .before .before .before .before .before in
+    let h = c₃ .pre .1 in
+    let e = (ap (λ (r : Row). r .kind) (sym (c₂ .before .before .before .row-at .ensures)) ∙ c₂ .before .kind .given .1) in
+    let shut = rw (c₁ .before .before .before .before .before .is-bracketed .ensures) at
+    (c₁ .before .before .before .put-byte-if .ensures) in
+    let second = rw (c₁ .right-level .ensures) at (c .before .before .before .before .put-tree .ensures) in
     node-byte e h shut second
 
 put-tree-sub-put-tree-2 : (t : ℕ) → put-tree-lts.Need-sub-put-tree-2 (
@@ -271,12 +279,13 @@ put-tree-sub-put-tree-2 : (t : ℕ) → put-tree-lts.Need-sub-put-tree-2 (
   put-pattern-reads.Learnt,
 ) (put-tree-at t) put-tree.Post
 put-tree-sub-put-tree-2 t c =
-    let c₁ = c .before .before .before .before .before .before .before .before in
-    let c₂ = c₁ .before .before .before .before .before .before .before .before in
-    let h = c₂ .before .before .before .before .before .before .pre .1 in
-    let e = (ap (λ (r : Row). r .kind) (sym (c₂ .before .before .before .row-at .ensures)) ∙ c₂ .before .kind .given .1) in
-    let shut = rw (c₁ .before .before .before .before .before .before .before .is-bracketed .ensures) at (c₁ .before .before .before .before .before .put-byte-if .ensures) in
-    let second = rw (c₁ .before .before .right-level .ensures) at (c₁ .put-tree .ensures) in
+    let c₁ = c .before .before .before .before .before .before in
+    let c₂ = c₁ .before .before .before .before .before .before in
+    let c₃ = c₂ .before .before .before .before .before .before in
+    let h = c₃ .before .before .before .before .pre .1 in
+    let e = (ap (λ (r : Row). r .kind) (sym (c₃ .before .row-at .ensures)) ∙ c₂ .before .before .before .before .before .kind .given .1) in
+    let shut = rw (c₂ .before .before .before .is-bracketed .ensures) at (c₂ .before .put-byte-if .ensures) in
+    let second = rw (c₁ .before .before .before .before .right-level .ensures) at (c₁ .before .before .put-tree .ensures) in
     node-begins e h shut second .0
 
 put-tree-left-level-requires : (t : ℕ) → put-tree-lts.Need-left-level-requires (
@@ -322,16 +331,18 @@ put-tree-put-tree-requires-2 : (t : ℕ) → put-tree-lts.Need-put-tree-requires
   put-pattern-reads.Learnt,
 ) (put-tree-at t) put-tree.Post
 put-tree-put-tree-requires-2 t c κs =
-    let c₁ = c .before .before .before .before .before .before .before .before in
-    let c₂ = c₁ .before .before .before .before .before .before .before .before in
-    let c₃ = c₂ .before .before .before .before .before .before .before .before in
-    let h = c₃ .pre .1 in
-    let e = (ap (λ (r : Row). r .kind) (sym (c₂ .before .before .before .before .before .row-at .ensures)) ∙ c₂ .before .before .before .kind .given .1) in
-    let shut = rw (c₂ .before .is-bracketed .ensures) at (c₁ .before .before .before .before .before .before .before .put-byte-if .ensures) in
-    let second = rw (c₁ .before .before .before .before .right-level .ensures) at (c₁ .before .before .put-tree .ensures) in
-    let between = rw (c .before .before .before .before .before .before .before .byte-of .ensures) at (c .before .before .before .before .before .put-byte .ensures) in
+    let c₁ = c .before .before .before .before .before .before in
+    let c₂ = c₁ .before .before .before .before .before .before in
+    let c₃ = c₂ .before .before .before .before .before .before in
+    let c₄ = c₃ .before .before .before .before .before .before in
+    let h = c₄ .pre .1 in
+    let e = (ap (λ (r : Row). r .kind) (sym (c₃ .before .before .before .row-at .ensures)) ∙ c₃ .before .kind .given .1) in
+    let shut = rw (c₂ .before .before .before .before .before .is-bracketed .ensures) at
+    (c₂ .before .before .before .put-byte-if .ensures) in
+    let second = rw (c₂ .right-level .ensures) at (c₁ .before .before .before .before .put-tree .ensures) in
+    let between = rw (c₁ .before .byte-of .ensures) at (c .before .before .before .before .before .put-byte .ensures) in
     let s = node-begins e h shut second .1 in
-    (omega (arith, c₃ .pre .0), rw (c .before .left-level .ensures) (node-left e h shut second between))
+    (omega (arith, c₄ .pre .0), rw (c .before .left-level .ensures) (node-left e h shut second between))
 
 put-tree-put-byte-if-requires-2 : (t : ℕ) → put-tree-lts.Need-put-byte-if-requires-2 (
   row-at-reads.Asked,
@@ -354,16 +365,17 @@ put-tree-put-byte-if-requires-2 : (t : ℕ) → put-tree-lts.Need-put-byte-if-re
   put-pattern-reads.Learnt,
 ) (put-tree-at t) put-tree.Post
 put-tree-put-byte-if-requires-2 t c κs =
-    let c₁ = c .before .before .before .before .before .before .before .before in
-    let c₂ = c₁ .before .before .before .before .before .before .before .before in
-    let c₃ = c₂ .before .before .before .before .before .before .before .before in
-    let h = c₃ .before .before .before .before .pre .1 in
-    let e = (ap (λ (r : Row). r .kind) (sym (c₃ .before .row-at .ensures)) ∙ c₂ .before .before .before .before .before .before .before .kind .given .1) in
-    let shut = rw (c₂ .before .before .before .before .before .is-bracketed .ensures) at (c₂ .before .before .before .put-byte-if .ensures) in
-    let second = rw (c₂ .right-level .ensures) at (c₁ .before .before .before .before .before .before .put-tree .ensures) in
-    let between = rw (c₁ .before .before .before .byte-of .ensures) at (c₁ .before .put-byte .ensures) in
+    let c₁ = c .before .before .before .before .before .before in
+    let c₂ = c₁ .before .before .before .before .before .before in
+    let c₃ = c₂ .before .before .before .before .before .before in
+    let c₄ = c₃ .before .before .before .before .before .before in
+    let h = c₄ .before .before .before .before .pre .1 in
+    let e = (ap (λ (r : Row). r .kind) (sym (c₄ .before .row-at .ensures)) ∙ c₃ .before .before .before .before .before .kind .given .1) in
+    let shut = rw (c₃ .before .before .before .is-bracketed .ensures) at (c₃ .before .put-byte-if .ensures) in
+    let second = rw (c₂ .before .before .before .before .right-level .ensures) at (c₂ .before .before .put-tree .ensures) in
+    let between = rw (c₁ .before .before .before .before .before .byte-of .ensures) at (c₁ .before .before .before .put-byte .ensures) in
     let first = rw (c .before .before .before .before .before .left-level .ensures) at (c .before .before .before .put-tree2 .ensures) in
-    rw (c₂ .before .before .before .before .before .is-bracketed .ensures) (node-open e h shut second between first)
+    rw (c₃ .before .before .before .is-bracketed .ensures) (node-open e h shut second between first)
 
 put-tree-enum-told : (t : ℕ) → put-tree-lts.Need-enum-told (
   row-at-reads.Asked,
@@ -407,7 +419,9 @@ put-tree-put-pattern-requires : (t : ℕ) → put-tree-lts.Need-put-pattern-requ
   put-pattern-reads.Asked,
   put-pattern-reads.Learnt,
 ) (put-tree-at t) put-tree.Post
-put-tree-put-pattern-requires t c κs = leaf-room (ap (λ (r : Row). r .kind) (sym (c .before .before .before .row-at .ensures)) ∙ c .before .enum-told .given .1) (c .before .before .before .before .before .before .pre .1)
+put-tree-put-pattern-requires t c κs =
+    let e = (ap (λ (r : Row). r .kind) (sym (c .before .before .before .row-at .ensures)) ∙ c .before .enum-told .given .1) in
+    leaf-room e (c .before .before .before .before .before .before .pre .1)
 
 put-tree-enum-told-2 : (t : ℕ) → put-tree-lts.Need-enum-told-2 (
   row-at-reads.Asked,
@@ -496,16 +510,18 @@ put-tree-returns : (t : ℕ) → put-tree-lts.Need-returns (
   put-pattern-reads.Learnt,
 ) (put-tree-at t) put-tree.Post
 put-tree-returns t c =
-    let c₁ = c .before .before .before .before .before .before .before .before in
-    let c₂ = c₁ .before .before .before .before .before .before .before .before in
-    let c₃ = c₂ .before .before .before .before .before .before .before .before in
-    let h = c₃ .before .before .before .before .before .before .before .pre .1 in
-    let e = (ap (λ (r : Row). r .kind) (sym (c₃ .before .before .before .before .row-at .ensures)) ∙ c₃ .before .before .kind .given .1) in
-    let shut = rw (c₃ .is-bracketed .ensures) at (c₂ .before .before .before .before .before .before .put-byte-if .ensures) in
-    let second = rw (c₂ .before .before .before .right-level .ensures) at (c₂ .before .put-tree .ensures) in
-    let between = rw (c₁ .before .before .before .before .before .before .byte-of .ensures) at (c₁ .before .before .before .before .put-byte .ensures) in
-    let first = rw (c₁ .left-level .ensures) at (c .before .before .before .before .before .before .put-tree2 .ensures) in
-    let opening = rw (c₃ .is-bracketed .ensures) at (c .before .before .put-byte-if2 .ensures) in
+    let c₁ = c .before .before .before .before .before .before in
+    let c₂ = c₁ .before .before .before .before .before .before in
+    let c₃ = c₂ .before .before .before .before .before .before in
+    let c₄ = c₃ .before .before .before .before .before .before in
+    let c₅ = c₄ .before .before .before .before .before .before in
+    let h = c₅ .before .pre .1 in
+    let e = (ap (λ (r : Row). r .kind) (sym (c₄ .before .before .before .before .row-at .ensures)) ∙ c₄ .before .before .kind .given .1) in
+    let shut = rw (c₄ .is-bracketed .ensures) at (c₃ .before .before .before .before .put-byte-if .ensures) in
+    let second = rw (c₃ .before .right-level .ensures) at (c₂ .before .before .before .before .before .put-tree .ensures) in
+    let between = rw (c₂ .before .before .byte-of .ensures) at (c₂ .put-byte .ensures) in
+    let first = rw (c₁ .before .before .left-level .ensures) at (c₁ .put-tree2 .ensures) in
+    let opening = rw (c₄ .is-bracketed .ensures) at (c .before .before .put-byte-if2 .ensures) in
     node-put e h shut second between first opening
 
 put-tree-same-length-2 : (t : ℕ) → put-tree-lts.Need-same-length-2 (
@@ -550,7 +566,10 @@ put-tree-returns-2 : (t : ℕ) → put-tree-lts.Need-returns-2 (
   put-pattern-reads.Asked,
   put-pattern-reads.Learnt,
 ) (put-tree-at t) put-tree.Post
-put-tree-returns-2 t c = leaf-put (ap (λ (r : Row). r .kind) (sym (c .before .before .before .before .before .before .row-at .ensures)) ∙ c .before .before .before .before .enum-told .given .1) (c .before .before .before .before .before .before .before .before .before .args .level) (c .before .before .put-pattern .ensures)
+put-tree-returns-2 t c =
+    let c₁ = c .before .before .before .before .before .before in
+    let e = (ap (λ (r : Row). r .kind) (sym (c₁ .row-at .ensures)) ∙ c .before .before .before .before .enum-told .given .1) in
+    leaf-put e (c₁ .before .before .before .args .level) (c .before .before .put-pattern .ensures)
 
 put-tree-returns-3 : (t : ℕ) → put-tree-lts.Need-returns-3 (
   row-at-reads.Asked,
@@ -572,7 +591,9 @@ put-tree-returns-3 : (t : ℕ) → put-tree-lts.Need-returns-3 (
   put-pattern-reads.Asked,
   put-pattern-reads.Learnt,
 ) (put-tree-at t) put-tree.Post
-put-tree-returns-3 t c = absurd (tree-no-voice (ap (λ (r : Row). r .kind) (sym (c .before .before .row-at .ensures)) ∙ c .enum-told2 .given .1) (c .before .before .before .before .before .pre .1))
+put-tree-returns-3 t c =
+    let e = (ap (λ (r : Row). r .kind) (sym (c .before .before .row-at .ensures)) ∙ c .enum-told2 .given .1) in
+    absurd (tree-no-voice e (c .before .before .before .before .before .pre .1))
 
 put-tree-returns-4 : (t : ℕ) → put-tree-lts.Need-returns-4 (
   row-at-reads.Asked,
@@ -594,7 +615,9 @@ put-tree-returns-4 : (t : ℕ) → put-tree-lts.Need-returns-4 (
   put-pattern-reads.Asked,
   put-pattern-reads.Learnt,
 ) (put-tree-at t) put-tree.Post
-put-tree-returns-4 t c = absurd (tree-no-condition (ap (λ (r : Row). r .kind) (sym (c .before .before .row-at .ensures)) ∙ c .enum-told3 .given .1) (c .before .before .before .before .before .pre .1))
+put-tree-returns-4 t c =
+    let e = (ap (λ (r : Row). r .kind) (sym (c .before .before .row-at .ensures)) ∙ c .enum-told3 .given .1) in
+    absurd (tree-no-condition e (c .before .before .before .before .before .pre .1))
 
 pub +put-tree-spec : {M : Type 1} → statement M
 +put-tree-spec = close μ-put-tree λ t. put-tree-lts.spec (

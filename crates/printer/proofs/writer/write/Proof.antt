@@ -24,23 +24,27 @@ enum-told c = search needs
 
 write-line-requires : tie.Need-write-line-requires
 write-line-requires c κs =
-    let a = c .before .before .before .before .before .before .before .args in
+    let c₁ = c .before .before .before .before .before .before in
+    let a = c₁ .before .args in
     let e = sym (c .before .before .before .check .ensures) ∙ ap saidChecked (c .before .enum-told .given .1) in
     (now (a .volume), e ∙ ap answered (verdict-sizes (now (a .volume)) (now (a .plan)) _ e))
 
 returns : tie.Need-returns
 returns c =
-    let a = c .before .before .before .before .before .before .before .args in
-    write-refused (now (a .volume)) (now (a .plan)) (now (a .out)) (c .before .checked .given .0 .0) (sym (c .before .before .before .check .ensures) ∙ ap saidChecked (c .before .checked .given .1))
+    let c₁ = c .before .before .before .before .before .before in
+    let a = c₁ .before .args in
+    let e = sym (c .before .before .before .check .ensures) ∙ ap saidChecked (c .before .checked .given .1) in
+    write-refused (now (a .volume)) (now (a .plan)) (now (a .out)) (c .before .checked .given .0 .0) e
 
 same-length : tie.Need-same-length
 same-length c = search needs
 
 returns-2 : tie.Need-returns-2
 returns-2 c =
-    let c₁ = c .before .before .before .before .before .before .before .before in
-    let a = c₁ .before .before .args in
-    write-whole (now (a .volume)) (now (a .plan)) (now (a .out)) (sym (c .before .before .before .before .before .before .check .ensures) ∙ ap saidChecked (c .before .before .before .before .enum-told .given .1)) (c .before .before .write-line .ensures)
+    let c₁ = c .before .before .before .before .before .before in
+    let a = c₁ .before .before .before .before .args in
+    let e = sym (c₁ .check .ensures) ∙ ap saidChecked (c .before .before .before .before .enum-told .given .1) in
+    write-whole (now (a .volume)) (now (a .plan)) (now (a .out)) e (c .before .before .write-line .ensures)
 
 pub write-spec : {M : Type 1} → statement M
 write-spec =

@@ -37,17 +37,19 @@ sub-bytes c =
 
 returns : tie.Need-returns
 returns c =
-    let a = c .before .before .before .before .before .before .before .args in
-    let v = c .before .before .before .before .before .before .before .pre .0 in
-    let ok = c .before .before .before .before .before .before .before .pre .1 in
+    let c₁ = c .before .before .before .before .before .before in
+    let a = c₁ .before .args in
+    let v = c₁ .before .pre .0 in
+    let ok = c₁ .before .pre .1 in
     let counted = plan-put v (now (a .plan)) ok (c .before .before .before .put-tree .ensures) .ends in
     line-short (now (a .plan)) (now (a .out)) (omega (arith, c .if1 .taken))
 
 put-tree-requires-2 : tie.Need-put-tree-requires-2
 put-tree-requires-2 c κs =
-    let a = c .before .before .before .before .before .before .before .before .args in
-    let v = c .before .before .before .before .before .before .before .before .pre .0 in
-    let ok = c .before .before .before .before .before .before .before .before .pre .1 in
+    let c₁ = c .before .before .before .before .before .before in
+    let a = c₁ .before .before .args in
+    let v = c₁ .before .before .pre .0 in
+    let ok = c₁ .before .before .pre .1 in
     let counted = plan-put v (now (a .plan)) ok (c .before .before .before .before .put-tree .ensures) .ends in
     plan-room v (now (a .plan)) ok (2048 - c .before .before .before .before .put-tree .result .at) (omega arith)
 
@@ -59,12 +61,13 @@ same-length c = search needs
 
 returns-2 : tie.Need-returns-2
 returns-2 c =
-    let c₁ = c .before .before .before .before .before .before .before .before in
-    let a = c₁ .before .before .before .args in
-    let v = c₁ .before .before .before .pre .0 in
-    let ok = c₁ .before .before .before .pre .1 in
-    let counted = plan-put v (now (a .plan)) ok (c .before .before .before .before .before .before .before .put-tree .ensures) .ends in
-    line-whole (now (a .plan)) (now (a .out)) (omega arith) (omega (arith, c .before .before .before .before .if1 .left)) (plan-put v (now (a .plan)) ok (c .before .before .put-tree2 .ensures))
+    let c₁ = c .before .before .before .before .before .before in
+    let a = c₁ .before .before .before .before .before .args in
+    let v = c₁ .before .before .before .before .before .pre .0 in
+    let ok = c₁ .before .before .before .before .before .pre .1 in
+    let counted = plan-put v (now (a .plan)) ok (c₁ .before .put-tree .ensures) .ends in
+    let put = plan-put v (now (a .plan)) ok (c .before .before .put-tree2 .ensures) in
+    line-whole (now (a .plan)) (now (a .out)) (omega arith) (omega (arith, c .before .before .before .before .if1 .left)) put
 
 pub write-line-spec : {M : Type 1} → statement M
 write-line-spec =
