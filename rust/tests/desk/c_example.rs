@@ -157,10 +157,7 @@ fn sentence((number, at): Refused) -> String {
     };
     let whole = Refusal { number, at }.to_string();
     let sentence = whole.strip_suffix(&format!(" (refused {number} {at})")).unwrap();
-    format!(
-        "listing: {what}: {}\n",
-        sentence.trim_end_matches(", than one choice, or than the list")
-    )
+    format!("listing: {what}: {}\n", sentence.split(", than one choice").next().unwrap())
 }
 
 /// A volume of 8,192 blocks, the largest. The words that a plan is to name stand in lists 1 and 3;
