@@ -169,7 +169,7 @@ fn the_readme_shows_what_its_commands_print() {
 fn the_files_are_what_the_commands_make() {
     let archive = repository("examples/evening");
     assert_eq!(names(&archive), ["evening.vol", "lists.txt", "plans", "wording.md"]);
-    let kinds = ["listing", "plan", "txt"];
+    let kinds = ["line", "listing", "plan", "txt"];
     let files = PLANS.iter().flat_map(|plan| kinds.map(|kind| format!("{plan}.{kind}")));
     assert_eq!(names(archive.join("plans")), files.collect::<Vec<String>>());
 
@@ -184,6 +184,14 @@ fn the_files_are_what_the_commands_make() {
     for plan in PLANS {
         let file = format!("plans/{plan}");
         same(&format!("{file}.plan"), &format!("lhz plan {file}.txt {file}.plan"));
+        same(
+            &format!("{file}.line"),
+            &format!("lhz show --line evening.vol {file}.plan > {file}.line"),
+        );
+        same(
+            &format!("{file}.plan"),
+            &format!("lhz plan --line \"$(cat {file}.line)\" {file}.plan"),
+        );
         same(
             &format!("{file}.listing"),
             &format!("lhz list evening.vol {file}.plan > {file}.listing"),
