@@ -10,6 +10,8 @@ use std::fs;
 
 /// The commands of `lhz`.
 const COMMANDS: [&str; 8] = ["check", "list", "matches", "read", "test", "write", "plan", "show"];
+/// The commands that take a typed line.
+const OF_LINES: [&str; 6] = ["check", "list", "matches", "test", "plan", "show"];
 /// What the guide's commands that are not run start with.
 const NOT_RUN: [&str; 5] = ["make", "export", "cp", "cd", "cc"];
 /// The plans of the archive.
@@ -148,6 +150,17 @@ fn follow(page: &str) -> Vec<String> {
     ran
 }
 
+/// Whether a command is given a typed line, in quotes.
+fn has_line(command: &str) -> bool {
+    command.contains(" --line '[") || command.contains(" --line '(")
+}
+
+/// A page's first search is that of a typed line.
+fn first_search_is_typed(ran: &[String]) {
+    let first = ran.iter().find(|command| command.starts_with("lhz list "));
+    assert!(first.is_some_and(|command| has_line(command)), "{first:?}");
+}
+
 #[test]
 fn the_guide_shows_what_its_commands_print() {
     let ran = follow(&text(repository("docs/GUIDE.md")));
@@ -155,14 +168,19 @@ fn the_guide_shows_what_its_commands_print() {
         let start = format!("lhz {name} ");
         assert!(ran.iter().any(|command| command.starts_with(&start)), "{start}is never run");
     }
+    for name in OF_LINES {
+        let start = format!("lhz {name} ");
+        let typed = |command: &String| command.starts_with(&start) && has_line(command);
+        assert!(ran.iter().any(typed), "{start}is run with no typed line");
+    }
+    first_search_is_typed(&ran);
     assert!(ran.len() >= 70, "{} commands ran", ran.len());
 }
 
 #[test]
 fn the_readme_shows_what_its_commands_print() {
     let ran = follow(&text(repository("README.md")));
-    let listed = |command: &String| command.starts_with("lhz list ");
-    assert!(ran.iter().any(listed), "nothing is listed: {ran:?}");
+    first_search_is_typed(&ran);
 }
 
 #[test]
