@@ -12,10 +12,10 @@ mod yardstick;
 mod inputs;
 mod trial;
 
-mod document;
-mod exhaustive;
-mod limits;
-mod prefixes;
-mod refusals;
-mod round_trip;
+mod line_document;
+mod line_exhaustive;
+mod line_limits;
+mod line_prefixes;
+mod line_refusals;
+mod line_round_trip;
 mod yardstick_line;
