@@ -229,11 +229,18 @@ fn is_defined(of: &str, file: &str, name: &str) -> bool {
     // What stands in a module is indented, and so are fields and cases, which have no such mark.
     let is_marked =
         |line: &str| ["abbrev ", "unfoldable "].iter().any(|m| line.trim_start().starts_with(m));
-    let is_outer = |line: &str| !line.starts_with(' ') || is_marked(line);
     let indent = |line: &str| line.len() - line.trim_start().len();
+    // Those that name each other stand one step inside a line `mutual`.
+    let mut mutual = false;
+    let mut is_outer = |line: &str| {
+        if indent(line) == 0 && !line.is_empty() {
+            mutual = unmarked(line) == "mutual";
+        }
+        indent(line) == 0 || mutual && indent(line) == 2 || is_marked(line)
+    };
     let mut lines = text.lines();
     match part {
-        None => lines.any(|line| is_type(line) || is_outer(line) && is_signature(line, name)),
+        None => lines.any(|line| is_outer(line) && is_signature(line, name) || is_type(line)),
         Some(part) => lines.by_ref().find(|line| is_type(line)).is_some_and(|record| {
             let mut inside = lines.take_while(|line| indent(record) < indent(line));
             inside.any(|line| is_signature(line, part))

@@ -44,10 +44,12 @@ stored-front (b ∷ s) [] h = absurd (let z : ⊥ = omega arith in z)
 stored-front (b ∷ s) (y ∷ out) h =
     ap (λ (l : List ℕ). set l 0 b) (stored-behind y out 0 s) ∙ ap (λ (l : List ℕ). b ∷ l) (stored-front s out (omega arith))
 
+-- nothing is stored
 pub put-none : (out : List ℕ) (end : ℕ) → PutBack [] out end out end
 unfolding storedBytes
 put-none out end = record { stored = refl; ends = add-zero end }
 
+-- one byte is stored
 pub put-byte : (out : List ℕ) (end b r : ℕ) → r + 1 ≡ end → PutBack (b ∷ []) out end (set out r b) r
 unfolding storedBytes
 put-byte out end b r e = record { stored = refl; ends = e }
@@ -97,6 +99,7 @@ module _ {n left : ℕ} {out : List ℕ} {end : ℕ} {out′ : List ℕ} {at : �
   pub digits-room : length (decimal n) ≤ end → length (decimal left) ≤ at
   digits-room h = let l = length-append (decimal left) (d .text) in let e = ap length (d .whole) in let f = d .put .ends in omega arith
 
+  -- one digit more is stored
   pub digits-next : 10 ≤ left → {out″ : List ℕ} {r : ℕ} → PutBack (digit (left % 10) ∷ []) out′ at out″ r
       → Digits n (left / 10) out end out″ r
   digits-next h y = record {
@@ -106,6 +109,7 @@ module _ {n left : ℕ} {out : List ℕ} {end : ℕ} {out′ : List ℕ} {at : �
     put = put-then (digit (left % 10) ∷ []) (d .text) (d .put) y;
   }
 
+  -- the first digit is stored
   pub digits-done : left < 10 → {out″ : List ℕ} {r : ℕ} → PutBack (digit left ∷ []) out′ at out″ r → PutBack (decimal n) out end out″ r
   digits-done h {out″} {r} y =
       rw (← d .whole, decimal-digit left h) (put-then (digit left ∷ []) (d .text) (d .put) y)

@@ -38,6 +38,7 @@ use Rattle.printer.specs.Inner.Writing.{PutBack, spaced, begun, Formed, 
 use Rattle.printer.specs.Inner.Writing.{ListsEnd, ListsRoom, ListsPut, OpenEnd, OpenRoom, OpenPut, PatternEnd, PatternRoom, PatternPut}
 use Rattle.printer.proofs.Laws.Bytes.{put-as, put-then}
 
+-- behind a space stands a space
 gap : (ns : List ℕ) → gapAfter 32 ns ≡ 32
 gap [] = refl
 gap (n ∷ ns) = refl
@@ -99,10 +100,12 @@ snoc-or {A} (x ∷ xs) =
     (λ (s : Snoc xs). inr (record { front = x ∷ s .front; last = s .last; is = ap (λ (l : List A). x ∷ l) (s .is) }))
     (snoc-or xs)
 
+-- a list that is not empty has a last element
 pub some-snoc : {A : Type 0} (xs : List A) → 1 ≤ length xs → Snoc xs
 some-snoc {A} xs h =
     ⊎-elim (λ (e : xs ≡ []). absurd (let n = ap length e in let z : ⊥ = omega arith in z)) (λ (s : Snoc xs). s) (snoc-or xs)
 
+-- two lists with one last element each are the same
 pub record SnocSame {A : Type 0} (xs ys : List A) (x y : A) : Type 0 where
   pub front : xs ≡ ys
   pub last : x ≡ y
@@ -127,6 +130,7 @@ rows-last p n xs x e =
     let w = snoc-inj (rowsBefore p n) xs (rowAt p (0 + n)) x (sym (run-snoc (rowAt p) 0 n) ∙ e) in
     record { front = w .front; last = ap (rowAt p) (sym (zero-add n)) ∙ w .last }
 
+-- how many rows they are
 pub rows-count : (p : List ℕ) (n : ℕ) (xs : List Row) → rowsBefore p n ≡ xs → n ≡ length xs
 rows-count p n xs e = sym (length-run (rowAt p) 0 n) ∙ ap length e
 
@@ -134,6 +138,7 @@ rows-count p n xs e = sym (length-run (rowAt p) 0 n) ∙ ap length e
 pub rows-back : (p : List ℕ) (n : ℕ) (xs : List Row) → 1 ≤ n → rowsBefore p n ≡ xs → rowsBefore p (n - 1 + 1) ≡ xs
 rows-back p n xs h e = ap (rowsBefore p) (let k : n - 1 + 1 ≡ n = omega arith in k) ∙ e
 
+-- the row in front is one of the plan too
 pub formed-back : {p : List ℕ} {last : ℕ} → Formed p last → Formed p (last - 1)
 formed-back h = record { inside = (let i = h .inside in omega arith); formed = h .formed }
 
@@ -152,6 +157,7 @@ behind-last : (p : List ℕ) (i : ℕ) (xs : List Row) (x : Row) → rowsBefore 
 behind-last p zero xs x e = absurd (let n = rows-count p 0 (xs ++ (x ∷ [])) e in let l = length-snoc xs x in let z : ⊥ = omega arith in z)
 behind-last p (suc i) xs x e = ap (λ (r : Row). isVoice (r .kind)) (rows-last p i xs x (ap (rowsBefore p) (add-one i) ∙ e) .last)
 
+-- a VOICE has a list
 voice-kind : (k : Kind) → isVoice k ≡ true → (list : ℕ) × (k ≡ kind.Voice list)
 voice-kind (kind.Voice list) e = (list, refl)
 voice-kind (kind.Condition c) e = absurd (true≢false (sym e))
@@ -175,6 +181,7 @@ record ListsLast (p : List ℕ) (last : ℕ) (rest : List Row) (lists : List ℕ
   row : rowAt p last .kind ≡ kind.Voice list
   rows : rowsBefore p last ≡ rest ++ map voiceRow front
 
+-- the last row is a VOICE over the last list
 lists-last : {p : List ℕ} {last : ℕ} {rest : List Row} {lists : List ℕ} → ListsEnd p last rest lists → ListsLast p last rest lists
 lists-last {p} {last} {rest} {lists} h =
     let s = some-snoc lists (h .some) in
@@ -206,6 +213,7 @@ lists-none p last rest front e b =
     ∙ sym (append-assoc rest (map voiceRow (s .front)) (voiceRow (s .last) ∷ [])))) ∙ b)))
     (snoc-or front)
 
+-- behind a number stands a space
 gap-some : (ns : List ℕ) → 1 ≤ length ns → gapAfter 91 ns ≡ 32
 gap-some [] h = absurd (let z : ⊥ = omega arith in z)
 gap-some (n ∷ ns) h = refl
@@ -254,6 +262,7 @@ module _ {p : List ℕ} {last : ℕ} where
           let y = byte .ends in
           record { formed = formed-back (h .formed); rest = h .rest; lists = w .front; ends = lists-before b (h .ends); room = omega arith }
 
+      -- the numbers in front of it are stored
       pub lists-next : {out₃ : List ℕ} {r : Back} → ListsPut p (last - 1) out₂ k out₃ r → ListsPut p last out end out₃ r
       lists-next {out₃} {r} h = record { all = go }
         where
@@ -304,6 +313,7 @@ conditions-behind (d ∷ cs) c =
 abbrev with : Pattern → List Predicate → Pattern
 with f cs = record { vars = f .vars; predicates = cs }
 
+-- the text with one condition more
 open-behind : (f : Pattern) (cs : List Predicate) (c : Predicate)
     → openText (figureOf (with f (cs ++ (c ∷ [])))) ≡ openText (figureOf (with f cs)) ++ conditionText (conditionOf c)
 unfolding openText
@@ -311,10 +321,12 @@ open-behind f cs c =
     ap (λ (l : List ℕ). lead 91 (f .vars) ++ l) (conditions-behind cs c)
     ∙ sym (append-assoc (lead 91 (f .vars)) (joined (map conditionText (map conditionOf cs))) (conditionText (conditionOf c)))
 
+-- the text with no condition
 open-bare : (f : Pattern) → openText (figureOf (with f [])) ≡ lead 91 (f .vars)
 unfolding openText joined
 open-bare f = append-nil (lead 91 (f .vars))
 
+-- the rows with one condition more
 open-rows : (f : Pattern) (cs : List Predicate) (c : Predicate) (rest : List Row)
     → rest ++ (map voiceRow (f .vars) ++ map conditionRow (cs ++ (c ∷ []))) ≡ (rest ++ (map voiceRow (f .vars) ++ map conditionRow cs)) ++
     (conditionRow c ∷ [])
@@ -339,6 +351,7 @@ record OpenVoice (p : List ℕ) (last : ℕ) (rest : List Row) (f : Pattern) : T
   lists : ListsEnd p last rest (f .vars)
   text : openText (figureOf f) ≡ lead 91 (f .vars)
 
+-- a pattern without END ends in a condition or in a VOICE
 open-last : {p : List ℕ} {last : ℕ} {rest : List Row} {f : Pattern} → OpenEnd p last rest f
     → OpenCondition p last rest f ⊎ OpenVoice p last rest f
 open-last {p} {last} {rest} {f} h = ⊎-elim (λ e. inr (voice e)) (λ s. inl (condition s)) (snoc-or (f .predicates))
@@ -498,6 +511,7 @@ module _ {p : List ℕ} {last : ℕ} where
       let k : 1 ≤ last = omega arith in
       (k, record { rows = rows-back p last (rest ++ shown) k (w .front); some = h .some; shut = h .shut })
 
+  -- a pattern has a row in front of its END, and a byte
   pub pattern-some : {end : ℕ} → PatternRoom p last end → (1 ≤ last) × (1 ≤ end)
   unfolding figureText
   pattern-some h =

@@ -41,6 +41,7 @@ record Ended (rows : List Row) : Type 0 where
   is : rows ≡ front ++ (last ∷ [])
   other : isVoice (last .kind) ≡ false
 
+-- the last row of a tree is END or an operator
 query-ended : (q : Query) → Ended (queryRows q)
 unfolding queryRows
 query-ended (leaf f) =
@@ -68,11 +69,13 @@ ended-shut xs ys h = record {
       true≢false (ap (λ (r : Row). isVoice (r .kind)) (sym (s .last)) ∙ h .other);
 }
 
+-- and so is that of stacked trees
 pub stack-shut : (qs : List Query) → Shut (stackRows qs)
 unfolding stackRows
 stack-shut [] = record { no-voice = λ zs list e. let n = ap length e in let l = length-snoc zs (voiceRow list) in omega arith }
 stack-shut (q ∷ qs) = ended-shut (stackRows qs) (queryRows q) (query-ended q)
 
+-- a tree has a row
 query-some : (q : Query) → 1 ≤ length (queryRows q)
 query-some q = let h = query-ended q in let e = ap length (h .is) in let l = length-snoc (h .front) (h .last) in omega arith
 
@@ -95,10 +98,12 @@ plain x y j = ap (λ (l : List ℕ). x ++ (j ∷ l)) (sym (append-nil y))
 rounded : (x y : List ℕ) (j : ℕ) → 40 ∷ ((x ++ (j ∷ y)) ++ (41 ∷ [])) ≡ 40 ∷ (x ++ (j ∷ (y ++ (41 ∷ []))))
 rounded x y j = ap (λ (l : List ℕ). 40 ∷ l) (append-assoc x (j ∷ y) (41 ∷ []))
 
+-- the five pieces: a bracket, the first side, the byte, the second side, a bracket
 abbrev pieces : Level → Operator → Query → Query → List ℕ
 pieces v o a b =
     only (bracketed v o) 40 ++ (textAt (leftLevel o) a ++ ((operatorByte o ∷ []) ++ (textAt (rightLevel o) b ++ only (bracketed v o) 41)))
 
+-- they are its text
 node-text : (v : Level) (o : Operator) (a b : Query) → textAt v (node o a b) ≡ pieces v o a b
 unfolding typed written
 node-text level.Line Both a b = plain (partText (typed a .part)) (itemText (typed b .item)) 38
@@ -123,6 +128,7 @@ node-length v o a b e =
     let z = length-append (textAt (rightLevel o) b) (only (bracketed v o) 41) in
     omega arith
 
+-- the text of a pattern at any level
 leaf-text : (v : Level) (f : Pattern) → textAt v (leaf f) ≡ figureText (figureOf f)
 unfolding typed written
 leaf-text level.Line f = refl
@@ -148,10 +154,12 @@ record TreeNode (p : List ℕ) (last : ℕ) (qs : List Query) (q : Query) (o : O
   before : length (stackRows (first ∷ qs)) ≤ last
   left : TreeEnd p (length (stackRows (first ∷ qs)) - 1) qs first
 
+-- some operator
 record TreeJoin (p : List ℕ) (last : ℕ) (qs : List Query) (q : Query) : Type 0 where
   operator : Operator
   it : TreeNode p last qs q operator
 
+-- a tree ends in END or in an operator
 tree-last : (p : List ℕ) (last : ℕ) (qs : List Query) (q : Query) → TreeEnd p last qs q → TreeLeaf p last qs q ⊎ TreeJoin p last qs q
 unfolding queryRows stackRows Voiced
 tree-last p last qs (leaf f) h =
@@ -196,6 +204,7 @@ tree-last p last qs (node o a b) h =
       };
     })
 
+-- END is no operator
 apart : {k : Kind} {o : Operator} → k ≡ kind.End → k ≡ kind.Operator o → ⊥
 apart e f = let z : _≡_ {A = ℕ} 0 1 = cc in let y : ⊥ = omega arith in y
 

@@ -57,6 +57,7 @@ mutual
   item-voiced (node FirstNotSecond a b) h = (part-voiced a (h .0), item-voiced b (h .1))
 
 module _ (v p : List ℕ) (ok : Accepted v p) where
+  -- it has a row
   pub plan-some : 1 ≤ rowCount p
   plan-some = given v p ok .some-rows
 
@@ -68,6 +69,7 @@ module _ (v p : List ℕ) (ok : Accepted v p) where
     voiced = line-voiced (queryOf (rowsOf p)) (accepted-line v p ok .fits);
   }
 
+  -- there is room for its line
   pub plan-room : (end : ℕ) → length (planText p) ≤ end → TreeRoom p (rowCount p - 1) level.Line end
   unfolding planText planLine
   plan-room end h = let s = plan-some in record {
@@ -78,9 +80,11 @@ module _ (v p : List ℕ) (ok : Accepted v p) where
     room = h;
   }
 
+  -- which is no longer than a line may be
   pub plan-short : length (planText p) ≤ 2048
   plan-short = let h = accepted-line v p ok .short in omega arith
 
+  -- what is stored is its line
   pub plan-put : {out : List ℕ} {end : ℕ} {out′ : List ℕ} {r : Back} → TreePut p (rowCount p - 1) level.Line out end out′ r
       → PutBack (planText p) out end out′ (r .at)
   unfolding planText planLine
@@ -107,11 +111,13 @@ module _ (p out : List ℕ) where
 
 -- the call
 module _ (v p out : List ℕ) where
+  -- the volume or the plan is refused
   pub write-refused : (why : Refusal) → verdict v p ≡ saidRefusal why
       → (saidWritten (written.Refused why) ≡ writeAnswer v p (length out)) × (out ≡ writeOut v p out)
   unfolding writeAnswer writeOut laid
   write-refused why e = (rw e, rw e)
 
+  -- the plan is accepted
   pub write-whole : {z : Sizes} → verdict v p ≡ answered z → {r : Written} {out′ : List ℕ} → LineWritten p out r out′
       → (saidWritten r ≡ writeAnswer v p (length out)) × (out′ ≡ writeOut v p out)
   unfolding writeAnswer writeOut

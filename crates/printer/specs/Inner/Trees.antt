@@ -36,12 +36,13 @@ bracketed level.Part Either = true
 bracketed level.Part FirstNotSecond = false
 bracketed level.Item o = true
 
--- what its two sides are written as
+-- what its first side is written as
 abbrev pub leftLevel : Operator → Level
 leftLevel Both = level.Part
 leftLevel Either = level.Line
 leftLevel FirstNotSecond = level.Part
 
+-- what its second side is written as
 abbrev pub rightLevel : Operator → Level
 rightLevel Both = level.Item
 rightLevel Either = level.Part
@@ -63,6 +64,7 @@ pub record TreeEnd (p : List ℕ) (last : ℕ) (qs : List Query) (q : Query) : T
   pub rows : rowsBefore p (last + 1) ≡ stackRows (q ∷ qs)
   pub voiced : Voiced q
 
+-- there are such trees, and room for the text of the top one in front of `end`
 pub record TreeRoom (p : List ℕ) (last : ℕ) (level : Level) (end : ℕ) : Type 0 where
   pub formed : Formed p last
   pub rest : List Query
@@ -70,6 +72,7 @@ pub record TreeRoom (p : List ℕ) (last : ℕ) (level : Level) (end : ℕ) : Ty
   pub ends : TreeEnd p last rest tree
   pub room : length (textAt level tree) ≤ end
 
+-- whichever they are, the text of the top one is stored
 pub record TreePut (p : List ℕ) (last : ℕ) (level : Level) (out : List ℕ) (end : ℕ) (out′ : List ℕ) (r : Back) : Type 0 where
   pub all : (qs : List Query) (q : Query) → TreeEnd p last qs q → Laid (textAt level q) (stackRows qs) out end out′ r
 

@@ -59,9 +59,11 @@ abbrev pub behindVoice : List ℕ → ℕ → Bool
 behindVoice p zero = false
 behindVoice p (suc i) = isVoice (rowAt p i .kind)
 
+-- the row of a variable over a list
 abbrev pub voiceRow : ℕ → Row
 voiceRow list = record { kind = kind.Voice list }
 
+-- the row of a predicate
 abbrev pub conditionRow : Predicate → Row
 conditionRow c = record { kind = kind.Condition c }
 
@@ -80,6 +82,7 @@ pub record ListsEnd (p : List ℕ) (last : ℕ) (rest : List Row) (lists : List 
   pub some : 1 ≤ length lists
   pub shut : Shut rest
 
+-- there are such rows, and room for their text in front of `end`
 pub record ListsRoom (p : List ℕ) (last end : ℕ) : Type 0 where
   pub formed : Formed p last
   pub rest : List Row
@@ -87,6 +90,7 @@ pub record ListsRoom (p : List ℕ) (last end : ℕ) : Type 0 where
   pub ends : ListsEnd p last rest lists
   pub room : length (lead 91 lists) ≤ end
 
+-- whichever they are, their text is stored
 pub record ListsPut (p : List ℕ) (last : ℕ) (out : List ℕ) (end : ℕ) (out′ : List ℕ) (r : Back) : Type 0 where
   pub all : (rest : List Row) (lists : List ℕ) → ListsEnd p last rest lists → Laid (lead 91 lists) rest out end out′ r
 
@@ -96,6 +100,7 @@ pub record OpenEnd (p : List ℕ) (last : ℕ) (rest : List Row) (f : Pattern) :
   pub some : 1 ≤ length (f .vars)
   pub shut : Shut rest
 
+-- there are such rows, and room for their text in front of `end`
 pub record OpenRoom (p : List ℕ) (last end : ℕ) : Type 0 where
   pub formed : Formed p last
   pub rest : List Row
@@ -103,6 +108,7 @@ pub record OpenRoom (p : List ℕ) (last end : ℕ) : Type 0 where
   pub ends : OpenEnd p last rest pattern
   pub room : length (openText (figureOf pattern)) ≤ end
 
+-- whichever they are, their text is stored
 pub record OpenPut (p : List ℕ) (last : ℕ) (out : List ℕ) (end : ℕ) (out′ : List ℕ) (r : Back) : Type 0 where
   pub all : (rest : List Row) (f : Pattern) → OpenEnd p last rest f → Laid (openText (figureOf f)) rest out end out′ r
 
@@ -112,6 +118,7 @@ pub record PatternEnd (p : List ℕ) (last : ℕ) (rest : List Row) (f : Pattern
   pub some : 1 ≤ length (f .vars)
   pub shut : Shut rest
 
+-- there are such rows, and room for their text in front of `end`
 pub record PatternRoom (p : List ℕ) (last end : ℕ) : Type 0 where
   pub formed : Formed p last
   pub rest : List Row
@@ -119,5 +126,6 @@ pub record PatternRoom (p : List ℕ) (last end : ℕ) : Type 0 where
   pub ends : PatternEnd p last rest pattern
   pub room : length (figureText (figureOf pattern)) ≤ end
 
+-- whichever they are, their text is stored
 pub record PatternPut (p : List ℕ) (last : ℕ) (out : List ℕ) (end : ℕ) (out′ : List ℕ) (r : Back) : Type 0 where
   pub all : (rest : List Row) (f : Pattern) → PatternEnd p last rest f → Laid (figureText (figureOf f)) rest out end out′ r
