@@ -9,7 +9,8 @@ use super::reading::read_rows;
 
 // Reads a line as the rows of a plan, into the front of `out`. The first pass counts the rows.
 pub fn read(text: &[u8], out: &mut [u32]) -> Read
-    ensures { λ r. ⌜ (saidRead r ≡ readAnswer (now (text .entry)) (length (now (out .entry)))) × (now (out .exit) ≡ readOut (now (text .entry)) (now (out .entry))) ⌝ }
+    ensures { λ r. ⌜ saidRead r ≡ readAnswer (now (text .entry)) (length (now (out .entry))) ⌝ }
+    ensures { λ _. ⌜ now (out .exit) ≡ readOut (now (text .entry)) (now (out .entry)) ⌝ }
 {
     if 2048 < text.len() {
         return Read::Broken(2048);

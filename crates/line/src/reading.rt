@@ -2,7 +2,8 @@
 ghost use mathlib.Core.Path.{_≡_};
 ghost use Prim.Native.Nat.{_+_, _≤_, _<_};
 ghost use lib.ListN.{length};
-ghost use Rattle.line.specs.Inner.Reads.{LineRead, PartRead, ItemRead, WholeRead, pendingRows};
+ghost use Rattle.line.specs.Inner.Reads.{LineRead, PartRead, ItemRead, WholeRead};
+ghost use Rattle.line.specs.Inner.Reads.{pendingRows};
 ghost use Rattle.grammar.specs.Reading as grammar;
 ghost use Rattle.line.specs.Inner.Store.{stored};
 use super::figure::figure;
@@ -49,7 +50,8 @@ const WITHOUT: Words = Words {
 // Stores the row of an operator behind its second side; gives the number of rows.
 fn settle(out: &mut [u32], rows: usize, waiting: Pending) -> usize
     requires { ⌜ rows ≤ 4095 ⌝ }
-    ensures { λ r. ⌜ (now (out .exit) ≡ stored (now (out .entry)) rows (pendingRows waiting)) × (r ≡ rows + length (pendingRows waiting)) ⌝ }
+    ensures { λ _. ⌜ now (out .exit) ≡ stored (now (out .entry)) rows (pendingRows waiting) ⌝ }
+    ensures { λ r. ⌜ r ≡ rows + length (pendingRows waiting) ⌝ }
 {
     match waiting {
         Pending::Nothing => rows,

@@ -1,4 +1,5 @@
-// Reading a pattern (02: figure) byte by byte: the state of the reading, and what a byte makes of it.
+// Reading a pattern (02: figure) byte by byte: the state of the reading, and what a byte makes of
+// it.
 ghost use mathlib.Core.Path.{_≡_};
 ghost use Prim.Native.Nat.{_≤_, _<_};
 ghost use Rattle.grammar.specs.Grammar as grammar;
@@ -52,7 +53,8 @@ fn wide(x: u8) -> u32
     x as u32
 }
 
-// A number with one more digit, where the byte is one, no zero stands in front and the limit is kept.
+// A number with one more digit, where the byte is one, no zero stands in front and the limit is
+// kept.
 fn grow(number: Number, byte: u8, most: u32) -> Grown
     requires { ⌜ states.NumberMost 65536 number ⌝ }
     ensures { λ r. ⌜ r ≡ states.grownBy most number byte ⌝ }

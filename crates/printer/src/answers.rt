@@ -1,5 +1,5 @@
-// What writing a plan as a line answers. `specs/Answers.antt` gives the number and the values of each
-// case.
+// What writing a plan as a line answers. `specs/Answers.antt` gives the number and the values of
+// each case.
 use plan::Refusal;
 
 pub enum Written {
