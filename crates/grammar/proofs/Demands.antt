@@ -1,7 +1,5 @@
 -- Each statement of `specs/Demands.antt`, proved. Assumes nothing.
 use mathlib.Core.Path.{refl}
-use lib.ListN.{getD}
-use Rattle.seq.specs.Decimal.{decimal}
 use Rattle.seq.specs.Lists.{joined}
 use Rattle.seq.specs.Numbers.{run}
 use Rattle.plan.specs.Rows.{rowAt}

@@ -3,7 +3,7 @@
 --     written                     the text of a line
 --     Fits                        its numbers are as many, and as small, as the grammar asks
 --     LineText, Begins            a text is a line of the grammar; some line begins with it
-use Prim.Native.Nat.{ℕ, _+_, _<_, _≤_}
+use Prim.Native.Nat.{ℕ, _<_, _≤_}
 use mathlib.Core.Path.{_≡_}
 use mathlib.Core.List.{List, [], _∷_, _++_, map}
 use lib.ListN.{length, getD}

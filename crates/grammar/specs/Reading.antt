@@ -1,7 +1,7 @@
 -- Reading a text byte by byte. What has been read so far is data, `shown` is its text, and `step` reads one more byte or finds that no line
 -- of the grammar has it there. Assumes nothing.
-use Prim.Native.Nat.{ℕ, zero, suc, _+_, _-_, _*_}
-use mathlib.Core.Bool.{Bool, true, false, cond, _&&_}
+use Prim.Native.Nat.{ℕ, suc, _+_, _-_, _*_}
+use mathlib.Core.Bool.{Bool, true, cond, _&&_}
 use mathlib.Core.List.{List, [], _∷_, _++_}
 use mathlib.Core.Option.{Option, none, some}
 use lib.Dec.{eqb, leb, ltb}
@@ -9,7 +9,7 @@ use lib.ListN.{length}
 pub use Rattle.grammar.specs.declared.tokens.Number.{Number}
 pub use Rattle.grammar.specs.declared.tokens.Number.the-variants.{Fresh as fresh, Digits as digits}
 use Rattle.grammar.specs.Text.{lead, gapAfter}
-use Rattle.grammar.specs.Grammar.{Word, near, before, same, span, apart, letterOf, arity, mostOf, Condition, Figure, Joint, both, without, jointByte, Line, one, either, Part, alone, join, Item, figure, round, conditionText, openText, written, partText, itemText}
+use Rattle.grammar.specs.Grammar.{Word, near, before, same, span, apart, letterOf, arity, mostOf, Figure, Joint, both, without, jointByte, Line, one, either, Part, alone, join, Item, figure, round, openText, written, partText}
 
 abbrev pub valueOf : Number → ℕ
 valueOf fresh = 0

@@ -5,7 +5,6 @@ use mathlib.Core.List.{List}
 use lib.ListN.{length}
 use lib.Dec.{ltb}
 use Rattle.seq.specs.Refusals.{Said, refused, answered, laid}
-use Rattle.grammar.specs.Grammar.{Line}
 use Rattle.grammar.specs.Meaning.{lineRows}
 use Rattle.grammar.specs.Reading.{Outcome, whole, broken, deep, reading, outcome}
 use Rattle.grammar.specs.Words.{wordsOfLine}

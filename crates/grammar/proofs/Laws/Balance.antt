@@ -1,18 +1,17 @@
 -- The open brackets of what has been read are those that its text opens and does not close.
-use Prim.Native.Nat.{ℕ, zero, suc, _+_, _-_, _*_, _<_, _≤_}
+use Prim.Native.Nat.{ℕ, suc, _+_}
 use native.Mathlib.Omega.{arith}
 use mathlib.Core.Path.{_≡_, refl, sym, ap, _∙_, subst}
-use mathlib.Core.Bool.{Bool, true, false, cond, _&&_}
-use mathlib.Core.Logic.{⊎-elim, _⊎_, inl, inr}
-use mathlib.Core.List.{List, [], _∷_, _++_}
+use mathlib.Core.Bool.{Bool, true, false, cond}
+use mathlib.Core.List.{List, [], _∷_}
 use mathlib.Core.Option.{Option, none, some}
-use lib.Dec.{eqb, leb, ltb}
+use lib.Dec.{eqb, ltb}
 use lib.ListN.{length}
-use borrow.Author.Tests.{ltb-true, ltb-false, eqb-true, eqb-false, ne-eqb, eq-eqb}
+use borrow.Author.Tests.{eqb-true, ne-eqb}
 use Rattle.seq.specs.Lists.{keep, consIf}
 use Rattle.grammar.specs.Grammar as g
-use Rattle.grammar.specs.Grammar.{Word, Figure, Item, Line, arity, mostOf}
-use Rattle.grammar.specs.Reading.{Number, fresh, digits, grown, grows, Partial, listing, semicolon, lettered, counting, Next, goes, closes, stuck, firstLists, withCondition, behind, ending, stepIn, Place, first, next, Config, ready, inside, after, lineOf, placed, shut, within, step, openIn}
+use Rattle.grammar.specs.Grammar.{Figure, Item, Line, arity, mostOf}
+use Rattle.grammar.specs.Reading.{Number, fresh, digits, grows, Partial, listing, semicolon, lettered, counting, Next, goes, closes, stuck, firstLists, withCondition, behind, ending, stepIn, Place, first, next, Config, ready, inside, after, lineOf, placed, shut, within, step, openIn}
 use Rattle.grammar.proofs.Laws.Reading.{split, grows-tells}
 use Rattle.grammar.proofs.Laws.Steps.{Steps}
 

@@ -1,11 +1,8 @@
 -- The line of an accepted plan keeps to every limit, so that it is read as the plan.
-use Prim.Native.Nat.{ℕ, zero, suc, _+_, _-_, _*_, _/_, _%_, _^_, max, _<_, _≤_}
-use native.Mathlib.Nat.{pow-suc}
+use Prim.Native.Nat.{ℕ, zero, suc, _+_, _*_, _<_, _≤_}
 use native.Mathlib.Omega.{arith}
-use native.Mathlib.Numerals.{add-one}
 use mathlib.Core.Path.{_≡_, refl, sym, ap, ap₂, _∙_, subst}
-use mathlib.Core.Bool.{Bool, true, false, cond, _&&_}
-use mathlib.Core.Logic.{⊎-elim}
+use mathlib.Core.Bool.{Bool, true, cond}
 use mathlib.Core.List.{List, [], _∷_, _++_, map, append-assoc, append-nil}
 use mathlib.Core.Option.{Option, none, some}
 use lib.Dec.{ltb}
@@ -13,9 +10,8 @@ use lib.ListN.{length, getD, length-append, length-map, List·getD-map, List·ge
 use lib.Seq.{getD-append-add}
 use borrow.Author.Tests.{le-ltb, ltb-true}
 use Rattle.seq.specs.Lists.{joined}
-use Rattle.seq.proofs.Laws.Tests.{below-or, both}
-use Rattle.seq.proofs.Laws.Lists.{length-snoc, Each}
-use Rattle.seq.specs.Refusals.{Said, refused, answered}
+use Rattle.seq.proofs.Laws.Tests.{both}
+use Rattle.seq.proofs.Laws.Lists.{Each}
 use Rattle.plan.specs.declared.row.Predicate.{Predicate}
 use Rattle.plan.specs.declared.row.Predicate.the-variants.{Distance, Ordered, Samepara, Window, Proximity}
 use Rattle.plan.specs.declared.row.Operator.{Operator}
@@ -28,19 +24,19 @@ use Rattle.plan.specs.State.{namesBelow}
 use Rattle.plan.specs.Patterns.{Pattern, noRow, patternsFrom, patternsOf}
 use Rattle.plan.specs.Parts.{patternRows}
 use Rattle.plan.specs.Check.{sizes, Accepted}
-use Rattle.plan.specs.Accepted.{WellMade, Given, patternAt}
+use Rattle.plan.specs.Accepted.{WellMade, Given}
 use Rattle.plan.proofs.Laws.Check.{verdict-passed}
 use Rattle.plan.proofs.Laws.Accepted.{given}
 use Rattle.volume.specs.Layout.{listCount}
 use Rattle.volume.proofs.Laws.Check.{good}
-use Rattle.seq.specs.Decimal.{decimalF, decimal}
+use Rattle.seq.specs.Decimal.{decimal}
 use Rattle.grammar.specs.Text.{lead}
 use Rattle.grammar.specs.Grammar as g
-use Rattle.grammar.specs.Grammar.{Condition, Figure, Line, Part, Item, conditionText, openText, figureText, written, partText, itemText, ConditionFits, FigureFits, Fits, PartFits, ItemFits, noCondition, arity, mostOf, Within}
-use Rattle.grammar.specs.Brackets.{rounds, depth, partDepth, itemDepth}
-use Rattle.grammar.specs.Meaning.{lineRows, operatorRow}
+use Rattle.grammar.specs.Grammar.{Condition, Line, conditionText, openText, figureText, written, partText, itemText, ConditionFits, FigureFits, Fits, PartFits, ItemFits, noCondition, arity, mostOf, Within}
+use Rattle.grammar.specs.Brackets.{depth, partDepth, itemDepth}
+use Rattle.grammar.specs.Meaning.{operatorRow}
 use Rattle.grammar.specs.Query.{Query, leaf, node, queryRows, queryOf, conditionOf, figureOf, typed, planLine, planText}
-use Rattle.grammar.specs.Reading.{Config, after, start, step, openIn, Outcome, whole, deep, outcome, reading, ended, continued, lineOf}
+use Rattle.grammar.specs.Reading.{Config, after, start, openIn, whole, deep, outcome, reading, continued}
 use Rattle.grammar.specs.Words.{wordsBy, wordsOfLine}
 use Rattle.grammar.specs.Demands.{PlanLine}
 use Rattle.grammar.proofs.Laws.Query.{voice, condition, end, typed-back, typed-rows, fewest as fewest-rounds}

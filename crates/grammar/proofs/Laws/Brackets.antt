@@ -2,21 +2,20 @@
 --     opens-append, opens-open, opens-close    how many a text opens, piece by piece
 --     line-opens                               as many as the line has
 -- Assumes nothing.
-use Prim.Native.Nat.{ℕ, zero, suc, _+_, _-_, _*_, _/_, _%_, _<_, _≤_}
+use Prim.Native.Nat.{ℕ, zero, suc, _+_, _/_, _%_, _<_, _≤_}
 use native.Mathlib.Omega.{arith}
-use mathlib.Core.Path.{_≡_, refl, sym, ap, ap₂, _∙_, subst}
-use mathlib.Core.Bool.{Bool, true, false, cond}
+use mathlib.Core.Path.{_≡_, refl, ap, ap₂, _∙_}
+use mathlib.Core.Bool.{Bool}
 use mathlib.Core.Logic.{⊎-elim}
 use mathlib.Core.List.{List, [], _∷_, _++_, map}
-use lib.Dec.{eqb, ltb}
-use lib.ListN.{length}
+use lib.Dec.{eqb}
 use borrow.Author.Tests.{ne-eqb}
-use Rattle.seq.specs.Lists.{keep, consIf, joined}
+use Rattle.seq.specs.Lists.{keep, joined}
 use Rattle.seq.proofs.Laws.Tests.{below-or}
 use Rattle.seq.specs.Decimal.{digit, decimalF, decimal}
 use Rattle.grammar.specs.Text.{lead}
 use Rattle.grammar.specs.Grammar as g
-use Rattle.grammar.specs.Grammar.{Word, Condition, Figure, Joint, Line, Part, Item, letterOf, jointByte, conditionText, openText, figureText, written, partText, itemText, Fits}
+use Rattle.grammar.specs.Grammar.{Word, Condition, Figure, Joint, Line, Part, Item, letterOf, jointByte, conditionText, openText, figureText, written, partText, itemText}
 use Rattle.grammar.specs.Brackets.{opens, rounds, partRounds, itemRounds}
 use Rattle.grammar.proofs.Laws.Balance.{one, keep-cons}
 use Rattle.seq.proofs.Laws.Decimal.{decimal-one, decimal-more}

@@ -2,7 +2,7 @@
 use Prim.Native.Nat.{ℕ}
 use mathlib.Core.Path.{_≡_, refl}
 use mathlib.Core.List.{List, [], _∷_}
-use Rattle.grammar.specs.Grammar.{near, before, span, both, Line, one, either, alone, join, figure, round, written}
+use Rattle.grammar.specs.Grammar.{before, both, one, either, alone, join, figure, round}
 use Rattle.grammar.specs.Reading.{Outcome, whole, broken, deep, reading, outcome}
 
 abbrev told : Outcome → List ℕ

@@ -1,21 +1,18 @@
 -- How a reading ends, in terms of the grammar.
-use Prim.Native.Nat.{ℕ, zero, suc, _+_, _-_, _*_, max, _<_, _≤_}
+use Prim.Native.Nat.{ℕ, suc, _+_, _<_, _≤_}
 use native.Mathlib.Omega.{arith}
 use mathlib.Core.Path.{_≡_, refl, sym, ap, _∙_, subst}
-use mathlib.Core.Bool.{Bool, true, false, cond, _&&_}
-use mathlib.Core.Logic.{⊎-elim, _⊎_, inl, inr}
 use mathlib.Core.List.{List, [], _∷_, _++_, append-assoc, append-nil}
 use mathlib.Core.Option.{Option, none, some}
-use lib.Dec.{eqb, leb, ltb}
-use lib.ListN.{length, getD, take, drop, length-append}
-use borrow.Author.Tests.{ltb-true, ltb-false, lt-ltb, le-ltb}
-use Rattle.grammar.specs.Grammar as g
+use lib.Dec.{ltb}
+use lib.ListN.{length}
+use borrow.Author.Tests.{ltb-true, ltb-false}
 use Rattle.grammar.specs.Grammar.{Line, Part, Fits, written, LineText, Begins}
 use Rattle.grammar.specs.Brackets.{depth}
-use Rattle.grammar.specs.Reading.{Front, bare, eithers, Place, first, next, Config, ready, inside, after, start, lineOf, placed, step, openIn, Outcome, whole, broken, deep, ended, continued, outcome, reading, shown, openedText}
-use Rattle.grammar.proofs.Laws.Reading.{split, Sound, StepTold, step-told, line-text, line-fits, PlacesFit}
-use Rattle.grammar.proofs.Laws.Viable.{begins-shown, begins-back}
-use Rattle.grammar.proofs.Laws.Steps.{Steps, stay, steps-append, line-steps, frontOf, lastOf, line-again}
+use Rattle.grammar.specs.Reading.{Front, Config, ready, inside, after, start, lineOf, step, openIn, Outcome, whole, broken, deep, ended, continued, outcome, shown}
+use Rattle.grammar.proofs.Laws.Reading.{split, Sound, StepTold, step-told, PlacesFit}
+use Rattle.grammar.proofs.Laws.Viable.{begins-shown}
+use Rattle.grammar.proofs.Laws.Steps.{Steps, line-steps, frontOf, lastOf, line-again}
 
 -- the text of a way is told behind what stood in front
 pub steps-told : (n : ℕ) (c : Config) (s : List ℕ) (d : Config) → Steps n c s d → Sound c → (shown d ≡ shown c ++ s) × Sound d

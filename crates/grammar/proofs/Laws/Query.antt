@@ -1,13 +1,10 @@
 -- The laws of `specs/Query.antt` and of `specs/Meaning.antt`.
-use Prim.Native.Nat.{ℕ, zero, suc, _+_, _-_, _*_, _<_, _≤_, max}
+use Prim.Native.Nat.{ℕ, suc, _+_, _≤_}
 use native.Mathlib.Omega.{arith}
-use native.Mathlib.Numerals.{add-one}
 use mathlib.Core.Path.{_≡_, refl, sym, ap, ap₂, _∙_, subst}
-use mathlib.Core.Bool.{Bool, true, false, not, cond, _&&_, _||_}
-use mathlib.Core.List.{List, [], _∷_, _++_, map, append-assoc, append-nil, map-append}
-use lib.ListN.{length, getD}
-use Rattle.seq.specs.Numbers.{run}
-use Rattle.volume.specs.Layout.{listCount, listsOf}
+use mathlib.Core.Bool.{Bool, false, _||_}
+use mathlib.Core.List.{List, [], _∷_, _++_, map, append-assoc, append-nil}
+use lib.ListN.{getD}
 use Rattle.plan.specs.declared.row.Predicate.{Predicate}
 use Rattle.plan.specs.declared.row.Predicate.the-variants.{Distance, Ordered, Samepara, Window, Proximity}
 use Rattle.plan.specs.declared.row.Operator.{Operator}
@@ -15,13 +12,13 @@ use Rattle.plan.specs.declared.row.Operator.the-variants.{Both, Either, FirstNo
 use Rattle.plan.specs.declared.row.Kind.{Kind}
 use Rattle.plan.specs.declared.row.Kind.the-variants as kind
 use Rattle.plan.specs.declared.row.Row.{Row}
-use Rattle.plan.specs.Patterns.{Pattern, noRow, openAfter, answersAfter, answersFrom, answer, two, operate}
+use Rattle.plan.specs.Patterns.{Pattern, noRow, openAfter, answersAfter, answersFrom, answer, operate}
 use Rattle.plan.specs.Parts.{patternRows}
 use Rattle.fulltext.specs.Documents.{found, matching}
 use Rattle.grammar.specs.Grammar as g
-use Rattle.grammar.specs.Grammar.{Condition, Figure, Joint, Line, Part, Item}
+use Rattle.grammar.specs.Grammar.{Condition, Joint, Line, Part, Item}
 use Rattle.grammar.specs.Meaning.{predicateOf, patternOf, operatorOf, operatorRow, lineRows, partRows, itemRows, joinedBy, lineHolds, partHolds, itemHolds, lineTrue}
-use Rattle.grammar.specs.Query.{Query, leaf, node, queryRows, queryHolds, topTwo, queriesAfter, queriesFrom, queryOf, lineQuery, partQuery, itemQuery, conditionOf, figureOf, Typed, typed, typedItem, typedPart, typedLine}
+use Rattle.grammar.specs.Query.{Query, leaf, node, queryRows, queryHolds, topTwo, queriesAfter, queriesFrom, lineQuery, partQuery, itemQuery, conditionOf, figureOf, typed}
 use Rattle.grammar.specs.Brackets.{rounds, partRounds, itemRounds}
 
 -- the rows of a line are those of its tree

@@ -1,22 +1,21 @@
 -- What has been read is what the text says: the laws of `step` and `shown`.
-use Prim.Native.Nat.{ℕ, zero, suc, _+_, _-_, _*_, _<_, _≤_}
+use Prim.Native.Nat.{ℕ, zero, suc, _+_, _-_, _<_, _≤_}
 use native.Mathlib.Omega.{arith}
-use mathlib.Core.Path.{_≡_, refl, sym, ap, ap₂, _∙_}
+use mathlib.Core.Path.{_≡_, refl, sym, ap, _∙_}
 use mathlib.Core.Bool.{Bool, true, false, cond, _&&_}
-use mathlib.Core.Logic.{⊎-elim}
 use mathlib.Core.List.{List, [], _∷_, _++_, map, append-assoc, append-nil}
 use mathlib.Core.Option.{Option, none, some}
 use lib.Dec.{eqb, leb, ltb}
-use lib.ListN.{length, getD}
+use lib.ListN.{length}
 use borrow.Author.Tests.{ltb-true, ltb-false, leb-true, eqb-true}
 use Rattle.seq.specs.Lists.{joined}
 use Rattle.seq.proofs.Laws.Tests.{both}
-use Rattle.seq.proofs.Laws.Lists.{joined-append, each-snoc, length-snoc}
+use Rattle.seq.proofs.Laws.Lists.{each-snoc, length-snoc}
 use Rattle.seq.specs.Decimal.{digit, decimal}
 use Rattle.grammar.specs.Text.{lead, gapAfter}
 use Rattle.grammar.specs.Grammar as g
-use Rattle.grammar.specs.Grammar.{Word, Condition, Figure, Joint, Line, Part, Item, letterOf, arity, mostOf, conditionText, openText, figureText, written, partText, itemText, Within, ConditionFits, FigureFits, Fits, PartFits, ItemFits, noCondition, jointByte}
-use Rattle.grammar.specs.Reading.{Number, fresh, digits, valueOf, mayGrow, isDigit, grown, grows, Partial, listing, semicolon, lettered, counting, Next, goes, closes, stuck, firstLists, withCondition, behind, ending, stepIn, Front, bare, eithers, Place, first, next, Config, ready, inside, after, start, lineOf, placed, shut, within, step, numberText, partialText, frontText, placeText, openedText, shown}
+use Rattle.grammar.specs.Grammar.{Word, Condition, Figure, Joint, Part, Item, letterOf, arity, mostOf, conditionText, openText, figureText, written, partText, itemText, Within, ConditionFits, FigureFits, Fits, PartFits, ItemFits, noCondition, jointByte}
+use Rattle.grammar.specs.Reading.{Number, fresh, digits, mayGrow, isDigit, grown, grows, Partial, listing, semicolon, lettered, counting, Next, goes, closes, stuck, firstLists, withCondition, behind, ending, stepIn, Front, bare, eithers, Place, first, next, Config, ready, inside, after, lineOf, placed, shut, within, step, numberText, partialText, frontText, placeText, openedText, shown}
 use Rattle.seq.proofs.Laws.Decimal.{decimal-digit, decimal-grow}
 use Rattle.grammar.proofs.Laws.Text.{lead-behind}
 

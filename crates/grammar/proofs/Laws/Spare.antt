@@ -4,17 +4,15 @@
 --     tight-or-less      a line is that of its tree, or has a pair that could be dropped
 --     comes-back         a line's rows are written as the line itself exactly if none could be dropped
 -- Assumes nothing.
-use Prim.Native.Nat.{ℕ, zero, suc, _+_, _<_, _≤_}
+use Prim.Native.Nat.{ℕ, suc, _<_, _≤_}
 use native.Mathlib.Omega.{arith}
 use mathlib.Core.Path.{_≡_, refl, sym, ap, ap₂, _∙_, subst}
 use mathlib.Core.Logic.{_⊎_, inl, inr, ⊎-elim, _↔_}
 use mathlib.Core.List.{List, [], _∷_, _++_, map, append-assoc, append-nil}
 use lib.ListN.{length, getD}
-use Rattle.plan.specs.declared.row.Predicate.{Predicate}
 use Rattle.plan.specs.declared.row.Operator.the-variants.{Both, Either, FirstNotSecond}
-use Rattle.plan.specs.declared.row.Row.{Row}
 use Rattle.plan.specs.Patterns.{noRow}
-use Rattle.plan.specs.Rows.{rowsOf, planOf}
+use Rattle.plan.specs.Rows.{planOf}
 use Rattle.grammar.specs.Grammar as g
 use Rattle.grammar.specs.Grammar.{Word, Condition, Figure, Joint, Line, Part, Item, arity, jointByte, written, partText, itemText, ConditionFits, FigureFits, Fits, PartFits, ItemFits, noCondition}
 use Rattle.grammar.specs.Brackets.{opens, rounds, Dropped, Spare}

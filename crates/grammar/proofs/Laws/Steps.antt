@@ -1,14 +1,14 @@
 -- A line's text leads from the start to that line: the reading of `written`.
-use Prim.Native.Nat.{ℕ, zero, suc, _+_, _-_, _*_, _/_, _%_, max, _<_, _≤_}
+use Prim.Native.Nat.{ℕ, zero, suc, _+_, _/_, _%_, _<_, _≤_}
 use native.Mathlib.Omega.{arith}
 use mathlib.Core.Path.{_≡_, refl, sym, ap, _∙_, subst}
-use mathlib.Core.Bool.{Bool, true, false, cond, _&&_}
+use mathlib.Core.Bool.{true}
 use mathlib.Core.Logic.{⊎-elim}
 use mathlib.Core.List.{List, [], _∷_, _++_, map, append-assoc, append-nil}
-use mathlib.Core.Option.{Option, none, some}
-use lib.Dec.{eqb, leb, ltb}
-use lib.ListN.{length, getD, length-append}
-use borrow.Author.Tests.{ltb-true, ltb-false, lt-ltb, le-ltb, le-leb}
+use mathlib.Core.Option.{some}
+use lib.Dec.{leb}
+use lib.ListN.{length, getD}
+use borrow.Author.Tests.{lt-ltb, le-ltb, le-leb}
 use Rattle.seq.specs.Lists.{joined}
 use Rattle.seq.proofs.Laws.Tests.{below-or, both-true}
 use Rattle.seq.proofs.Laws.Lists.{length-snoc}
@@ -17,7 +17,7 @@ use Rattle.grammar.specs.Text.{lead}
 use Rattle.grammar.specs.Grammar as g
 use Rattle.grammar.specs.Grammar.{Word, Condition, Figure, Joint, Line, Part, Item, arity, mostOf, letterOf, jointByte, conditionText, openText, figureText, written, partText, itemText, Within, ConditionFits, FigureFits, PartFits, ItemFits, Fits, noCondition}
 use Rattle.grammar.specs.Brackets.{depth, partDepth, itemDepth}
-use Rattle.grammar.specs.Reading.{Number, fresh, digits, grown, grows, mayGrow, isDigit, Partial, listing, semicolon, lettered, counting, Next, goes, closes, stuck, firstLists, withCondition, behind, ending, stepIn, Front, bare, eithers, Place, first, next, Config, ready, inside, after, start, lineOf, placed, shut, within, step, openIn}
+use Rattle.grammar.specs.Reading.{Number, fresh, digits, grown, grows, mayGrow, isDigit, Partial, listing, semicolon, lettered, counting, Next, goes, closes, firstLists, withCondition, behind, stepIn, Front, bare, eithers, Place, first, next, Config, ready, inside, after, lineOf, placed, within, step, openIn}
 use Rattle.seq.proofs.Laws.Decimal.{decimal-one, decimal-more}
 
 -- from c the text s leads to d, with never more than n brackets open

@@ -1,20 +1,18 @@
 -- Whatever has been read, some line of the grammar begins with it.
-use Prim.Native.Nat.{ℕ, zero, suc, _+_, _-_, _*_, _<_, _≤_}
+use Prim.Native.Nat.{ℕ, zero, suc, _+_, _<_, _≤_}
 use native.Mathlib.Omega.{arith}
 use mathlib.Core.Path.{_≡_, refl, sym, ap, _∙_, subst}
-use mathlib.Core.Bool.{Bool, true, false, cond, _&&_}
 use mathlib.Core.Logic.{⊎-elim}
 use mathlib.Core.List.{List, [], _∷_, _++_, append-assoc, append-nil}
-use mathlib.Core.Option.{Option, none, some}
-use lib.Dec.{eqb, leb, ltb}
-use lib.ListN.{length, getD}
-use borrow.Author.Tests.{ltb-true, ltb-false, lt-ltb, le-ltb, le-leb}
+use mathlib.Core.Option.{some}
+use lib.ListN.{length}
+use borrow.Author.Tests.{lt-ltb, le-ltb, le-leb}
 use Rattle.seq.proofs.Laws.Tests.{below-or}
 use Rattle.seq.proofs.Laws.Lists.{length-snoc}
 use Rattle.grammar.specs.Grammar as g
-use Rattle.grammar.specs.Grammar.{Word, Figure, Line, Part, Item, arity, mostOf, written, partText, PartFits, Fits, LineText, Begins}
-use Rattle.grammar.specs.Reading.{Number, fresh, digits, grown, grows, Partial, listing, semicolon, lettered, counting, Next, goes, closes, stuck, firstLists, withCondition, behind, ending, stepIn, Front, bare, eithers, Place, first, next, Config, ready, inside, after, start, lineOf, placed, shut, within, step, frontText, placeText, openedText, shown}
-use Rattle.grammar.proofs.Laws.Reading.{FrontFits, PlaceFits, PlacesFit, PartialFits, Sound, StepTold, step-told, line-text, line-fits}
+use Rattle.grammar.specs.Grammar.{Word, Figure, Part, Item, arity, mostOf, written, partText, Begins}
+use Rattle.grammar.specs.Reading.{fresh, digits, grows, Partial, listing, semicolon, lettered, counting, Next, closes, firstLists, withCondition, behind, stepIn, Front, Place, first, next, Config, ready, inside, after, lineOf, placed, within, step, frontText, shown}
+use Rattle.grammar.proofs.Laws.Reading.{Sound, StepTold, step-told, line-text, line-fits}
 
 pub begins-back : (s k : List ℕ) → Begins (s ++ k) → Begins s
 begins-back s k h = record { rest = k ++ (h .rest); whole = rw append-assoc at (h .whole) }

@@ -7,7 +7,6 @@
 use Prim.Native.Nat.{ℕ, suc, _+_, _-_, _*_, _/_, _%_, _<_, _≤_}
 use native.Mathlib.Omega.{arith}
 use mathlib.Core.Path.{_≡_, refl, ap, ap₂, _∙_}
-use mathlib.Core.Bool.{Bool}
 use mathlib.Core.List.{List, [], _∷_, _++_, map}
 use lib.ListN.{length, getD, length-append}
 use Rattle.seq.specs.Lists.{keep, joined}
@@ -17,7 +16,6 @@ use Rattle.seq.proofs.Laws.Numbers.{run-ext}
 use Rattle.volume.specs.Layout.{listsOf}
 use Rattle.plan.specs.declared.row.Kind.{Kind}
 use Rattle.plan.specs.declared.row.Kind.the-variants as kind
-use Rattle.plan.specs.declared.row.Predicate.{Predicate}
 use Rattle.plan.specs.declared.row.Predicate.the-variants.{Distance, Ordered, Samepara, Window, Proximity}
 use Rattle.plan.specs.declared.row.Operator.{Operator}
 use Rattle.plan.specs.declared.row.Operator.the-variants.{Both, Either, FirstNotSecond}

@@ -1,49 +1,29 @@
 -- The line of an accepted plan: it says the plan, keeps to the grammar's limits, and is read as the plan.
-use Prim.Native.Nat.{ℕ, zero, suc, _+_, _-_, _*_, _/_, _%_, _^_, max, _<_, _≤_}
-use native.Mathlib.Nat.{pow-suc}
+use Prim.Native.Nat.{ℕ, _+_, _≤_}
 use native.Mathlib.Omega.{arith}
-use native.Mathlib.Numerals.{add-one}
-use mathlib.Core.Path.{_≡_, refl, sym, ap, ap₂, _∙_, subst}
-use mathlib.Core.Bool.{Bool, true, false, cond, true≢false, _&&_}
-use mathlib.Core.Logic.{⊎-elim}
+use mathlib.Core.Path.{_≡_, refl, sym, ap, _∙_}
+use mathlib.Core.Bool.{false, true≢false}
 use mathlib.Core.List.{List, [], _∷_, _++_, map, append-assoc, append-nil, map-append}
-use mathlib.Core.Option.{Option, none, some}
-use lib.Dec.{ltb}
-use lib.ListN.{length, getD, length-append, length-map, List·getD-map}
-use borrow.Author.Tests.{le-ltb, ltb-true}
-use Rattle.seq.specs.Lists.{joined}
-use Rattle.seq.specs.Numbers.{run}
-use Rattle.seq.proofs.Laws.Tests.{below-or, both}
-use Rattle.seq.proofs.Laws.Lists.{length-snoc, Each, each-cons}
+use lib.ListN.{length, getD}
+use Rattle.seq.proofs.Laws.Lists.{length-snoc}
 use Rattle.plan.specs.declared.row.Predicate.{Predicate}
-use Rattle.plan.specs.declared.row.Predicate.the-variants.{Distance, Ordered, Samepara, Window, Proximity}
 use Rattle.plan.specs.declared.row.Operator.{Operator}
-use Rattle.plan.specs.declared.row.Operator.the-variants.{Both, Either, FirstNotSecond}
 use Rattle.plan.specs.declared.row.Kind.{Kind}
 use Rattle.plan.specs.declared.row.Kind.the-variants as kind
 use Rattle.plan.specs.declared.row.Row.{Row}
 use Rattle.plan.specs.declared.state.State.{State}
-use Rattle.plan.specs.Rows.{rowCount, rowAt, rowsOf, kindAt, aAt, bAt, cAt, planOf, InRange, formWrongAt}
-use Rattle.plan.specs.State.{initial, after, afterAll, stateAt, namesBelow, takes}
-use Rattle.plan.specs.Patterns.{Pattern, noRow, openAfter, closed, patternsFrom, patternsOf}
+use Rattle.plan.specs.Rows.{rowsOf}
+use Rattle.plan.specs.State.{initial, after, afterAll, stateAt, takes}
+use Rattle.plan.specs.Patterns.{Pattern, noRow, openAfter, closed}
 use Rattle.plan.specs.Parts.{patternRows}
-use Rattle.plan.specs.Accepted.{WellMade}
-use Rattle.plan.proofs.Laws.Rows.{range-of}
-use Rattle.plan.proofs.Laws.State.{stateAt-first, stateAt-next, condition-stands, end-stands, operator-stands, takes-two}
+use Rattle.plan.proofs.Laws.State.{condition-stands, operator-stands, takes-two}
 use Rattle.plan.proofs.Laws.Patterns.{Passes, PassAll}
 use Rattle.plan.proofs.Laws.Passed.{Passed}
 use Rattle.plan.proofs.Laws.Given.{all-pass}
-use Rattle.seq.specs.Decimal.{decimalF, decimal}
-use Rattle.grammar.specs.Text.{lead}
-use Rattle.grammar.specs.Grammar as g
-use Rattle.grammar.specs.Grammar.{Condition, Figure, Line, Part, Item, conditionText, openText, figureText, written, partText, itemText, ConditionFits, FigureFits, Fits, noCondition, arity, mostOf, Within}
-use Rattle.grammar.specs.Brackets.{depth, partDepth, itemDepth}
-use Rattle.grammar.specs.Meaning.{lineRows, operatorRow}
-use Rattle.grammar.specs.Query.{Query, leaf, node, queryRows, stackRows, topTwo, queriesAfter, queriesFrom, queryOf, conditionOf, figureOf, typed, planLine, planText}
-use Rattle.grammar.specs.Reading.{Config, after as behind, start, step, openIn, Outcome, whole, outcome, reading, ended, continued, bare, lineOf}
-use Rattle.grammar.proofs.Laws.Query.{voice, condition, end, query-alone, typed-rows}
-use Rattle.seq.proofs.Laws.Decimal.{decimal-one, decimal-more}
-use Rattle.grammar.proofs.Laws.Steps.{Steps, line-steps, frontOf, lastOf, line-again}
+use Rattle.grammar.specs.Grammar.{Condition}
+use Rattle.grammar.specs.Meaning.{operatorRow}
+use Rattle.grammar.specs.Query.{Query, leaf, queryRows, stackRows, topTwo, queriesAfter, queriesFrom, queryOf}
+use Rattle.grammar.proofs.Laws.Query.{voice, condition, end}
 
 -- the rows of a pattern without END, and the pattern left open behind rows
 abbrev openRows : Pattern → List Row

@@ -1,20 +1,14 @@
 -- The call that reads a line: a law for each way through it.
-use Prim.Native.Nat.{ℕ, zero, suc, _+_, _-_, _*_, _<_, _≤_}
+use Prim.Native.Nat.{ℕ, suc, _+_, _*_, _<_, _≤_}
 use native.Mathlib.Numerals.{add-one, add-two, add-three}
 use native.Mathlib.Omega.{arith}
 use mathlib.Core.Path.{_≡_, refl, sym, ap, ap₂, _∙_, subst}
-use mathlib.Core.Bool.{Bool, true, false, cond}
-use mathlib.Core.List.{List, [], _∷_, _++_, append-assoc, append-nil, map}
-use lib.Dec.{leb, ltb}
+use mathlib.Core.Bool.{Bool, cond}
+use mathlib.Core.List.{List, [], _∷_, _++_, append-assoc}
 use lib.ListN.{length, set, drop, length-append}
-use lib.Seq.{drop-append-seam}
 use borrow.Author.Tests.{le-leb, lt-ltb, le-ltb}
 use Rattle.seq.specs.Lists.{joined}
 use Rattle.seq.specs.Refusals.{Said, refused, answered, laid}
-use Rattle.plan.specs.declared.row.Kind.{Kind}
-use Rattle.plan.specs.declared.row.Kind.the-variants as kind
-use Rattle.plan.specs.declared.row.Predicate.the-variants.{Distance, Ordered, Samepara, Window, Proximity}
-use Rattle.plan.specs.declared.row.Operator.the-variants.{Both, Either, FirstNotSecond}
 use Rattle.plan.specs.declared.row.Row.{Row}
 use Rattle.plan.specs.Rows.{wordsOf, planOf}
 use Rattle.line.specs.declared.steps.Words.{Words}

@@ -1,8 +1,8 @@
 -- Reading a line answers the first refusal that applies.
-use Prim.Native.Nat.{ℕ, zero, suc, _+_, _-_, _*_, _<_, _≤_}
+use Prim.Native.Nat.{ℕ, _+_, _*_, _<_, _≤_}
 use native.Mathlib.Omega.{arith}
 use mathlib.Core.Path.{_≡_, refl, sym, ap, _∙_, subst}
-use mathlib.Core.Bool.{Bool, true, false, cond, true≢false}
+use mathlib.Core.Bool.{true, cond, true≢false}
 use mathlib.Core.Logic.{⊎-elim, _⊎_, inl, inr}
 use mathlib.Core.List.{List, [], _∷_}
 use lib.Dec.{ltb}
@@ -15,13 +15,13 @@ use Rattle.seq.proofs.Laws.Refusals.{First, rung, end, first-refusal}
 use Rattle.seq.proofs.Laws.Refusals as r
 use Rattle.seq.proofs.Laws.Decides.{Decides, same-decides, ltb-decides}
 use Rattle.seq.proofs.Laws.Ladder.{Clear, first-of, single}
-use Rattle.grammar.specs.Grammar.{Line, Fits, written, LineText, Begins}
+use Rattle.grammar.specs.Grammar.{Line, Fits, written, LineText}
 use Rattle.grammar.specs.Meaning.{lineRows}
 use Rattle.line.specs.Refusals.{Breaks, Deep, ReadApplies, tooLong, breaks, tooDeep, tooMany, short, readStages}
-use Rattle.grammar.specs.Reading.{Outcome, whole, broken, deep, outcome, reading, start, after}
+use Rattle.grammar.specs.Reading.{Outcome, whole, broken, deep, reading, start, after}
 use Rattle.grammar.proofs.Laws.Steps.{Steps}
 use Rattle.line.specs.Read.{readBy, readAnswer, sizeBy, sizeOfLine}
-use Rattle.grammar.proofs.Laws.Outcome.{Stopped, Opened, Wholly, OutcomeTold, outcome-told, unambiguous, read-begins}
+use Rattle.grammar.proofs.Laws.Outcome.{Stopped, Opened, Wholly, OutcomeTold, outcome-told, unambiguous}
 use Rattle.line.proofs.Laws.Refusals.{broken-breaks, not-deep, not-broken, stopped-steps, opened-deep, opened-steps, whole-line}
 
 module _ (s : List ℕ) (room : ℕ) where

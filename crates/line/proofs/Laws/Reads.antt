@@ -1,16 +1,16 @@
 -- A law for each way through the readers.
-use Prim.Native.Nat.{ℕ, zero, suc, _+_, _-_, _*_, _<_, _≤_}
+use Prim.Native.Nat.{ℕ, suc, _+_, _*_, _<_, _≤_}
 use native.Mathlib.Numerals.{add-one}
 use native.Mathlib.Omega.{arith}
 use mathlib.Core.Path.{_≡_, refl, sym, ap, ap₂, _∙_, subst}
-use mathlib.Core.Bool.{Bool, true, false, cond, _&&_}
-use mathlib.Core.Logic.{⊎-elim, _≢_}
+use mathlib.Core.Bool.{Bool, true, false, cond}
+use mathlib.Core.Logic.{_≢_}
 use mathlib.Core.List.{List, [], _∷_, _++_, append-assoc, append-nil}
 use mathlib.Core.Option.{Option, none, some}
-use lib.Dec.{eqb, leb, ltb}
+use lib.Dec.{eqb, leb}
 use lib.ListN.{length, getD, drop, set, drop-of-length-le, length-append, length-set}
 use lib.Seq.{drop-cons}
-use borrow.Author.Tests.{lt-ltb, le-ltb, eq-eqb, ne-eqb}
+use borrow.Author.Tests.{lt-ltb, le-ltb, ne-eqb}
 use Rattle.line.specs.declared.steps.State.{State}
 use Rattle.line.specs.declared.steps.State.the-variants.{Listing}
 use Rattle.line.specs.declared.steps.Next.{Next}
@@ -20,10 +20,10 @@ use Rattle.line.specs.declared.reading.Pending.{Pending}
 use Rattle.line.specs.declared.reading.Pending.the-variants as pending
 use Rattle.plan.specs.declared.row.Kind.the-variants as kind
 use Rattle.plan.specs.declared.row.Row.{Row}
-use Rattle.plan.specs.declared.row.Operator.the-variants.{Both, Either, FirstNotSecond}
+use Rattle.plan.specs.declared.row.Operator.the-variants.{Both, Either}
 use Rattle.plan.specs.Parts.{patternRows}
-use Rattle.grammar.specs.Meaning.{patternOf, operatorOf, operatorRow, lineRows, partRows, itemRows}
-use Rattle.line.specs.Inner.Store.{putWords, stored, openRows, partialRows}
+use Rattle.grammar.specs.Meaning.{patternOf, lineRows, partRows, itemRows}
+use Rattle.line.specs.Inner.Store.{putWords, stored, partialRows}
 use Rattle.line.specs.declared.reading.Reached.{Reached}
 use Rattle.line.specs.declared.reading.Reached.the-variants.{At, Broken, Deep}
 use Rattle.grammar.specs.Grammar as g
@@ -31,13 +31,13 @@ use Rattle.grammar.specs.declared.tokens.Word.the-variants as word
 use Rattle.grammar.specs.Grammar.{Figure, Line, Part, Item, arity, mostOf}
 use Rattle.grammar.specs.declared.tokens.Word.{Word}
 use Rattle.grammar.specs.Reading as reading
-use Rattle.grammar.specs.Reading.{Partial, listing, semicolon, lettered, counting, goes, closes, stuck, stepIn, Front, bare, eithers, Place, first, next, Config, ready, inside, after, start, lineOf, placed, shut, within, step, openIn, Outcome, whole, broken, deep, ended, continued, outcome, partialText}
+use Rattle.grammar.specs.Reading.{Partial, listing, semicolon, lettered, counting, goes, closes, stuck, stepIn, Front, bare, eithers, Place, first, next, Config, ready, inside, after, start, lineOf, placed, shut, within, step, openIn, broken, deep, ended, continued, outcome, partialText}
 use Rattle.grammar.specs.declared.tokens.Number.{Number}
 use Rattle.grammar.specs.declared.tokens.Number.the-variants.{Fresh as fresh, Digits as digits}
 use Rattle.line.specs.Inner.States.{NumberMost, StateMost, stepState, stateOf, wordsIn}
 use Rattle.line.specs.Inner.Reads.{from, FigureAt, FigureRead, ItemAt, ItemRead, Stored, frontOf, joins, partBefore, pendingRows, waits, frontRows, PartAt, PartRead, LineAt, LineRead, WholeRead}
 use Rattle.grammar.proofs.Laws.Reading.{PartialFits, NextTold, stepIn-told, NumberFits}
-use Rattle.line.proofs.Laws.States.{step-follows, Follows, Going, Emitting, Closing}
+use Rattle.line.proofs.Laws.States.{step-follows, Follows}
 
 -- one byte of a text
 module _ (s : List ℕ) (c : Config) (q : ℕ) where

@@ -2,30 +2,28 @@
 --     broken-breaks, broken-first     a reading that is broken off at e breaks the grammar there, and no bracket is opened too deep before
 --     deep-deep, deep-begins          one that meets a ninth bracket at e
 --     whole-line                      one that comes to an end
-use Prim.Native.Nat.{ℕ, zero, suc, _+_, _-_, _*_, _<_, _≤_}
+use Prim.Native.Nat.{ℕ, _+_, _<_, _≤_}
 use native.Mathlib.Numerals.{add-one}
 use native.Mathlib.Omega.{arith}
 use mathlib.Core.Path.{_≡_, refl, sym, ap, _∙_, subst}
-use mathlib.Core.Bool.{Bool, true, false, cond, _&&_}
-use mathlib.Core.Logic.{⊎-elim, _⊎_, inl, inr}
+use mathlib.Core.Bool.{true, false}
+use mathlib.Core.Logic.{⊎-elim}
 use mathlib.Core.List.{List, [], _∷_, _++_, append-assoc}
-use mathlib.Core.Option.{Option, none, some, Option·none-ne-some}
-use lib.Dec.{eqb, leb, ltb}
+use mathlib.Core.Option.{none, some, Option·none-ne-some}
+use lib.Dec.{eqb}
 use lib.ListN.{length, getD, take, drop, length-append, take-append-drop}
-use lib.Seq.{take-at, getD-at, take-suc, take-append-le, take-take, length-take-le}
-use borrow.Author.Tests.{eqb-true, eq-eqb}
-use Rattle.seq.specs.Lists.{keep}
+use lib.Seq.{take-at, getD-at, take-suc, take-take}
+use borrow.Author.Tests.{eqb-true}
 use Rattle.seq.proofs.Laws.Lists.{keep-snoc, length-snoc}
 use Rattle.seq.proofs.Laws.Tests.{true-or}
-use Rattle.grammar.specs.Grammar as g
-use Rattle.grammar.specs.Grammar.{Line, Part, Fits, written, LineText, Begins}
-use Rattle.grammar.specs.Brackets.{opens, closes, depth}
+use Rattle.grammar.specs.Grammar.{Line, Fits, written, LineText, Begins}
+use Rattle.grammar.specs.Brackets.{depth}
 use Rattle.line.specs.Refusals.{Breaks, Deep}
-use Rattle.grammar.specs.Reading.{Config, after, start, lineOf, step, openIn, Outcome, whole, broken, deep, outcome, reading, shown}
+use Rattle.grammar.specs.Reading.{Config, after, start, step, openIn, whole, shown}
 use Rattle.grammar.proofs.Laws.Reading.{line-text, line-fits}
 use Rattle.grammar.proofs.Laws.Steps.{Steps, hop, steps-append, frontOf, lastOf}
 use Rattle.grammar.proofs.Laws.Balance.{one, Balanced, step-balanced, steps-balanced}
-use Rattle.grammar.proofs.Laws.Outcome.{Stopped, Opened, Wholly, Final, Stops, OutcomeTold, outcome-told, steps-prefix, steps-same, steps-open, from-start, text-steps, read-begins, begins-read}
+use Rattle.grammar.proofs.Laws.Outcome.{Stopped, Opened, Wholly, Final, Stops, steps-prefix, steps-same, steps-open, from-start, text-steps, read-begins, begins-read}
 
 -- a beginning of what can be read can be read
 pub steps-take : (n : ℕ) (a : List ℕ) (d : Config) (k : ℕ) → Steps n start a d → (x : Config) × Steps n start (take k a) x

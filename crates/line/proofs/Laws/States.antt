@@ -1,20 +1,18 @@
 -- The laws of `specs/States.antt`, a law for each way through the code, and how the states follow the reading.
 use Prim.Native.Nat.{ℕ, zero, suc, _+_, _-_, _*_, _<_, _≤_}
 use native.Mathlib.Omega.{arith}
-use mathlib.Core.Path.{_≡_, refl, sym, ap, ap₂, _∙_, subst}
-use mathlib.Core.Bool.{Bool, true, false, cond, _&&_}
-use mathlib.Core.Logic.{⊎-elim}
+use mathlib.Core.Path.{_≡_, refl, sym, ap, _∙_, subst}
+use mathlib.Core.Bool.{Bool, true, false, cond}
 use mathlib.Core.List.{List, [], _∷_, _++_, map, map-append, append-assoc, append-nil}
-use lib.Dec.{eqb, leb, ltb}
+use lib.Dec.{eqb, ltb}
 use lib.ListN.{length, getD}
 use borrow.Author.Tests.{lt-ltb, le-ltb, le-leb, lt-leb, eq-eqb, ne-eqb, ltb-true, ltb-false}
-use Rattle.seq.proofs.Laws.Lists.{length-snoc}
 use Rattle.grammar.specs.declared.tokens.Word.{Word}
 use Rattle.grammar.specs.declared.tokens.Word.the-variants as word
 use Rattle.grammar.specs.declared.tokens.Number.{Number}
 use Rattle.grammar.specs.declared.tokens.Number.the-variants.{Fresh, Digits}
 use Rattle.line.specs.declared.steps.State.{State}
-use Rattle.line.specs.declared.steps.State.the-variants.{Listing, Semicolon, Lettered, Counting}
+use Rattle.line.specs.declared.steps.State.the-variants.{Listing, Counting}
 use Rattle.line.specs.declared.steps.Next.{Next}
 use Rattle.line.specs.declared.steps.Next.the-variants.{Goes, Emits, Closes, Stuck}
 use Rattle.line.specs.declared.steps.Words.{Words}
@@ -24,13 +22,12 @@ use Rattle.plan.specs.declared.row.Row.{Row}
 use Rattle.plan.specs.Parts.{patternRows}
 use Rattle.grammar.specs.Meaning.{patternOf, predicateBy, predicateOf}
 use Rattle.line.specs.Inner.Store.{openRows, partialRows}
-use Rattle.line.specs.declared.steps.Grown.{Grown}
 use Rattle.line.specs.declared.steps.Grown.the-variants.{Value, Not}
 use Rattle.grammar.specs.Grammar.{Condition, Figure, arity, mostOf}
 use Rattle.grammar.specs.Reading as reading
 use Rattle.grammar.specs.Reading.{grown, grows, stepIn}
-use Rattle.line.specs.Inner.States.{NumberMost, LastMost, StateMost, grownBy, endingState, stepListing, stepSemicolon, stepCounting, stepState, stateOf, wordsIn, voiceWords, conditionWords, anotherState}
-use Rattle.grammar.proofs.Laws.Reading.{split, PartialFits}
+use Rattle.line.specs.Inner.States.{NumberMost, LastMost, grownBy, endingState, stepListing, stepCounting, stepState, stateOf, wordsIn, voiceWords, conditionWords, anotherState}
+use Rattle.grammar.proofs.Laws.Reading.{PartialFits}
 
 module _ (most : ℕ) (b : ℕ) where
   pub grow-below : (x : Number) → b < 48 → grownBy most x b ≡ Not

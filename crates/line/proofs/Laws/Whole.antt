@@ -2,33 +2,27 @@
 --     read-call         reading answers the first refusal, and what becomes of the buffer
 --     read-answered     what an answer of reading says of the text
 -- Assumes nothing.
-use Prim.Native.Nat.{ℕ, _*_, _<_, _≤_}
+use Prim.Native.Nat.{ℕ, _*_, _≤_}
 use native.Mathlib.Omega.{arith}
-use mathlib.Core.Path.{_≡_, refl, sym, ap, ap₂, _∙_, subst}
-use mathlib.Core.Bool.{Bool, true, false, cond}
+use mathlib.Core.Path.{_≡_, refl, sym, ap, _∙_, subst}
 use mathlib.Core.Logic.{_↔_}
-use mathlib.Core.List.{List, _++_}
+use mathlib.Core.List.{List}
 use lib.Dec.{ltb}
-use lib.ListN.{length, drop}
-use borrow.Author.Tests.{le-ltb, ltb-false}
-use Rattle.seq.specs.Refusals.{Said, refused, answered, laid}
-use Rattle.seq.proofs.Laws.Numbers.{length-run}
+use lib.ListN.{length}
+use borrow.Author.Tests.{ltb-false}
+use Rattle.seq.specs.Refusals.{refused, answered, laid}
 use Rattle.seq.proofs.Laws.Refusals.{laid-refused, laid-answered, past, not-both, same-answer}
-use Rattle.volume.specs.Layout.{listsOf}
-use Rattle.plan.specs.Check.{sizes, verdict, Accepted}
-use Rattle.plan.specs.Rows.{rowCount, rowAt, rowsOf, planOf}
-use Rattle.plan.proofs.Laws.Accepted.{given}
+use Rattle.plan.specs.Rows.{rowsOf, planOf}
 use Rattle.fulltext.specs.Documents.{work}
 use Rattle.grammar.specs.Grammar.{Line, Fits, written}
 use Rattle.grammar.specs.Brackets.{Spare}
-use Rattle.grammar.specs.Meaning.{lineRows, lineTrue}
-use Rattle.grammar.specs.Query.{planLine, planText}
-use Rattle.grammar.specs.Reading.{Outcome, whole, broken, deep, outcome, reading, start}
+use Rattle.grammar.specs.Meaning.{lineRows}
+use Rattle.grammar.specs.Query.{planText}
+use Rattle.grammar.specs.Reading.{Outcome, whole, broken, deep, reading, start}
 use Rattle.grammar.specs.Words.{wordsBy, wordsOfLine}
 use Rattle.grammar.proofs.Laws.Outcome.{OutcomeTold, outcome-told}
 use Rattle.grammar.proofs.Laws.Words.{plan-length, line-back, line-truth}
 use Rattle.grammar.proofs.Laws.Spare.{comes-back}
-use Rattle.grammar.proofs.Laws.Bounds.{accepted-line}
 use Rattle.line.specs.Read.{readBy, readAnswer, readOut}
 use Rattle.line.specs.Demands.{ReadCall, Answered}
 use Rattle.line.proofs.Laws.Refusals.{whole-line}

@@ -3,7 +3,7 @@
 use Prim.Native.Nat.{ℕ, _+_, _<_, _≤_}
 use mathlib.Core.Path.{_≡_}
 use mathlib.Core.Logic.{_≢_}
-use mathlib.Core.List.{List, [], _∷_, _++_}
+use mathlib.Core.List.{List, [], _++_}
 use lib.ListN.{length, getD, drop}
 use Rattle.plan.specs.declared.row.Row.{Row}
 use Rattle.plan.specs.declared.row.Operator.the-variants.{Both, Either, FirstNotSecond}
@@ -12,9 +12,9 @@ use Rattle.line.specs.declared.reading.Reached.{Reached}
 use Rattle.line.specs.declared.reading.Reached.the-variants.{At, Broken, Deep}
 use Rattle.line.specs.declared.reading.Pending.{Pending}
 use Rattle.line.specs.declared.reading.Pending.the-variants as pending
-use Rattle.grammar.specs.Grammar.{Figure, Line, Part, Item, figure, both, without}
+use Rattle.grammar.specs.Grammar.{Figure, Part, Item, figure, both, without}
 use Rattle.grammar.specs.Meaning.{patternOf, operatorRow, lineRows, partRows, itemRows}
-use Rattle.grammar.specs.Reading.{listing, Front, bare, eithers, Place, first, next, Config, ready, inside, after, lineOf, placed, Outcome, whole, broken, deep, outcome, reading}
+use Rattle.grammar.specs.Reading.{listing, Front, bare, eithers, Place, first, next, Config, ready, inside, after, lineOf, placed, Outcome, whole, broken, deep, outcome}
 use Rattle.grammar.specs.declared.tokens.Number.the-variants.{Fresh as fresh}
 use Rattle.line.specs.Inner.Store.{stored}
 

@@ -1,8 +1,6 @@
 -- Where the reading of a pattern is, for the contracts inside the crate. Assumes nothing.
 use Prim.Native.Nat.{ℕ, _+_, _-_, _*_, _≤_, _<_}
 use mathlib.Core.Bool.{cond}
-use mathlib.Core.Path.{_≡_}
-use mathlib.Core.List.{List, [], _∷_, _++_, map}
 use lib.ListN.{length, getD}
 use lib.Dec.{eqb, ltb}
 use Rattle.grammar.specs.declared.tokens.Word.{Word}
@@ -14,12 +12,9 @@ use Rattle.line.specs.declared.steps.State.the-variants.{Listing, Semico
 use Rattle.line.specs.declared.steps.Next.{Next}
 use Rattle.line.specs.declared.steps.Next.the-variants.{Goes, Emits, Closes, Stuck}
 use Rattle.line.specs.declared.steps.Words.{Words}
-use Rattle.plan.specs.declared.row.Kind.the-variants as kind
 use Rattle.plan.specs.declared.row.Row.{Row}
 use Rattle.plan.specs.Limits.{leastUnit}
 use Rattle.plan.specs.Rows.{wordsOf}
-use Rattle.plan.specs.Parts.{patternRows}
-use Rattle.grammar.specs.Meaning.{patternOf, predicateBy}
 use Rattle.line.specs.declared.steps.Grown.{Grown}
 use Rattle.line.specs.declared.steps.Grown.the-variants.{Value, Not}
 use Rattle.grammar.specs.Grammar.{arity, mostOf}

@@ -10,7 +10,6 @@ use Rattle.plan.specs.declared.row.Row.{Row}
 use Rattle.plan.specs.Patterns.{Pattern}
 use Rattle.line.specs.declared.steps.Words.{Words}
 use Rattle.line.specs.Inner.States.{wordsIn}
-use Rattle.grammar.specs.Grammar.{Figure}
 use Rattle.grammar.specs.Meaning.{patternOf}
 use Rattle.grammar.specs.Reading.{Partial, listing, semicolon, lettered, counting}
 

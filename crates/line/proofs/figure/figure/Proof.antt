@@ -1,6 +1,6 @@
 use native.Mathlib.Omega.{arith}
-use Prim.Native.Nat.{ℕ, _+_, _-_, _<_, _≤_}
-use mathlib.Core.Path.{_≡_, refl, sym, ap, _∙_, subst}
+use Prim.Native.Nat.{ℕ, _+_, _-_}
+use mathlib.Core.Path.{refl, sym, ap, _∙_, subst}
 use mathlib.Core.Logic.{⊎-elim}
 use lib.ListN.{length}
 use mathlib.Core.List.{List}
@@ -8,13 +8,9 @@ use Rattle.line.specs.declared.reading.Reached.the-variants.{At}
 use Rattle.line.specs.Inner.Reads.{FigureRead}
 use Rattle.line.specs.Inner.Store.{putWords}
 use denote.Ref.{now}
-use Rattle.line.proofs.Laws.Reads.{Within, within-first, within-length, within-most, within-end, within-goes, within-emits, within-closes, within-stuck, put-length}
+use Rattle.line.proofs.Laws.Reads.{Within, within-first, within-length, within-most, within-end, within-goes, within-emits, within-closes, within-stuck}
 use Rattle.line.proofs.figure.figure.Statement.{statement}
 use Rattle.line.proofs.figure.figure.Tie as tie
-use Rattle.line.proofs.figure.figure.Reads as reads
-use Rattle.line.proofs.figure.figure.Lts as lts
-use Rattle.line.proofs.figure.put.Reads as put-reads
-use Rattle.line.proofs.steps.step.Reads as step-reads
 
 abbrev Inv-loop : tie.InvT-loop
 Inv-loop text from first out₀ state₀ at₀ rows₀ out state at rows = Within text from first out₀ at state rows out
@@ -22,95 +18,72 @@ Inv-loop text from first out₀ state₀ at₀ rows₀ out state at rows = Withi
 abbrev μ-loop : tie.MeasureT-loop
 μ-loop text from first out₀ state₀ at₀ rows₀ out state at rows = length text - at
 
--- src/figure.rt:251:5
 loop-holds : tie.Need-loop-holds Inv-loop μ-loop
 loop-holds c = let a = c .before .before .args in within-first (now (a .text)) (a .from) (a .first) (now (a .out)) (omega arith) (omega arith)
 
--- src/figure.rt:252:32
 shared-slice-read-step : tie.Need-shared-slice-read-step Inv-loop μ-loop
 shared-slice-read-step c = omega arith
 
--- src/figure.rt:252:13
 step-requires : tie.Need-step-requires Inv-loop μ-loop
 step-requires c κs = let l = c .before .before .loop in let a = c .before .before .before .before .before .args in within-most (now (a .text)) (a .from) (a .first) (now (a .out)) (l .at) (l .state) (l .rows) (l .out) (l .inv)
 
--- src/figure.rt:254:24
 enum-known-next : tie.Need-enum-known-next Inv-loop μ-loop
 enum-known-next c = omega arith
 
--- src/figure.rt:257:25
 enum-known-next-2 : tie.Need-enum-known-next-2 Inv-loop μ-loop
 enum-known-next-2 c = omega arith
 
--- src/figure.rt:258:17
 put-requires : tie.Need-put-requires Inv-loop μ-loop
 put-requires c κs = omega arith
 
--- src/figure.rt:259:17
 add-rows : tie.Need-add-rows Inv-loop μ-loop
 add-rows c = omega arith
 
--- src/figure.rt:262:26
 enum-known-next-3 : tie.Need-enum-known-next-3 Inv-loop μ-loop
 enum-known-next-3 c = omega arith
 
--- src/figure.rt:263:17
 put-requires-2 : tie.Need-put-requires-2 Inv-loop μ-loop
 put-requires-2 c κs = omega arith
 
--- src/figure.rt:264:26
 add-put : tie.Need-add-put Inv-loop μ-loop
 add-put c = omega arith
 
--- src/figure.rt:264:17
 put-requires-3 : tie.Need-put-requires-3 Inv-loop μ-loop
 put-requires-3 c κs = omega arith
 
--- src/figure.rt:265:36
 add-t26 : tie.Need-add-t26 Inv-loop μ-loop
 add-t26 c = omega arith
 
--- src/figure.rt:265:44
 add-t28 : tie.Need-add-t28 Inv-loop μ-loop
 add-t28 c = omega arith
 
--- src/figure.rt:265:17
 same-length : tie.Need-same-length Inv-loop μ-loop
 same-length c = let l = c .before .before .before .before .before .before .before .before .before .before .before .before .before .before .loop in let a = c .before .before .before .before .before .before .before .before .before .before .before .before .before .before .before .before .before .args in c .before .before .put3 .kept .0 ∙ c .before .before .before .before .before .before .put2 .kept .0 ∙ within-length (now (a .text)) (a .from) (a .first) (now (a .out)) (l .at) (l .state) (l .rows) (l .out) (l .inv)
 
--- src/figure.rt:265:17
 returns : tie.Need-returns Inv-loop μ-loop
 returns c = let l = c .before .before .before .before .before .before .before .before .before .before .before .before .before .before .loop in let a = c .before .before .before .before .before .before .before .before .before .before .before .before .before .before .before .before .before .args in subst (λ (o : List ℕ). FigureRead (now (a .text)) (a .from) (a .first) (now (a .out)) o (At (l .at + 1) (l .rows + 2))) (sym (c .before .before .put3 .ensures ∙ ap (λ (o : List ℕ). putWords o (l .rows + 1) (record { kind = 6; a = 0; b = 0; c = 0 })) (c .before .before .before .before .before .before .put2 .ensures))) (within-closes (now (a .text)) (a .from) (a .first) (now (a .out)) (l .at) (l .state) (l .rows) (l .out) (l .inv) (omega arith) (c .before .before .before .before .before .before .before .before .before .next3 .given .0 .0) (record { kind = 6; a = 0; b = 0; c = 0 }) refl (sym (c .before .before .before .before .before .before .before .before .before .before .before .step .ensures) ∙ c .before .before .before .before .before .before .before .before .before .next3 .given .1))
 
--- src/figure.rt:268:17
 enum-told : tie.Need-enum-told Inv-loop μ-loop
 enum-told c = omega arith
 
--- src/figure.rt:268:17
 same-length-2 : tie.Need-same-length-2 Inv-loop μ-loop
 same-length-2 c = let l = c .before .before .before .before .before .loop in let a = c .before .before .before .before .before .before .before .before .args in within-length (now (a .text)) (a .from) (a .first) (now (a .out)) (l .at) (l .state) (l .rows) (l .out) (l .inv)
 
--- src/figure.rt:268:17
 returns-2 : tie.Need-returns-2 Inv-loop μ-loop
 returns-2 c = let l = c .before .before .before .before .before .loop in let a = c .before .before .before .before .before .before .before .before .args in within-stuck (now (a .text)) (a .from) (a .first) (now (a .out)) (l .at) (l .state) (l .rows) (l .out) (l .inv) (omega arith) (sym (c .before .before .step .ensures) ∙ c .enum-told .given .1)
 
--- src/figure.rt:271:9
 add-at : tie.Need-add-at Inv-loop μ-loop
 add-at c = omega arith
 
--- src/figure.rt:251:5
 loop-less : tie.Need-loop-less Inv-loop μ-loop
 loop-less c = omega arith
 
--- src/figure.rt:251:5
 loop-again : tie.Need-loop-again Inv-loop μ-loop
 loop-again c = let l = c .before .before .before .before .loop in let a = c .before .before .before .before .before .before .before .args in ⊎-elim (λ x. rw (x .3, x .4, x .5) (within-goes (now (a .text)) (a .from) (a .first) (now (a .out)) (l .at) (l .state) (l .rows) (l .out) (l .inv) (omega arith) _ (sym (c .before .step .ensures) ∙ x .1 .given .1))) (λ x. rw (x .7, x .8, x .9) (subst (λ (o : List ℕ). Within (now (a .text)) (a .from) (a .first) (now (a .out)) (l .at + 1) (x .1 .given .0 .1 .0) (l .rows + 1) o) (sym (x .4 .ensures)) (within-emits (now (a .text)) (a .from) (a .first) (now (a .out)) (l .at) (l .state) (l .rows) (l .out) (l .inv) (omega arith) (x .1 .given .0 .0) (x .1 .given .0 .1 .0) (sym (c .before .step .ensures) ∙ x .1 .given .1)))) (c .match .came)
 
--- src/figure.rt:244:1
 same-length-3 : tie.Need-same-length-3 Inv-loop μ-loop
 same-length-3 c = let l = c .before .loop in let a = c .before .before .before .before .args in within-length (now (a .text)) (a .from) (a .first) (now (a .out)) (l .at) (l .state) (l .rows) (l .out) (l .inv)
 
--- src/figure.rt:244:1
 returns-3 : tie.Need-returns-3 Inv-loop μ-loop
 returns-3 c = let l = c .before .loop in let a = c .before .before .before .before .args in within-end (now (a .text)) (a .from) (a .first) (now (a .out)) (l .at) (l .state) (l .rows) (l .out) (l .inv) (c .loop-test .left)
 

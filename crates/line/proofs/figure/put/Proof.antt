@@ -1,78 +1,59 @@
 use borrow.Author.Needs.{needs}
 use native.Mathlib.Omega.{arith}
-use Prim.Native.Nat.{ℕ, _+_, _*_, _<_, _≤_}
-use mathlib.Core.Path.{_≡_, refl, sym, ap, _∙_, subst}
-use lib.ListN.{length, set, length-set}
+use Prim.Native.Nat.{_+_, _*_}
+use lib.ListN.{length, length-set}
 use borrow.Author.Tests.{le-leb, lt-leb}
 use denote.Ref.{now}
 use Rattle.line.specs.Inner.Store.{putWords}
 use Rattle.line.proofs.figure.put.Statement.{statement}
 use Rattle.line.proofs.figure.put.Tie as tie
-use Rattle.line.proofs.figure.put.Reads as reads
-use Rattle.line.proofs.figure.put.Lts as lts
 
--- src/figure.rt:234:14
 mul-at : tie.Need-mul-at
 mul-at c = search needs
 
--- src/figure.rt:235:8
 add-if1 : tie.Need-add-if1
 add-if1 c = search needs
 
--- src/figure.rt:236:9
 mul-out : tie.Need-mul-out
 mul-out c = search needs
 
--- src/figure.rt:236:9
 slice-write-out : tie.Need-slice-write-out
 slice-write-out c = search needs
 
--- src/figure.rt:237:13
 add-out : tie.Need-add-out
 add-out c = search needs
 
--- src/figure.rt:237:9
 mul-out-2 : tie.Need-mul-out-2
 mul-out-2 c = search needs
 
--- src/figure.rt:237:9
 slice-write-out-2 : tie.Need-slice-write-out-2
 slice-write-out-2 c = simp length-set (omega arith)
 
--- src/figure.rt:238:13
 add-out-2 : tie.Need-add-out-2
 add-out-2 c = search needs
 
--- src/figure.rt:238:9
 mul-out-3 : tie.Need-mul-out-3
 mul-out-3 c = search needs
 
--- src/figure.rt:238:9
 slice-write-out-3 : tie.Need-slice-write-out-3
 slice-write-out-3 c = simp length-set (omega arith)
 
--- src/figure.rt:239:13
 add-out-3 : tie.Need-add-out-3
 add-out-3 c = search needs
 
--- src/figure.rt:239:9
 mul-out-4 : tie.Need-mul-out-4
 mul-out-4 c = search needs
 
--- src/figure.rt:239:9
 slice-write-out-4 : tie.Need-slice-write-out-4
 slice-write-out-4 c = simp length-set (omega arith)
 
--- src/figure.rt:230:1
 same-length : tie.Need-same-length
 same-length c = search needs
 
--- src/figure.rt:230:1
 returns : tie.Need-returns
 unfolding putWords
 returns c = let a = c .before .args in rw (le-leb (4 * a .row + 4) (length (now (a .out))) (omega arith))
 
--- src/figure.rt:230:1
 returns-2 : tie.Need-returns-2
 unfolding putWords
 returns-2 c = let a = c .before .args in rw (lt-leb (4 * a .row + 4) (length (now (a .out))) (omega arith))

@@ -1,9 +1,7 @@
 use borrow.Author.Needs.{needs}
 use native.Mathlib.Omega.{arith}
-use Prim.Native.Nat.{ℕ, _+_, _*_, _<_, _≤_}
-use mathlib.Core.Path.{_≡_, refl, sym, ap, _∙_, subst}
-use mathlib.Core.List.{List, [], _∷_}
-use lib.ListN.{length}
+use mathlib.Core.Path.{subst}
+use mathlib.Core.List.{[], _∷_}
 use denote.Ref.{now}
 use Rattle.line.specs.declared.reading.Reached.{Reached}
 use Rattle.line.specs.declared.reading.Reached.the-variants.{At, Broken, Deep}
@@ -12,79 +10,58 @@ use Rattle.line.specs.Inner.Reads.{WholeRead}
 use Rattle.line.proofs.Laws.Call.{place-broken, place-deep, too-long, refuses-broken, refuses-deep, too-many, too-short, answers}
 use Rattle.line.proofs.reader.read.Statement.{statement}
 use Rattle.line.proofs.reader.read.Tie as tie
-use Rattle.line.proofs.reader.read.Reads as reads
-use Rattle.line.proofs.reader.read.Lts as lts
-use Rattle.line.proofs.reading.read_rows.Reads as read-rows-reads
 
--- src/reader.rt:15:9
 returns : tie.Need-returns
 returns c = let a = c .before .before .before .args in let s = now (a .text) in let o = now (a .out) in too-long s o (c .if1 .taken)
 
--- src/reader.rt:18:35
 slice-aggregate-read-rows : tie.Need-slice-aggregate-read-rows
 slice-aggregate-read-rows c = search needs
 
--- src/reader.rt:18:9
 read-rows-requires : tie.Need-read-rows-requires
 read-rows-requires c κs = search needs
 
--- src/reader.rt:20:25
 enum-known-counted : tie.Need-enum-known-counted
 enum-known-counted c = search needs
 
--- src/reader.rt:20:44
 cast-t13 : tie.Need-cast-t13
 cast-t13 c = let a = c .before .before .before .before .before .before .before .before .before .args in let s = now (a .text) in let none = (c .before .before .before .before .read-rows .last .1 .0) in let w : WholeRead s (0 ∷ []) none (Broken (c .before .counted .given .0 .0)) (reading s) = subst (λ (r : Reached). WholeRead s (0 ∷ []) none r (reading s)) (c .before .counted .given .1) (c .before .before .before .before .read-rows .ensures) in let h = place-broken s (0 ∷ []) none (c .before .counted .given .0 .0) w in search needs
 
--- src/reader.rt:21:23
 enum-known-counted-2 : tie.Need-enum-known-counted-2
 enum-known-counted-2 c = search needs
 
--- src/reader.rt:21:40
 cast-t14 : tie.Need-cast-t14
 cast-t14 c = let a = c .before .before .before .before .before .before .before .before .before .args in let s = now (a .text) in let none = (c .before .before .before .before .read-rows .last .1 .0) in let w : WholeRead s (0 ∷ []) none (Deep (c .before .counted2 .given .0 .0)) (reading s) = subst (λ (r : Reached). WholeRead s (0 ∷ []) none r (reading s)) (c .before .counted2 .given .1) (c .before .before .before .before .read-rows .ensures) in let h = place-deep s (0 ∷ []) none (c .before .counted2 .given .0 .0) w in search needs
 
--- src/reader.rt:22:24
 enum-known-counted-3 : tie.Need-enum-known-counted-3
 enum-known-counted-3 c = search needs
 
--- src/reader.rt:24:17
 returns-2 : tie.Need-returns-2
 returns-2 c = let a = c .before .before .before .before .before .before .before .before .before .before .args in let s = now (a .text) in let o = now (a .out) in let none = (c .before .before .before .before .before .read-rows .last .1 .0) in let w : WholeRead s (0 ∷ []) none (At (c .before .before .counted3 .given .0 .0) (c .before .before .counted3 .given .0 .1 .0)) (reading s) = subst (λ (r : Reached). WholeRead s (0 ∷ []) none r (reading s)) (c .before .before .counted3 .given .1) (c .before .before .before .before .before .read-rows .ensures) in too-many s o (omega arith) (0 ∷ []) none (c .before .before .counted3 .given .0 .0) (c .before .before .counted3 .given .0 .1 .0) w (c .if2 .taken)
 
--- src/reader.rt:26:28
 mul-if3 : tie.Need-mul-if3
 mul-if3 c = search needs
 
--- src/reader.rt:27:17
 returns-3 : tie.Need-returns-3
 returns-3 c = let a = c .before .before .before .before .before .before .before .before .before .before .before .args in let s = now (a .text) in let o = now (a .out) in let none = (c .before .before .before .before .before .before .read-rows .last .1 .0) in let w : WholeRead s (0 ∷ []) none (At (c .before .before .before .counted3 .given .0 .0) (c .before .before .before .counted3 .given .0 .1 .0)) (reading s) = subst (λ (r : Reached). WholeRead s (0 ∷ []) none r (reading s)) (c .before .before .before .counted3 .given .1) (c .before .before .before .before .before .before .read-rows .ensures) in too-short s o (omega arith) (0 ∷ []) none (c .before .before .before .counted3 .given .0 .0) (c .before .before .before .counted3 .given .0 .1 .0) w (omega arith) (c .if3 .taken)
 
--- src/reader.rt:29:13
 read-rows-requires-2 : tie.Need-read-rows-requires-2
 read-rows-requires-2 c κs = search needs
 
--- src/reader.rt:30:29
 cast-t21 : tie.Need-cast-t21
 cast-t21 c = search needs
 
--- src/reader.rt:30:25
 mul-t22 : tie.Need-mul-t22
 mul-t22 c = search needs
 
--- src/reader.rt:11:1
 returns-4 : tie.Need-returns-4
 returns-4 c = let a = c .before .before .before .before .before .before .before .before .before .args in let s = now (a .text) in let o = now (a .out) in let none = (c .before .before .before .before .read-rows .last .1 .0) in let w : WholeRead s (0 ∷ []) none (Broken (c .before .counted .given .0 .0)) (reading s) = subst (λ (r : Reached). WholeRead s (0 ∷ []) none r (reading s)) (c .before .counted .given .1) (c .before .before .before .before .read-rows .ensures) in refuses-broken s o (omega arith) (0 ∷ []) none _ w
 
--- src/reader.rt:11:1
 returns-5 : tie.Need-returns-5
 returns-5 c = let a = c .before .before .before .before .before .before .before .before .before .args in let s = now (a .text) in let o = now (a .out) in let none = (c .before .before .before .before .read-rows .last .1 .0) in let w : WholeRead s (0 ∷ []) none (Deep (c .before .counted2 .given .0 .0)) (reading s) = subst (λ (r : Reached). WholeRead s (0 ∷ []) none r (reading s)) (c .before .counted2 .given .1) (c .before .before .before .before .read-rows .ensures) in refuses-deep s o (omega arith) (0 ∷ []) none _ w
 
--- src/reader.rt:11:1
 same-length : tie.Need-same-length
 same-length c = search needs
 
--- src/reader.rt:11:1
 returns-6 : tie.Need-returns-6
 returns-6 c = let a = c .before .before .before .before .before .before .before .before .before .before .before .before .before .before .before .args in let s = now (a .text) in let o = now (a .out) in let none = (c .before .before .before .before .before .before .before .before .before .before .read-rows .last .1 .0) in let w : WholeRead s (0 ∷ []) none (At (c .before .before .before .before .before .before .before .counted3 .given .0 .0) (c .before .before .before .before .before .before .before .counted3 .given .0 .1 .0)) (reading s) = subst (λ (r : Reached). WholeRead s (0 ∷ []) none r (reading s)) (c .before .before .before .before .before .before .before .counted3 .given .1) (c .before .before .before .before .before .before .before .before .before .before .read-rows .ensures) in answers s o (omega arith) (0 ∷ []) none (c .before .before .before .before .before .before .before .counted3 .given .0 .0) (c .before .before .before .before .before .before .before .counted3 .given .0 .1 .0) w (c .before .before .read-rows2 .last .1 .0) (c .before .before .read-rows2 .result) (omega arith) (omega arith) (c .before .before .read-rows2 .ensures)
 

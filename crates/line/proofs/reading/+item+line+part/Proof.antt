@@ -1,13 +1,11 @@
-use Prim.Native.Nat.{ℕ, _+_, _-_, _*_, _<_, _≤_}
+use Prim.Native.Nat.{ℕ, _+_, _-_, _*_, _<_}
 use borrow.Author.Needs.{needs}
 use native.Mathlib.Omega.{arith}
-use mathlib.Core.Path.{_≡_, refl, sym, ap, _∙_, subst}
-use mathlib.Core.List.{List}
-use lib.ListN.{length, getD}
+use mathlib.Core.Path.{subst}
+use lib.ListN.{length}
 use denote.Ref.{now}
-use Rattle.line.specs.Inner.Reads.{FigureRead, LineRead, PartRead, ItemRead, LineAt, PartAt, ItemAt, pendingRows}
+use Rattle.line.specs.Inner.Reads.{LineRead, PartRead, ItemRead, LineAt, PartAt, ItemAt}
 use Rattle.grammar.specs.Grammar as g
-use Rattle.line.specs.declared.reading.Reached.the-variants.{Broken, Deep, At}
 use Rattle.line.specs.declared.reading.Pending.the-variants as pending
 use Rattle.line.proofs.Laws.Reads as laws
 use borrow.Fn.Kinds.{In}
@@ -53,7 +51,6 @@ part-at t = and 2 part-kinds.ps (is 2 part-kinds.ps μ-part t) part.Pre
 abbrev part-below : ℕ → In 2 part-kinds.ps
 part-below t = and 2 part-kinds.ps (falls 2 part-kinds.ps _<_ μ-part t) part.Pre
 
--- src/reading.rt:107:9
 item-returns : (t : ℕ) → item-lts.Need-returns (
   figure-reads.Asked,
   figure-reads.Learnt,
@@ -62,7 +59,6 @@ item-returns : (t : ℕ) → item-lts.Need-returns (
 ) (item-at t) item.Post
 item-returns t c = let a = c .before .before .before .args in let s = now (a .text) in let o = now (a .out) in laws.item-out s (a .at) (a .depth) (a .first) o (c .if1 .taken)
 
--- src/reading.rt:109:8
 item-shared-slice-read-if2 : (t : ℕ) → item-lts.Need-shared-slice-read-if2 (
   figure-reads.Asked,
   figure-reads.Learnt,
@@ -71,7 +67,6 @@ item-shared-slice-read-if2 : (t : ℕ) → item-lts.Need-shared-slice-read-if2 (
 ) (item-at t) item.Post
 item-shared-slice-read-if2 t c = search needs
 
--- src/reading.rt:110:29
 item-add-figure : (t : ℕ) → item-lts.Need-add-figure (
   figure-reads.Asked,
   figure-reads.Learnt,
@@ -80,7 +75,6 @@ item-add-figure : (t : ℕ) → item-lts.Need-add-figure (
 ) (item-at t) item.Post
 item-add-figure t c = search needs
 
--- src/reading.rt:110:9
 item-figure-requires : (t : ℕ) → item-lts.Need-figure-requires (
   figure-reads.Asked,
   figure-reads.Learnt,
@@ -89,7 +83,6 @@ item-figure-requires : (t : ℕ) → item-lts.Need-figure-requires (
 ) (item-at t) item.Post
 item-figure-requires t c κs = search needs
 
--- src/reading.rt:110:9
 item-same-length : (t : ℕ) → item-lts.Need-same-length (
   figure-reads.Asked,
   figure-reads.Learnt,
@@ -98,7 +91,6 @@ item-same-length : (t : ℕ) → item-lts.Need-same-length (
 ) (item-at t) item.Post
 item-same-length t c = search needs
 
--- src/reading.rt:110:9
 item-returns-2 : (t : ℕ) → item-lts.Need-returns-2 (
   figure-reads.Asked,
   figure-reads.Learnt,
@@ -107,7 +99,6 @@ item-returns-2 : (t : ℕ) → item-lts.Need-returns-2 (
 ) (item-at t) item.Post
 item-returns-2 t c = let a = c .before .before .before .before .before .before .before .before .before .args in let s = now (a .text) in let o = now (a .out) in laws.item-figure s (a .at) (a .depth) (a .first) o (omega arith) (omega arith) (c .before .before .before .before .if2 .taken) (c .before .before .figure .last .1 .1 .1 .0) (c .before .before .figure .result) (c .before .before .figure .ensures)
 
--- src/reading.rt:112:8
 item-shared-slice-read-if3 : (t : ℕ) → item-lts.Need-shared-slice-read-if3 (
   figure-reads.Asked,
   figure-reads.Learnt,
@@ -116,7 +107,6 @@ item-shared-slice-read-if3 : (t : ℕ) → item-lts.Need-shared-slice-read-if3 (
 ) (item-at t) item.Post
 item-shared-slice-read-if3 t c = search needs
 
--- src/reading.rt:113:9
 item-returns-3 : (t : ℕ) → item-lts.Need-returns-3 (
   figure-reads.Asked,
   figure-reads.Learnt,
@@ -125,7 +115,6 @@ item-returns-3 : (t : ℕ) → item-lts.Need-returns-3 (
 ) (item-at t) item.Post
 item-returns-3 t c = let a = c .before .before .before .before .before .before .before .args in let s = now (a .text) in let o = now (a .out) in laws.item-none s (a .at) (a .depth) (a .first) o (omega arith) (omega arith) (c .before .before .if2 .left) (c .if3 .taken)
 
--- src/reading.rt:116:9
 item-returns-4 : (t : ℕ) → item-lts.Need-returns-4 (
   figure-reads.Asked,
   figure-reads.Learnt,
@@ -134,7 +123,6 @@ item-returns-4 : (t : ℕ) → item-lts.Need-returns-4 (
 ) (item-at t) item.Post
 item-returns-4 t c = let a = c .before .before .before .before .before .before .before .before .args in let s = now (a .text) in let o = now (a .out) in laws.item-deep s (a .at) (a .depth) (a .first) o (omega arith) (omega arith) (c .before .if3 .left) (c .if4 .taken)
 
--- src/reading.rt:118:28
 item-add-line : (t : ℕ) → item-lts.Need-add-line (
   figure-reads.Asked,
   figure-reads.Learnt,
@@ -143,7 +131,6 @@ item-add-line : (t : ℕ) → item-lts.Need-add-line (
 ) (item-at t) item.Post
 item-add-line t c = search needs
 
--- src/reading.rt:118:36
 item-add-line-2 : (t : ℕ) → item-lts.Need-add-line-2 (
   figure-reads.Asked,
   figure-reads.Learnt,
@@ -152,7 +139,6 @@ item-add-line-2 : (t : ℕ) → item-lts.Need-add-line-2 (
 ) (item-at t) item.Post
 item-add-line-2 t c = search needs
 
--- src/reading.rt:118:9
 item-line-requires : (t : ℕ) → item-lts.Need-line-requires (
   figure-reads.Asked,
   figure-reads.Learnt,
@@ -161,7 +147,6 @@ item-line-requires : (t : ℕ) → item-lts.Need-line-requires (
 ) (item-at t) item.Post
 item-line-requires t c κs = search needs
 
--- src/reading.rt:120:25
 item-enum-known-inner : (t : ℕ) → item-lts.Need-enum-known-inner (
   figure-reads.Asked,
   figure-reads.Learnt,
@@ -170,7 +155,6 @@ item-enum-known-inner : (t : ℕ) → item-lts.Need-enum-known-inner (
 ) (item-at t) item.Post
 item-enum-known-inner t c = search needs
 
--- src/reading.rt:121:23
 item-enum-known-inner-2 : (t : ℕ) → item-lts.Need-enum-known-inner-2 (
   figure-reads.Asked,
   figure-reads.Learnt,
@@ -179,7 +163,6 @@ item-enum-known-inner-2 : (t : ℕ) → item-lts.Need-enum-known-inner-2 (
 ) (item-at t) item.Post
 item-enum-known-inner-2 t c = search needs
 
--- src/reading.rt:122:21
 item-enum-known-inner-3 : (t : ℕ) → item-lts.Need-enum-known-inner-3 (
   figure-reads.Asked,
   figure-reads.Learnt,
@@ -188,7 +171,6 @@ item-enum-known-inner-3 : (t : ℕ) → item-lts.Need-enum-known-inner-3 (
 ) (item-at t) item.Post
 item-enum-known-inner-3 t c = search needs
 
--- src/reading.rt:124:17
 item-same-length-2 : (t : ℕ) → item-lts.Need-same-length-2 (
   figure-reads.Asked,
   figure-reads.Learnt,
@@ -197,7 +179,6 @@ item-same-length-2 : (t : ℕ) → item-lts.Need-same-length-2 (
 ) (item-at t) item.Post
 item-same-length-2 t c = search needs
 
--- src/reading.rt:124:17
 item-returns-5 : (t : ℕ) → item-lts.Need-returns-5 (
   figure-reads.Asked,
   figure-reads.Learnt,
@@ -206,7 +187,6 @@ item-returns-5 : (t : ℕ) → item-lts.Need-returns-5 (
 ) (item-at t) item.Post
 item-returns-5 t c = let a = c .before .before .before .before .before .before .before .before .before .before .before .before .before .before .before .before .args in let s = now (a .text) in let o = now (a .out) in let w : LineAt s (a .at + 1) (a .depth + 1) (a .first) pending.Nothing o (c .before .before .before .before .before .before .line .last .1 .1 .1 .1 .1 .0) (c .before .before .inner3 .given .0 .0) (c .before .before .inner3 .given .0 .1 .0) = subst (LineRead s (a .at + 1) (a .depth + 1) (a .first) pending.Nothing o (c .before .before .before .before .before .before .line .last .1 .1 .1 .1 .1 .0)) (c .before .before .inner3 .given .1) (c .before .before .before .before .before .before .line .ensures) in let z = w .rows in laws.item-open s (a .at) (a .depth) (a .first) o (omega arith) (omega arith) (c .before .before .before .before .before .before .before .before .before .if3 .left) (omega arith) (c .before .before .before .before .before .before .line .last .1 .1 .1 .1 .1 .0) _ _ w (c .if5 .taken)
 
--- src/reading.rt:126:16
 item-shared-slice-read-if6 : (t : ℕ) → item-lts.Need-shared-slice-read-if6 (
   figure-reads.Asked,
   figure-reads.Learnt,
@@ -215,7 +195,6 @@ item-shared-slice-read-if6 : (t : ℕ) → item-lts.Need-shared-slice-read-if6 (
 ) (item-at t) item.Post
 item-shared-slice-read-if6 t c = search needs
 
--- src/reading.rt:127:17
 item-same-length-3 : (t : ℕ) → item-lts.Need-same-length-3 (
   figure-reads.Asked,
   figure-reads.Learnt,
@@ -224,7 +203,6 @@ item-same-length-3 : (t : ℕ) → item-lts.Need-same-length-3 (
 ) (item-at t) item.Post
 item-same-length-3 t c = search needs
 
--- src/reading.rt:127:17
 item-returns-6 : (t : ℕ) → item-lts.Need-returns-6 (
   figure-reads.Asked,
   figure-reads.Learnt,
@@ -233,7 +211,6 @@ item-returns-6 : (t : ℕ) → item-lts.Need-returns-6 (
 ) (item-at t) item.Post
 item-returns-6 t c = let a = c .before .before .before .before .before .before .before .before .before .before .before .before .before .before .before .before .before .before .args in let s = now (a .text) in let o = now (a .out) in let w : LineAt s (a .at + 1) (a .depth + 1) (a .first) pending.Nothing o (c .before .before .before .before .before .before .before .before .line .last .1 .1 .1 .1 .1 .0) (c .before .before .before .before .inner3 .given .0 .0) (c .before .before .before .before .inner3 .given .0 .1 .0) = subst (LineRead s (a .at + 1) (a .depth + 1) (a .first) pending.Nothing o (c .before .before .before .before .before .before .before .before .line .last .1 .1 .1 .1 .1 .0)) (c .before .before .before .before .inner3 .given .1) (c .before .before .before .before .before .before .before .before .line .ensures) in let z = w .rows in laws.item-wrong s (a .at) (a .depth) (a .first) o (omega arith) (omega arith) (c .before .before .before .before .before .before .before .before .before .before .before .if3 .left) (omega arith) (c .before .before .before .before .before .before .before .before .line .last .1 .1 .1 .1 .1 .0) _ _ w (omega arith) (c .if6 .taken)
 
--- src/reading.rt:129:25
 item-add-t24 : (t : ℕ) → item-lts.Need-add-t24 (
   figure-reads.Asked,
   figure-reads.Learnt,
@@ -242,7 +219,6 @@ item-add-t24 : (t : ℕ) → item-lts.Need-add-t24 (
 ) (item-at t) item.Post
 item-add-t24 t c = search needs
 
--- src/reading.rt:102:1
 item-same-length-4 : (t : ℕ) → item-lts.Need-same-length-4 (
   figure-reads.Asked,
   figure-reads.Learnt,
@@ -251,7 +227,6 @@ item-same-length-4 : (t : ℕ) → item-lts.Need-same-length-4 (
 ) (item-at t) item.Post
 item-same-length-4 t c = search needs
 
--- src/reading.rt:102:1
 item-returns-7 : (t : ℕ) → item-lts.Need-returns-7 (
   figure-reads.Asked,
   figure-reads.Learnt,
@@ -260,7 +235,6 @@ item-returns-7 : (t : ℕ) → item-lts.Need-returns-7 (
 ) (item-at t) item.Post
 item-returns-7 t c = let a = c .before .before .before .before .before .before .before .before .before .before .before .before .before .before .before .args in let s = now (a .text) in let o = now (a .out) in laws.item-broken s (a .at) (a .depth) (a .first) o (omega arith) (omega arith) (c .before .before .before .before .before .before .before .before .if3 .left) (omega arith) (c .before .before .before .before .before .line .last .1 .1 .1 .1 .1 .0) _ (subst (LineRead s (a .at + 1) (a .depth + 1) (a .first) pending.Nothing o (c .before .before .before .before .before .line .last .1 .1 .1 .1 .1 .0)) (c .before .inner .given .1) (c .before .before .before .before .before .line .ensures))
 
--- src/reading.rt:102:1
 item-same-length-5 : (t : ℕ) → item-lts.Need-same-length-5 (
   figure-reads.Asked,
   figure-reads.Learnt,
@@ -269,7 +243,6 @@ item-same-length-5 : (t : ℕ) → item-lts.Need-same-length-5 (
 ) (item-at t) item.Post
 item-same-length-5 t c = search needs
 
--- src/reading.rt:102:1
 item-returns-8 : (t : ℕ) → item-lts.Need-returns-8 (
   figure-reads.Asked,
   figure-reads.Learnt,
@@ -278,7 +251,6 @@ item-returns-8 : (t : ℕ) → item-lts.Need-returns-8 (
 ) (item-at t) item.Post
 item-returns-8 t c = let a = c .before .before .before .before .before .before .before .before .before .before .before .before .before .before .before .args in let s = now (a .text) in let o = now (a .out) in laws.item-too-deep s (a .at) (a .depth) (a .first) o (omega arith) (omega arith) (c .before .before .before .before .before .before .before .before .if3 .left) (omega arith) (c .before .before .before .before .before .line .last .1 .1 .1 .1 .1 .0) _ (subst (LineRead s (a .at + 1) (a .depth + 1) (a .first) pending.Nothing o (c .before .before .before .before .before .line .last .1 .1 .1 .1 .1 .0)) (c .before .inner2 .given .1) (c .before .before .before .before .before .line .ensures))
 
--- src/reading.rt:102:1
 item-same-length-6 : (t : ℕ) → item-lts.Need-same-length-6 (
   figure-reads.Asked,
   figure-reads.Learnt,
@@ -287,7 +259,6 @@ item-same-length-6 : (t : ℕ) → item-lts.Need-same-length-6 (
 ) (item-at t) item.Post
 item-same-length-6 t c = search needs
 
--- src/reading.rt:102:1
 item-returns-9 : (t : ℕ) → item-lts.Need-returns-9 (
   figure-reads.Asked,
   figure-reads.Learnt,
@@ -296,7 +267,6 @@ item-returns-9 : (t : ℕ) → item-lts.Need-returns-9 (
 ) (item-at t) item.Post
 item-returns-9 t c = let a = c .before .before .before .before .before .before .before .before .before .before .before .before .before .before .before .before .before .before .args in let s = now (a .text) in let o = now (a .out) in let w : LineAt s (a .at + 1) (a .depth + 1) (a .first) pending.Nothing o (c .before .before .before .before .before .before .before .before .line .last .1 .1 .1 .1 .1 .0) (c .before .before .before .before .inner3 .given .0 .0) (c .before .before .before .before .inner3 .given .0 .1 .0) = subst (LineRead s (a .at + 1) (a .depth + 1) (a .first) pending.Nothing o (c .before .before .before .before .before .before .before .before .line .last .1 .1 .1 .1 .1 .0)) (c .before .before .before .before .inner3 .given .1) (c .before .before .before .before .before .before .before .before .line .ensures) in let z = w .rows in laws.item-shut s (a .at) (a .depth) (a .first) o (omega arith) (omega arith) (c .before .before .before .before .before .before .before .before .before .before .before .if3 .left) (omega arith) (c .before .before .before .before .before .before .before .before .line .last .1 .1 .1 .1 .1 .0) _ _ w (omega arith) (c .if6 .left)
 
--- src/reading.rt:59:9
 line-part-requires : (t : ℕ) → line-lts.Need-part-requires (
   part-below t,
   part.Post,
@@ -307,7 +277,6 @@ line-part-requires : (t : ℕ) → line-lts.Need-part-requires (
 ) (line-at t) line.Post
 line-part-requires t c κs = search needs
 
--- src/reading.rt:61:25
 line-enum-known-begun : (t : ℕ) → line-lts.Need-enum-known-begun (
   part-below t,
   part.Post,
@@ -318,7 +287,6 @@ line-enum-known-begun : (t : ℕ) → line-lts.Need-enum-known-begun (
 ) (line-at t) line.Post
 line-enum-known-begun t c = search needs
 
--- src/reading.rt:62:23
 line-enum-known-begun-2 : (t : ℕ) → line-lts.Need-enum-known-begun-2 (
   part-below t,
   part.Post,
@@ -329,7 +297,6 @@ line-enum-known-begun-2 : (t : ℕ) → line-lts.Need-enum-known-begun-2 (
 ) (line-at t) line.Post
 line-enum-known-begun-2 t c = search needs
 
--- src/reading.rt:63:21
 line-enum-known-begun-3 : (t : ℕ) → line-lts.Need-enum-known-begun-3 (
   part-below t,
   part.Post,
@@ -340,7 +307,6 @@ line-enum-known-begun-3 : (t : ℕ) → line-lts.Need-enum-known-begun-3 (
 ) (line-at t) line.Post
 line-enum-known-begun-3 t c = search needs
 
--- src/reading.rt:64:17
 line-settle-requires : (t : ℕ) → line-lts.Need-settle-requires (
   part-below t,
   part.Post,
@@ -351,7 +317,6 @@ line-settle-requires : (t : ℕ) → line-lts.Need-settle-requires (
 ) (line-at t) line.Post
 line-settle-requires t c κs = let a = c .before .before .before .before .before .before .before .before .before .before .args in let s = now (a .text) in let o = now (a .out) in let w : PartAt s (a .at) (a .depth) (a .first) pending.Nothing o (c .before .before .before .before .before .before .part .last .1 .1 .1 .1 .1 .0) (c .before .before .begun3 .given .0 .0) (c .before .before .begun3 .given .0 .1 .0) = subst (PartRead s (a .at) (a .depth) (a .first) pending.Nothing o (c .before .before .before .before .before .before .part .last .1 .1 .1 .1 .1 .0)) (c .before .before .begun3 .given .1) (c .before .before .before .before .before .before .part .ensures) in let z = w .rows in omega arith
 
--- src/reading.rt:66:17
 line-same-length : (t : ℕ) → line-lts.Need-same-length (
   part-below t,
   part.Post,
@@ -362,7 +327,6 @@ line-same-length : (t : ℕ) → line-lts.Need-same-length (
 ) (line-at t) line.Post
 line-same-length t c = search needs
 
--- src/reading.rt:66:17
 line-returns : (t : ℕ) → line-lts.Need-returns (
   part-below t,
   part.Post,
@@ -373,7 +337,6 @@ line-returns : (t : ℕ) → line-lts.Need-returns (
 ) (line-at t) line.Post
 line-returns t c = let a = c .before .before .before .before .before .before .before .before .before .before .before .before .before .before .args in let s = now (a .text) in let o = now (a .out) in let w : PartAt s (a .at) (a .depth) (a .first) pending.Nothing o (c .before .before .before .before .before .before .before .before .before .before .part .last .1 .1 .1 .1 .1 .0) (c .before .before .before .before .before .before .begun3 .given .0 .0) (c .before .before .before .before .before .before .begun3 .given .0 .1 .0) = subst (PartRead s (a .at) (a .depth) (a .first) pending.Nothing o (c .before .before .before .before .before .before .before .before .before .before .part .last .1 .1 .1 .1 .1 .0)) (c .before .before .before .before .before .before .begun3 .given .1) (c .before .before .before .before .before .before .before .before .before .before .part .ensures) in let z = w .rows in laws.line-at s (a .at) (a .depth) (a .first) o (a .waiting) (c .before .before .before .before .before .before .before .before .before .before .part .last .1 .1 .1 .1 .1 .0) (c .before .before .before .settle .last .0) _ _ (c .before .before .before .settle .result) w (c .before .before .before .settle .ensures .0) (c .before .before .before .settle .ensures .1) (λ h. absurd (omega arith))
 
--- src/reading.rt:68:16
 line-shared-slice-read-if2 : (t : ℕ) → line-lts.Need-shared-slice-read-if2 (
   part-below t,
   part.Post,
@@ -384,7 +347,6 @@ line-shared-slice-read-if2 : (t : ℕ) → line-lts.Need-shared-slice-read-if2 (
 ) (line-at t) line.Post
 line-shared-slice-read-if2 t c = search needs
 
--- src/reading.rt:69:35
 line-add-line : (t : ℕ) → line-lts.Need-add-line (
   part-below t,
   part.Post,
@@ -395,7 +357,6 @@ line-add-line : (t : ℕ) → line-lts.Need-add-line (
 ) (line-at t) line.Post
 line-add-line t c = search needs
 
--- src/reading.rt:69:17
 line-line-requires : (t : ℕ) → line-lts.Need-line-requires (
   part-below t,
   part.Post,
@@ -406,7 +367,6 @@ line-line-requires : (t : ℕ) → line-lts.Need-line-requires (
 ) (line-at t) line.Post
 line-line-requires t c κs = let a = c .before .before .before .before .before .before .before .before .before .before .before .before .before .before .before .before .before .args in let s = now (a .text) in let o = now (a .out) in let w : PartAt s (a .at) (a .depth) (a .first) pending.Nothing o (c .before .before .before .before .before .before .before .before .before .before .before .before .before .part .last .1 .1 .1 .1 .1 .0) (c .before .before .before .before .before .before .before .before .before .begun3 .given .0 .0) (c .before .before .before .before .before .before .before .before .before .begun3 .given .0 .1 .0) = subst (PartRead s (a .at) (a .depth) (a .first) pending.Nothing o (c .before .before .before .before .before .before .before .before .before .before .before .before .before .part .last .1 .1 .1 .1 .1 .0)) (c .before .before .before .before .before .before .before .before .before .begun3 .given .1) (c .before .before .before .before .before .before .before .before .before .before .before .before .before .part .ensures) in let z = w .rows in let y = c .before .before .before .before .before .before .settle .ensures .1 in omega arith
 
--- src/reading.rt:69:17
 line-same-length-2 : (t : ℕ) → line-lts.Need-same-length-2 (
   part-below t,
   part.Post,
@@ -417,7 +377,6 @@ line-same-length-2 : (t : ℕ) → line-lts.Need-same-length-2 (
 ) (line-at t) line.Post
 line-same-length-2 t c = search needs
 
--- src/reading.rt:69:17
 line-returns-2 : (t : ℕ) → line-lts.Need-returns-2 (
   part-below t,
   part.Post,
@@ -428,7 +387,6 @@ line-returns-2 : (t : ℕ) → line-lts.Need-returns-2 (
 ) (line-at t) line.Post
 line-returns-2 t c = let a = c .before .before .before .before .before .before .before .before .before .before .before .before .before .before .before .before .before .before .before .before .args in let s = now (a .text) in let o = now (a .out) in let w : PartAt s (a .at) (a .depth) (a .first) pending.Nothing o (c .before .before .before .before .before .before .before .before .before .before .before .before .before .before .before .before .part .last .1 .1 .1 .1 .1 .0) (c .before .before .before .before .before .before .before .before .before .before .before .before .begun3 .given .0 .0) (c .before .before .before .before .before .before .before .before .before .before .before .before .begun3 .given .0 .1 .0) = subst (PartRead s (a .at) (a .depth) (a .first) pending.Nothing o (c .before .before .before .before .before .before .before .before .before .before .before .before .before .before .before .before .part .last .1 .1 .1 .1 .1 .0)) (c .before .before .before .before .before .before .before .before .before .before .before .before .begun3 .given .1) (c .before .before .before .before .before .before .before .before .before .before .before .before .before .before .before .before .part .ensures) in let z = w .rows in laws.line-either s (a .at) (a .depth) (a .first) o (a .waiting) (c .before .before .before .before .before .before .before .before .before .before .before .before .before .before .before .before .part .last .1 .1 .1 .1 .1 .0) (c .before .before .before .before .before .before .before .before .before .settle .last .0) _ _ (c .before .before .before .before .before .before .before .before .before .settle .result) w (c .before .before .before .before .before .before .before .before .before .settle .ensures .0) (c .before .before .before .before .before .before .before .before .before .settle .ensures .1) (omega arith) (omega arith) (c .before .before .before .before .if2 .taken) (c .before .before .line .last .1 .1 .1 .1 .1 .0) (c .before .before .line .result) (c .before .before .line .ensures)
 
--- src/reading.rt:55:1
 line-same-length-3 : (t : ℕ) → line-lts.Need-same-length-3 (
   part-below t,
   part.Post,
@@ -439,7 +397,6 @@ line-same-length-3 : (t : ℕ) → line-lts.Need-same-length-3 (
 ) (line-at t) line.Post
 line-same-length-3 t c = search needs
 
--- src/reading.rt:55:1
 line-returns-3 : (t : ℕ) → line-lts.Need-returns-3 (
   part-below t,
   part.Post,
@@ -450,7 +407,6 @@ line-returns-3 : (t : ℕ) → line-lts.Need-returns-3 (
 ) (line-at t) line.Post
 line-returns-3 t c = let a = c .before .before .before .before .before .before .before .before .before .args in let s = now (a .text) in let o = now (a .out) in laws.line-broken s (a .at) (a .depth) (a .first) o (a .waiting) (c .before .before .before .before .before .part .last .1 .1 .1 .1 .1 .0) _ (subst (PartRead s (a .at) (a .depth) (a .first) pending.Nothing o (c .before .before .before .before .before .part .last .1 .1 .1 .1 .1 .0)) (c .before .begun .given .1) (c .before .before .before .before .before .part .ensures))
 
--- src/reading.rt:55:1
 line-same-length-4 : (t : ℕ) → line-lts.Need-same-length-4 (
   part-below t,
   part.Post,
@@ -461,7 +417,6 @@ line-same-length-4 : (t : ℕ) → line-lts.Need-same-length-4 (
 ) (line-at t) line.Post
 line-same-length-4 t c = search needs
 
--- src/reading.rt:55:1
 line-returns-4 : (t : ℕ) → line-lts.Need-returns-4 (
   part-below t,
   part.Post,
@@ -472,7 +427,6 @@ line-returns-4 : (t : ℕ) → line-lts.Need-returns-4 (
 ) (line-at t) line.Post
 line-returns-4 t c = let a = c .before .before .before .before .before .before .before .before .before .args in let s = now (a .text) in let o = now (a .out) in laws.line-deep s (a .at) (a .depth) (a .first) o (a .waiting) (c .before .before .before .before .before .part .last .1 .1 .1 .1 .1 .0) _ (subst (PartRead s (a .at) (a .depth) (a .first) pending.Nothing o (c .before .before .before .before .before .part .last .1 .1 .1 .1 .1 .0)) (c .before .begun2 .given .1) (c .before .before .before .before .before .part .ensures))
 
--- src/reading.rt:55:1
 line-same-length-5 : (t : ℕ) → line-lts.Need-same-length-5 (
   part-below t,
   part.Post,
@@ -483,7 +437,6 @@ line-same-length-5 : (t : ℕ) → line-lts.Need-same-length-5 (
 ) (line-at t) line.Post
 line-same-length-5 t c = search needs
 
--- src/reading.rt:55:1
 line-returns-5 : (t : ℕ) → line-lts.Need-returns-5 (
   part-below t,
   part.Post,
@@ -494,7 +447,6 @@ line-returns-5 : (t : ℕ) → line-lts.Need-returns-5 (
 ) (line-at t) line.Post
 line-returns-5 t c = let a = c .before .before .before .before .before .before .before .before .before .before .before .before .before .before .before .before .args in let s = now (a .text) in let o = now (a .out) in let w : PartAt s (a .at) (a .depth) (a .first) pending.Nothing o (c .before .before .before .before .before .before .before .before .before .before .before .before .part .last .1 .1 .1 .1 .1 .0) (c .before .before .before .before .before .before .before .before .begun3 .given .0 .0) (c .before .before .before .before .before .before .before .before .begun3 .given .0 .1 .0) = subst (PartRead s (a .at) (a .depth) (a .first) pending.Nothing o (c .before .before .before .before .before .before .before .before .before .before .before .before .part .last .1 .1 .1 .1 .1 .0)) (c .before .before .before .before .before .before .before .before .begun3 .given .1) (c .before .before .before .before .before .before .before .before .before .before .before .before .part .ensures) in let z = w .rows in laws.line-at s (a .at) (a .depth) (a .first) o (a .waiting) (c .before .before .before .before .before .before .before .before .before .before .before .before .part .last .1 .1 .1 .1 .1 .0) (c .before .before .before .before .before .settle .last .0) _ _ (c .before .before .before .before .before .settle .result) w (c .before .before .before .before .before .settle .ensures .0) (c .before .before .before .before .before .settle .ensures .1) (λ h. c .if2 .left)
 
--- src/reading.rt:81:9
 part-item-requires : (t : ℕ) → part-lts.Need-item-requires (
   item-below t,
   item.Post,
@@ -505,7 +457,6 @@ part-item-requires : (t : ℕ) → part-lts.Need-item-requires (
 ) (part-at t) part.Post
 part-item-requires t c κs = search needs
 
--- src/reading.rt:83:25
 part-enum-known-begun : (t : ℕ) → part-lts.Need-enum-known-begun (
   item-below t,
   item.Post,
@@ -516,7 +467,6 @@ part-enum-known-begun : (t : ℕ) → part-lts.Need-enum-known-begun (
 ) (part-at t) part.Post
 part-enum-known-begun t c = search needs
 
--- src/reading.rt:84:23
 part-enum-known-begun-2 : (t : ℕ) → part-lts.Need-enum-known-begun-2 (
   item-below t,
   item.Post,
@@ -527,7 +477,6 @@ part-enum-known-begun-2 : (t : ℕ) → part-lts.Need-enum-known-begun-2 (
 ) (part-at t) part.Post
 part-enum-known-begun-2 t c = search needs
 
--- src/reading.rt:85:21
 part-enum-known-begun-3 : (t : ℕ) → part-lts.Need-enum-known-begun-3 (
   item-below t,
   item.Post,
@@ -538,7 +487,6 @@ part-enum-known-begun-3 : (t : ℕ) → part-lts.Need-enum-known-begun-3 (
 ) (part-at t) part.Post
 part-enum-known-begun-3 t c = search needs
 
--- src/reading.rt:86:17
 part-settle-requires : (t : ℕ) → part-lts.Need-settle-requires (
   item-below t,
   item.Post,
@@ -549,7 +497,6 @@ part-settle-requires : (t : ℕ) → part-lts.Need-settle-requires (
 ) (part-at t) part.Post
 part-settle-requires t c κs = let a = c .before .before .before .before .before .before .before .before .before .before .args in let s = now (a .text) in let o = now (a .out) in let w : ItemAt s (a .at) (a .depth) (a .first) o (c .before .before .before .before .before .before .item .last .1 .1 .1 .1 .0) (c .before .before .begun3 .given .0 .0) (c .before .before .begun3 .given .0 .1 .0) = subst (ItemRead s (a .at) (a .depth) (a .first) o (c .before .before .before .before .before .before .item .last .1 .1 .1 .1 .0)) (c .before .before .begun3 .given .1) (c .before .before .before .before .before .before .item .ensures) in let z = w .rows in omega arith
 
--- src/reading.rt:88:17
 part-same-length : (t : ℕ) → part-lts.Need-same-length (
   item-below t,
   item.Post,
@@ -560,7 +507,6 @@ part-same-length : (t : ℕ) → part-lts.Need-same-length (
 ) (part-at t) part.Post
 part-same-length t c = search needs
 
--- src/reading.rt:88:17
 part-returns : (t : ℕ) → part-lts.Need-returns (
   item-below t,
   item.Post,
@@ -571,7 +517,6 @@ part-returns : (t : ℕ) → part-lts.Need-returns (
 ) (part-at t) part.Post
 part-returns t c = let a = c .before .before .before .before .before .before .before .before .before .before .before .before .before .before .args in let s = now (a .text) in let o = now (a .out) in let w : ItemAt s (a .at) (a .depth) (a .first) o (c .before .before .before .before .before .before .before .before .before .before .item .last .1 .1 .1 .1 .0) (c .before .before .before .before .before .before .begun3 .given .0 .0) (c .before .before .before .before .before .before .begun3 .given .0 .1 .0) = subst (ItemRead s (a .at) (a .depth) (a .first) o (c .before .before .before .before .before .before .before .before .before .before .item .last .1 .1 .1 .1 .0)) (c .before .before .before .before .before .before .begun3 .given .1) (c .before .before .before .before .before .before .before .before .before .before .item .ensures) in let z = w .rows in laws.part-at s (a .at) (a .depth) (a .first) o (a .waiting) (c .before .before .before .before .before .before .before .before .before .before .item .last .1 .1 .1 .1 .0) (c .before .before .before .settle .last .0) _ _ (c .before .before .before .settle .result) w (c .before .before .before .settle .ensures .0) (c .before .before .before .settle .ensures .1) (λ h. absurd (omega arith))
 
--- src/reading.rt:90:16
 part-shared-slice-read-if2 : (t : ℕ) → part-lts.Need-shared-slice-read-if2 (
   item-below t,
   item.Post,
@@ -582,7 +527,6 @@ part-shared-slice-read-if2 : (t : ℕ) → part-lts.Need-shared-slice-read-if2 (
 ) (part-at t) part.Post
 part-shared-slice-read-if2 t c = search needs
 
--- src/reading.rt:91:35
 part-add-part : (t : ℕ) → part-lts.Need-add-part (
   item-below t,
   item.Post,
@@ -593,7 +537,6 @@ part-add-part : (t : ℕ) → part-lts.Need-add-part (
 ) (part-at t) part.Post
 part-add-part t c = search needs
 
--- src/reading.rt:91:17
 part-part-requires : (t : ℕ) → part-lts.Need-part-requires (
   item-below t,
   item.Post,
@@ -604,7 +547,6 @@ part-part-requires : (t : ℕ) → part-lts.Need-part-requires (
 ) (part-at t) part.Post
 part-part-requires t c κs = let a = c .before .before .before .before .before .before .before .before .before .before .before .before .before .before .before .before .before .args in let s = now (a .text) in let o = now (a .out) in let w : ItemAt s (a .at) (a .depth) (a .first) o (c .before .before .before .before .before .before .before .before .before .before .before .before .before .item .last .1 .1 .1 .1 .0) (c .before .before .before .before .before .before .before .before .before .begun3 .given .0 .0) (c .before .before .before .before .before .before .before .before .before .begun3 .given .0 .1 .0) = subst (ItemRead s (a .at) (a .depth) (a .first) o (c .before .before .before .before .before .before .before .before .before .before .before .before .before .item .last .1 .1 .1 .1 .0)) (c .before .before .before .before .before .before .before .before .before .begun3 .given .1) (c .before .before .before .before .before .before .before .before .before .before .before .before .before .item .ensures) in let z = w .rows in let y = c .before .before .before .before .before .before .settle .ensures .1 in omega arith
 
--- src/reading.rt:91:17
 part-same-length-2 : (t : ℕ) → part-lts.Need-same-length-2 (
   item-below t,
   item.Post,
@@ -615,7 +557,6 @@ part-same-length-2 : (t : ℕ) → part-lts.Need-same-length-2 (
 ) (part-at t) part.Post
 part-same-length-2 t c = search needs
 
--- src/reading.rt:91:17
 part-returns-2 : (t : ℕ) → part-lts.Need-returns-2 (
   item-below t,
   item.Post,
@@ -626,7 +567,6 @@ part-returns-2 : (t : ℕ) → part-lts.Need-returns-2 (
 ) (part-at t) part.Post
 part-returns-2 t c = let a = c .before .before .before .before .before .before .before .before .before .before .before .before .before .before .before .before .before .before .before .before .args in let s = now (a .text) in let o = now (a .out) in let w : ItemAt s (a .at) (a .depth) (a .first) o (c .before .before .before .before .before .before .before .before .before .before .before .before .before .before .before .before .item .last .1 .1 .1 .1 .0) (c .before .before .before .before .before .before .before .before .before .before .before .before .begun3 .given .0 .0) (c .before .before .before .before .before .before .before .before .before .before .before .before .begun3 .given .0 .1 .0) = subst (ItemRead s (a .at) (a .depth) (a .first) o (c .before .before .before .before .before .before .before .before .before .before .before .before .before .before .before .before .item .last .1 .1 .1 .1 .0)) (c .before .before .before .before .before .before .before .before .before .before .before .before .begun3 .given .1) (c .before .before .before .before .before .before .before .before .before .before .before .before .before .before .before .before .item .ensures) in let z = w .rows in laws.part-joint s (a .at) (a .depth) (a .first) o (a .waiting) (c .before .before .before .before .before .before .before .before .before .before .before .before .before .before .before .before .item .last .1 .1 .1 .1 .0) (c .before .before .before .before .before .before .before .before .before .settle .last .0) _ _ (c .before .before .before .before .before .before .before .before .before .settle .result) w (c .before .before .before .before .before .before .before .before .before .settle .ensures .0) (c .before .before .before .before .before .before .before .before .before .settle .ensures .1) (omega arith) (omega arith) g.both (c .before .before .before .before .if2 .taken) (c .before .before .part .last .1 .1 .1 .1 .1 .0) (c .before .before .part .result) (c .before .before .part .ensures)
 
--- src/reading.rt:93:16
 part-shared-slice-read-if3 : (t : ℕ) → part-lts.Need-shared-slice-read-if3 (
   item-below t,
   item.Post,
@@ -637,7 +577,6 @@ part-shared-slice-read-if3 : (t : ℕ) → part-lts.Need-shared-slice-read-if3 (
 ) (part-at t) part.Post
 part-shared-slice-read-if3 t c = search needs
 
--- src/reading.rt:94:35
 part-add-part-2 : (t : ℕ) → part-lts.Need-add-part-2 (
   item-below t,
   item.Post,
@@ -648,7 +587,6 @@ part-add-part-2 : (t : ℕ) → part-lts.Need-add-part-2 (
 ) (part-at t) part.Post
 part-add-part-2 t c = search needs
 
--- src/reading.rt:94:17
 part-part-requires-2 : (t : ℕ) → part-lts.Need-part-requires-2 (
   item-below t,
   item.Post,
@@ -659,7 +597,6 @@ part-part-requires-2 : (t : ℕ) → part-lts.Need-part-requires-2 (
 ) (part-at t) part.Post
 part-part-requires-2 t c κs = let a = c .before .before .before .before .before .before .before .before .before .before .before .before .before .before .before .before .before .before .before .args in let s = now (a .text) in let o = now (a .out) in let w : ItemAt s (a .at) (a .depth) (a .first) o (c .before .before .before .before .before .before .before .before .before .before .before .before .before .before .before .item .last .1 .1 .1 .1 .0) (c .before .before .before .before .before .before .before .before .before .before .before .begun3 .given .0 .0) (c .before .before .before .before .before .before .before .before .before .before .before .begun3 .given .0 .1 .0) = subst (ItemRead s (a .at) (a .depth) (a .first) o (c .before .before .before .before .before .before .before .before .before .before .before .before .before .before .before .item .last .1 .1 .1 .1 .0)) (c .before .before .before .before .before .before .before .before .before .before .before .begun3 .given .1) (c .before .before .before .before .before .before .before .before .before .before .before .before .before .before .before .item .ensures) in let z = w .rows in let y = c .before .before .before .before .before .before .before .before .settle .ensures .1 in omega arith
 
--- src/reading.rt:94:17
 part-same-length-3 : (t : ℕ) → part-lts.Need-same-length-3 (
   item-below t,
   item.Post,
@@ -670,7 +607,6 @@ part-same-length-3 : (t : ℕ) → part-lts.Need-same-length-3 (
 ) (part-at t) part.Post
 part-same-length-3 t c = search needs
 
--- src/reading.rt:94:17
 part-returns-3 : (t : ℕ) → part-lts.Need-returns-3 (
   item-below t,
   item.Post,
@@ -681,7 +617,6 @@ part-returns-3 : (t : ℕ) → part-lts.Need-returns-3 (
 ) (part-at t) part.Post
 part-returns-3 t c = let a = c .before .before .before .before .before .before .before .before .before .before .before .before .before .before .before .before .before .before .before .before .before .before .args in let s = now (a .text) in let o = now (a .out) in let w : ItemAt s (a .at) (a .depth) (a .first) o (c .before .before .before .before .before .before .before .before .before .before .before .before .before .before .before .before .before .before .item .last .1 .1 .1 .1 .0) (c .before .before .before .before .before .before .before .before .before .before .before .before .before .before .begun3 .given .0 .0) (c .before .before .before .before .before .before .before .before .before .before .before .before .before .before .begun3 .given .0 .1 .0) = subst (ItemRead s (a .at) (a .depth) (a .first) o (c .before .before .before .before .before .before .before .before .before .before .before .before .before .before .before .before .before .before .item .last .1 .1 .1 .1 .0)) (c .before .before .before .before .before .before .before .before .before .before .before .before .before .before .begun3 .given .1) (c .before .before .before .before .before .before .before .before .before .before .before .before .before .before .before .before .before .before .item .ensures) in let z = w .rows in laws.part-joint s (a .at) (a .depth) (a .first) o (a .waiting) (c .before .before .before .before .before .before .before .before .before .before .before .before .before .before .before .before .before .before .item .last .1 .1 .1 .1 .0) (c .before .before .before .before .before .before .before .before .before .before .before .settle .last .0) _ _ (c .before .before .before .before .before .before .before .before .before .before .before .settle .result) w (c .before .before .before .before .before .before .before .before .before .before .before .settle .ensures .0) (c .before .before .before .before .before .before .before .before .before .before .before .settle .ensures .1) (omega arith) (omega arith) g.without (c .before .before .before .before .if3 .taken) (c .before .before .part2 .last .1 .1 .1 .1 .1 .0) (c .before .before .part2 .result) (c .before .before .part2 .ensures)
 
--- src/reading.rt:77:1
 part-same-length-4 : (t : ℕ) → part-lts.Need-same-length-4 (
   item-below t,
   item.Post,
@@ -692,7 +627,6 @@ part-same-length-4 : (t : ℕ) → part-lts.Need-same-length-4 (
 ) (part-at t) part.Post
 part-same-length-4 t c = search needs
 
--- src/reading.rt:77:1
 part-returns-4 : (t : ℕ) → part-lts.Need-returns-4 (
   item-below t,
   item.Post,
@@ -703,7 +637,6 @@ part-returns-4 : (t : ℕ) → part-lts.Need-returns-4 (
 ) (part-at t) part.Post
 part-returns-4 t c = let a = c .before .before .before .before .before .before .before .before .before .args in let s = now (a .text) in let o = now (a .out) in laws.part-broken s (a .at) (a .depth) (a .first) o (a .waiting) (c .before .before .before .before .before .item .last .1 .1 .1 .1 .0) _ (subst (ItemRead s (a .at) (a .depth) (a .first) o (c .before .before .before .before .before .item .last .1 .1 .1 .1 .0)) (c .before .begun .given .1) (c .before .before .before .before .before .item .ensures))
 
--- src/reading.rt:77:1
 part-same-length-5 : (t : ℕ) → part-lts.Need-same-length-5 (
   item-below t,
   item.Post,
@@ -714,7 +647,6 @@ part-same-length-5 : (t : ℕ) → part-lts.Need-same-length-5 (
 ) (part-at t) part.Post
 part-same-length-5 t c = search needs
 
--- src/reading.rt:77:1
 part-returns-5 : (t : ℕ) → part-lts.Need-returns-5 (
   item-below t,
   item.Post,
@@ -725,7 +657,6 @@ part-returns-5 : (t : ℕ) → part-lts.Need-returns-5 (
 ) (part-at t) part.Post
 part-returns-5 t c = let a = c .before .before .before .before .before .before .before .before .before .args in let s = now (a .text) in let o = now (a .out) in laws.part-deep s (a .at) (a .depth) (a .first) o (a .waiting) (c .before .before .before .before .before .item .last .1 .1 .1 .1 .0) _ (subst (ItemRead s (a .at) (a .depth) (a .first) o (c .before .before .before .before .before .item .last .1 .1 .1 .1 .0)) (c .before .begun2 .given .1) (c .before .before .before .before .before .item .ensures))
 
--- src/reading.rt:77:1
 part-same-length-6 : (t : ℕ) → part-lts.Need-same-length-6 (
   item-below t,
   item.Post,
@@ -736,7 +667,6 @@ part-same-length-6 : (t : ℕ) → part-lts.Need-same-length-6 (
 ) (part-at t) part.Post
 part-same-length-6 t c = search needs
 
--- src/reading.rt:77:1
 part-returns-6 : (t : ℕ) → part-lts.Need-returns-6 (
   item-below t,
   item.Post,

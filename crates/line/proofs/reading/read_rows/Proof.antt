@@ -1,62 +1,46 @@
 use borrow.Author.Needs.{needs}
 use native.Mathlib.Omega.{arith}
-use Prim.Native.Nat.{ℕ, _+_, _<_, _≤_}
-use mathlib.Core.Path.{_≡_, refl, sym, ap, _∙_, subst}
+use mathlib.Core.Path.{subst}
 use denote.Ref.{now}
 use Rattle.line.specs.declared.reading.Pending.the-variants as pending
 use Rattle.line.specs.Inner.Reads.{LineRead, LineAt}
 use Rattle.line.proofs.Laws.Reads.{whole-broken-off, whole-deep, whole-broken, whole-at}
 use Rattle.line.proofs.reading.read_rows.Statement.{statement}
 use Rattle.line.proofs.reading.read_rows.Tie as tie
-use Rattle.line.proofs.reading.read_rows.Reads as reads
-use Rattle.line.proofs.reading.read_rows.Lts as lts
-use Rattle.line.proofs.reading.line.Reads as line-reads
 
--- src/reading.rt:139:9
 line-requires : tie.Need-line-requires
 line-requires c κs = search needs
 
--- src/reading.rt:141:25
 enum-known-whole : tie.Need-enum-known-whole
 enum-known-whole c = search needs
 
--- src/reading.rt:142:23
 enum-known-whole-2 : tie.Need-enum-known-whole-2
 enum-known-whole-2 c = search needs
 
--- src/reading.rt:143:21
 enum-known-whole-3 : tie.Need-enum-known-whole-3
 enum-known-whole-3 c = search needs
 
--- src/reading.rt:145:17
 same-length : tie.Need-same-length
 same-length c = search needs
 
--- src/reading.rt:145:17
 returns : tie.Need-returns
 returns c = let a = c .before .before .before .before .before .before .before .before .before .before .args in let s = now (a .text) in let o = now (a .out) in let w : LineAt s 0 0 0 pending.Nothing o (c .before .before .before .before .before .before .line .last .1 .1 .1 .1 .1 .0) (c .before .before .whole3 .given .0 .0) (c .before .before .whole3 .given .0 .1 .0) = subst (LineRead s 0 0 0 pending.Nothing o (c .before .before .before .before .before .before .line .last .1 .1 .1 .1 .1 .0)) (c .before .before .whole3 .given .1) (c .before .before .before .before .before .before .line .ensures) in whole-broken s o (c .before .before .before .before .before .before .line .last .1 .1 .1 .1 .1 .0) _ _ w (omega arith)
 
--- src/reading.rt:135:1
 same-length-2 : tie.Need-same-length-2
 same-length-2 c = search needs
 
--- src/reading.rt:135:1
 returns-2 : tie.Need-returns-2
 returns-2 c = let a = c .before .before .before .before .before .before .before .before .before .args in let s = now (a .text) in let o = now (a .out) in whole-broken-off s o (c .before .before .before .before .before .line .last .1 .1 .1 .1 .1 .0) _ (subst (LineRead s 0 0 0 pending.Nothing o (c .before .before .before .before .before .line .last .1 .1 .1 .1 .1 .0)) (c .before .whole .given .1) (c .before .before .before .before .before .line .ensures))
 
--- src/reading.rt:135:1
 same-length-3 : tie.Need-same-length-3
 same-length-3 c = search needs
 
--- src/reading.rt:135:1
 returns-3 : tie.Need-returns-3
 returns-3 c = let a = c .before .before .before .before .before .before .before .before .before .args in let s = now (a .text) in let o = now (a .out) in whole-deep s o (c .before .before .before .before .before .line .last .1 .1 .1 .1 .1 .0) _ (subst (LineRead s 0 0 0 pending.Nothing o (c .before .before .before .before .before .line .last .1 .1 .1 .1 .1 .0)) (c .before .whole2 .given .1) (c .before .before .before .before .before .line .ensures))
 
--- src/reading.rt:135:1
 same-length-4 : tie.Need-same-length-4
 same-length-4 c = search needs
 
--- src/reading.rt:135:1
 returns-4 : tie.Need-returns-4
 returns-4 c = let a = c .before .before .before .before .before .before .before .before .before .before .args in let s = now (a .text) in let o = now (a .out) in let w : LineAt s 0 0 0 pending.Nothing o (c .before .before .before .before .before .before .line .last .1 .1 .1 .1 .1 .0) (c .before .before .whole3 .given .0 .0) (c .before .before .whole3 .given .0 .1 .0) = subst (LineRead s 0 0 0 pending.Nothing o (c .before .before .before .before .before .before .line .last .1 .1 .1 .1 .1 .0)) (c .before .before .whole3 .given .1) (c .before .before .before .before .before .before .line .ensures) in whole-at s o (c .before .before .before .before .before .before .line .last .1 .1 .1 .1 .1 .0) _ _ w (omega arith)
 

@@ -1,88 +1,63 @@
 use borrow.Author.Needs.{needs}
 use native.Mathlib.Omega.{arith}
-use Prim.Native.Nat.{ℕ, _+_}
-use mathlib.Core.Path.{_≡_, refl, sym, ap, _∙_, subst}
-use mathlib.Core.List.{List, [], _∷_}
-use lib.ListN.{length}
+use mathlib.Core.Path.{refl}
 use denote.Ref.{now}
-use Rattle.line.specs.declared.reading.Pending.{Pending}
-use Rattle.line.specs.Inner.Reads.{pendingRows}
-use Rattle.line.specs.Inner.Store.{putWords, stored}
+use Rattle.line.specs.Inner.Store.{stored}
 use Rattle.line.proofs.Laws.Reads.{settled}
 use Rattle.line.proofs.reading.settle.Statement.{statement}
 use Rattle.line.proofs.reading.settle.Tie as tie
-use Rattle.line.proofs.reading.settle.Reads as reads
-use Rattle.line.proofs.reading.settle.Lts as lts
-use Rattle.line.proofs.figure.put.Reads as put-reads
 
--- src/reading.rt:38:29
 enum-told : tie.Need-enum-told
 enum-told c = search needs
 
--- src/reading.rt:40:17
 enum-told-2 : tie.Need-enum-told-2
 enum-told-2 c = search needs
 
--- src/reading.rt:40:13
 put-requires : tie.Need-put-requires
 put-requires c κs = search needs
 
--- src/reading.rt:41:13
 add-result : tie.Need-add-result
 add-result c = search needs
 
--- src/reading.rt:44:17
 enum-told-3 : tie.Need-enum-told-3
 enum-told-3 c = search needs
 
--- src/reading.rt:44:13
 put-requires-2 : tie.Need-put-requires-2
 put-requires-2 c κs = search needs
 
--- src/reading.rt:45:13
 add-result-2 : tie.Need-add-result-2
 add-result-2 c = search needs
 
--- src/reading.rt:48:17
 enum-told-4 : tie.Need-enum-told-4
 enum-told-4 c = search needs
 
--- src/reading.rt:48:13
 put-requires-3 : tie.Need-put-requires-3
 put-requires-3 c κs = search needs
 
--- src/reading.rt:49:13
 add-result-3 : tie.Need-add-result-3
 add-result-3 c = search needs
 
--- src/reading.rt:33:1
 returns : tie.Need-returns
 unfolding stored
 returns c = let a = c .before .before .before .args in settled (now (a .out)) (a .rows) (a .waiting) _ (c .enum-told .given .1) refl (omega arith)
 
--- src/reading.rt:33:1
 same-length : tie.Need-same-length
 same-length c = search needs
 
--- src/reading.rt:33:1
 returns-2 : tie.Need-returns-2
 unfolding stored
 returns-2 c = let a = c .before .before .before .before .before .before .before .args in settled (now (a .out)) (a .rows) (a .waiting) _ (c .before .before .before .before .enum-told2 .given .1) (c .before .before .put .ensures) (omega arith)
 
--- src/reading.rt:33:1
 same-length-2 : tie.Need-same-length-2
 same-length-2 c = search needs
 
--- src/reading.rt:33:1
 returns-3 : tie.Need-returns-3
 unfolding stored
 returns-3 c = let a = c .before .before .before .before .before .before .before .args in settled (now (a .out)) (a .rows) (a .waiting) _ (c .before .before .before .before .enum-told3 .given .1) (c .before .before .put2 .ensures) (omega arith)
 
--- src/reading.rt:33:1
 same-length-3 : tie.Need-same-length-3
 same-length-3 c = search needs
 
--- src/reading.rt:33:1
 returns-4 : tie.Need-returns-4
 unfolding stored
 returns-4 c = let a = c .before .before .before .before .before .before .before .args in settled (now (a .out)) (a .rows) (a .waiting) _ (c .before .before .before .before .enum-told4 .given .1) (c .before .before .put3 .ensures) (omega arith)

@@ -2,34 +2,25 @@ use borrow.Author.Tests.{eq-eqb, ne-eqb}
 use borrow.Author.Needs.{needs}
 use Rattle.line.proofs.steps.another.Statement.{statement}
 use Rattle.line.proofs.steps.another.Tie as tie
-use Rattle.line.proofs.steps.another.Reads as reads
-use Rattle.line.proofs.steps.another.Lts as lts
 
--- src/steps.rt:200:9
 returns : tie.Need-returns
 returns c = let a = c .before .args in rw (ne-eqb (a .byte) 32 (c .if1 .taken))
 
--- src/steps.rt:203:49
 add-t9 : tie.Need-add-t9
 add-t9 c = search needs
 
--- src/steps.rt:203:9
 returns-2 : tie.Need-returns-2
 returns-2 c = let a = c .before .before .args in rw (eq-eqb (a .byte) 32 (c .before .if1 .left), eq-eqb (a .count) 0 (c .if2 .taken))
 
--- src/steps.rt:206:49
 add-t12 : tie.Need-add-t12
 add-t12 c = search needs
 
--- src/steps.rt:206:9
 returns-3 : tie.Need-returns-3
 returns-3 c = let a = c .before .before .before .args in rw (eq-eqb (a .byte) 32 (c .before .before .if1 .left), ne-eqb (a .count) 0 (c .before .if2 .left), eq-eqb (a .count) 1 (c .if3 .taken))
 
--- src/steps.rt:208:38
 add-t15 : tie.Need-add-t15
 add-t15 c = search needs
 
--- src/steps.rt:195:1
 returns-4 : tie.Need-returns-4
 returns-4 c = let a = c .before .before .before .args in rw (eq-eqb (a .byte) 32 (c .before .before .if1 .left), ne-eqb (a .count) 0 (c .before .if2 .left), ne-eqb (a .count) 1 (c .if3 .left))
 

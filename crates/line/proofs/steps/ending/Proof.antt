@@ -1,18 +1,13 @@
 use borrow.Author.Tests.{eq-eqb, ne-eqb}
 use Rattle.line.proofs.steps.ending.Statement.{statement}
 use Rattle.line.proofs.steps.ending.Tie as tie
-use Rattle.line.proofs.steps.ending.Reads as reads
-use Rattle.line.proofs.steps.ending.Lts as lts
 
--- src/figure.rt:112:9
 returns : tie.Need-returns
 returns c = rw (eq-eqb (c .before .args .byte) 59 (c .if1 .taken))
 
--- src/figure.rt:115:9
 returns-2 : tie.Need-returns-2
 returns-2 c = rw (ne-eqb (c .before .before .args .byte) 59 (c .before .if1 .left), eq-eqb (c .before .before .args .byte) 93 (c .if2 .taken))
 
--- src/figure.rt:108:1
 returns-3 : tie.Need-returns-3
 returns-3 c = rw (ne-eqb (c .before .before .args .byte) 59 (c .before .if1 .left), ne-eqb (c .before .before .args .byte) 93 (c .if2 .left))
 

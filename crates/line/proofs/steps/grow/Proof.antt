@@ -1,66 +1,49 @@
 use borrow.Author.Needs.{needs}
 use native.Mathlib.Omega.{arith}
-use Prim.Native.Nat.{ℕ, _+_, _-_, _*_, _≤_}
-use mathlib.Core.Path.{_≡_, refl, sym, ap, _∙_, subst}
+use Prim.Native.Nat.{ℕ, _-_, _≤_}
+use mathlib.Core.Path.{_≡_, sym, ap, _∙_, subst}
 use Rattle.grammar.specs.declared.tokens.Number.{Number}
-use Rattle.grammar.specs.declared.tokens.Number.the-variants.{Fresh, Digits}
 use Rattle.line.specs.Inner.States.{NumberMost, grownBy}
 use Rattle.line.proofs.Laws.States.{grow-below, grow-above, grow-fresh-over, grow-fresh, grow-zero, grow-over, grow-digits}
 use Rattle.line.proofs.steps.grow.Statement.{statement}
 use Rattle.line.proofs.steps.grow.Tie as tie
-use Rattle.line.proofs.steps.grow.Reads as reads
-use Rattle.line.proofs.steps.grow.Lts as lts
-use Rattle.line.proofs.steps.wide.Reads as wide-reads
 
--- src/figure.rt:53:9
 returns : tie.Need-returns
 returns c = let a = c .before .args in sym (grow-below (a .most) (a .byte) (a .number) (c .if1 .taken))
 
--- src/figure.rt:56:9
 returns-2 : tie.Need-returns-2
 returns-2 c = let a = c .before .before .args in sym (grow-above (a .most) (a .byte) (a .number) (omega arith) (c .if2 .taken))
 
--- src/figure.rt:58:13
 wide-requires : tie.Need-wide-requires
 wide-requires c κs = search needs
 
--- src/figure.rt:58:13
 sub-d : tie.Need-sub-d
 sub-d c = search needs
 
--- src/figure.rt:61:16
 enum-told : tie.Need-enum-told
 enum-told c = search needs
 
--- src/figure.rt:62:17
 returns-3 : tie.Need-returns-3
 returns-3 c = let a = c .before .before .before .before .before .before .args in let d : c .before .before .before .wide .result - 48 ≡ a .byte - 48 = ap (λ (n : ℕ). n - 48) (c .before .before .before .wide .ensures) in sym (ap (λ (x : Number). grownBy (a .most) x (a .byte)) (c .before .enum-told .given .1) ∙ grow-fresh-over (a .most) (a .byte) (omega arith) (omega arith) _ d (c .if3 .taken))
 
--- src/figure.rt:66:24
 enum-known-number : tie.Need-enum-known-number
 enum-known-number c = search needs
 
--- src/figure.rt:68:17
 returns-4 : tie.Need-returns-4
 returns-4 c = let a = c .before .before .before .before .before .before .before .args in sym (ap (λ (x : Number). grownBy (a .most) x (a .byte)) (c .before .before .number .given .1) ∙ grow-zero (a .most) (a .byte) (omega arith) (omega arith) _ (c .if4 .taken))
 
--- src/figure.rt:70:25
 mul-value : tie.Need-mul-value
 mul-value c = let a = c .before .before .before .before .before .before .before .args in let h : c .before .before .number .given .0 .0 ≤ 65536 = subst (NumberMost 65536) (c .before .before .number .given .1) (c .before .before .before .before .before .before .before .pre) in omega arith
 
--- src/figure.rt:70:25
 add-value : tie.Need-add-value
 add-value c = let a = c .before .before .before .before .before .before .before .args in let h : c .before .before .number .given .0 .0 ≤ 65536 = subst (NumberMost 65536) (c .before .before .number .given .1) (c .before .before .before .before .before .before .before .pre) in let e = c .before .before .before .before .wide .ensures in omega arith
 
--- src/figure.rt:72:17
 returns-5 : tie.Need-returns-5
 returns-5 c = let a = c .before .before .before .before .before .before .before .before .args in let d : c .before .before .before .before .before .wide .result - 48 ≡ a .byte - 48 = ap (λ (n : ℕ). n - 48) (c .before .before .before .before .before .wide .ensures) in sym (ap (λ (x : Number). grownBy (a .most) x (a .byte)) (c .before .before .before .number .given .1) ∙ grow-over (a .most) (a .byte) (omega arith) (omega arith) _ _ d (c .before .if4 .left) (c .if5 .taken))
 
--- src/figure.rt:48:1
 returns-6 : tie.Need-returns-6
 returns-6 c = let a = c .before .before .before .before .before .before .args in let d : c .before .before .before .wide .result - 48 ≡ a .byte - 48 = ap (λ (n : ℕ). n - 48) (c .before .before .before .wide .ensures) in sym (ap (λ (x : Number). grownBy (a .most) x (a .byte)) (c .before .enum-told .given .1) ∙ grow-fresh (a .most) (a .byte) (omega arith) (omega arith) _ d (c .if3 .left))
 
--- src/figure.rt:48:1
 returns-7 : tie.Need-returns-7
 returns-7 c = let a = c .before .before .before .before .before .before .before .before .args in let d : c .before .before .before .before .before .wide .result - 48 ≡ a .byte - 48 = ap (λ (n : ℕ). n - 48) (c .before .before .before .before .before .wide .ensures) in sym (ap (λ (x : Number). grownBy (a .most) x (a .byte)) (c .before .before .before .number .given .1) ∙ grow-digits (a .most) (a .byte) (omega arith) (omega arith) _ _ d (c .before .if4 .left) (c .if5 .left))
 

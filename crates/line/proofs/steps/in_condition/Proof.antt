@@ -1,6 +1,6 @@
 use native.Mathlib.Omega.{arith}
 use Prim.Native.Nat.{ℕ, _+_, _<_, _≤_}
-use mathlib.Core.Path.{sym, ap, ap₂, _∙_, subst, _≡_}
+use mathlib.Core.Path.{sym, ap, ap₂, _∙_, subst}
 use Rattle.grammar.specs.declared.tokens.Number.{Number}
 use Rattle.line.specs.declared.steps.Words.{Words}
 use Rattle.grammar.specs.Grammar.{arity, mostOf}
@@ -9,71 +9,49 @@ use Rattle.line.proofs.Laws.States.{few, number-small, last-small, coun
 use borrow.Author.Needs.{needs}
 use Rattle.line.proofs.steps.in_condition.Statement.{statement}
 use Rattle.line.proofs.steps.in_condition.Tie as tie
-use Rattle.line.proofs.steps.in_condition.Reads as reads
-use Rattle.line.proofs.steps.in_condition.Lts as lts
-use Rattle.line.proofs.steps.another.Reads as another-reads
-use Rattle.line.proofs.steps.arity.Reads as arity-reads
-use Rattle.line.proofs.steps.condition.Reads as condition-reads
-use Rattle.line.proofs.steps.ending.Reads as ending-reads
-use Rattle.line.proofs.steps.grow.Reads as grow-reads
-use Rattle.line.proofs.steps.most_of.Reads as most-of-reads
 
--- src/steps.rt:216:9
 most-of-requires : tie.Need-most-of-requires
 most-of-requires c κs = search needs
 
--- src/steps.rt:217:9
 grow-requires : tie.Need-grow-requires
 grow-requires c κs = let a = c .before .args in number-small (a .word) (a .count) (a .number) (c .before .pre .0)
 
--- src/steps.rt:218:25
 enum-known-grown : tie.Need-enum-known-grown
 enum-known-grown c = search needs
 
--- src/steps.rt:219:9
 returns : tie.Need-returns
 returns c = let a = c .before .before .before .before .before .args in let m = c .before .before .before .before .most-of .ensures in sym (counting-grows (a .word) (a .count) (a .a) (a .b) (a .c) (a .byte) (a .number) _ (ap (λ (t : ℕ). grownBy t (a .number) (a .byte)) (sym m) ∙ sym (c .before .before .before .grow .ensures) ∙ c .before .grown .given .1))
 
 enum-told : tie.Need-enum-told
 enum-told c = search needs
 
--- src/steps.rt:222:26
 enum-told-2 : tie.Need-enum-told-2
 enum-told-2 c = search needs
 
--- src/steps.rt:223:24
 enum-known-number : tie.Need-enum-known-number
 enum-known-number c = search needs
 
--- src/steps.rt:224:16
 add-if1 : tie.Need-add-if1
 add-if1 c = let a = c .before .before .before .before .before .before .before .args in let f = few (a .word) in let h = c .before .before .before .before .before .before .before .pre .1 in omega arith
 
--- src/steps.rt:224:28
 arity-requires : tie.Need-arity-requires
 arity-requires c κs = search needs
 
--- src/steps.rt:225:17
 another-requires : tie.Need-another-requires
 another-requires c κs = let a = c .before .before .before .before .before .before .before .before .before .args in let f = few (a .word) in let h = c .before .before .before .before .before .before .before .before .before .pre .1 in omega arith
 
--- src/steps.rt:225:17
 returns-2 : tie.Need-returns-2
 returns-2 c = let a = c .before .before .before .before .before .before .before .before .before .before .args in let m = c .before .before .before .before .before .before .before .before .before .most-of .ensures in let l : a .count + 1 < arity (a .word) = subst (λ (k : ℕ). a .count + 1 < k) (c .before .before .arity .ensures) (c .before .if1 .taken) in let e = c .before .before .before .before .number .given .1 in c .another .ensures ∙ sym (ap (λ (x : Number). stepCounting (a .word) (a .count) (a .a) (a .b) (a .c) x (a .byte)) e ∙ counting-another (a .word) (a .count) (a .a) (a .b) (a .c) (a .byte) _ (ap₂ (λ (t : ℕ) (x : Number). grownBy t x (a .byte)) (sym m) (sym e) ∙ sym (c .before .before .before .before .before .before .before .before .grow .ensures) ∙ c .before .before .before .before .before .before .enum-told .given .1) l)
 
--- src/steps.rt:227:17
 condition-requires : tie.Need-condition-requires
 condition-requires c κs = let a = c .before .before .before .before .before .before .before .before .before .args in let h = c .before .before .before .before .before .before .before .before .before .pre in let l : arity (a .word) ≤ a .count + 1 = subst (λ (k : ℕ). k ≤ a .count + 1) (c .before .arity .ensures) (c .if1 .left) in (h .2, last-small (a .word) (a .count) _ (h .1) l (subst (NumberMost (mostOf (a .word) (a .count))) (c .before .before .before .number .given .1) (h .0)))
 
--- src/steps.rt:228:13
 ending-requires : tie.Need-ending-requires
 ending-requires c κs = search needs
 
--- src/steps.rt:212:1
 returns-3 : tie.Need-returns-3
 returns-3 c = let a = c .before .before .before .before .before .before .args in let m = c .before .before .before .before .before .most-of .ensures in let e = c .enum-told2 .given .1 in sym (ap (λ (x : Number). stepCounting (a .word) (a .count) (a .a) (a .b) (a .c) x (a .byte)) e ∙ counting-fresh (a .word) (a .count) (a .a) (a .b) (a .c) (a .byte) (ap₂ (λ (t : ℕ) (x : Number). grownBy t x (a .byte)) (sym m) (sym e) ∙ sym (c .before .before .before .before .grow .ensures) ∙ c .before .before .enum-told .given .1))
 
--- src/steps.rt:212:1
 returns-4 : tie.Need-returns-4
 returns-4 c = let a = c .before .before .before .before .before .before .before .before .before .before .before .args in let m = c .before .before .before .before .before .before .before .before .before .before .most-of .ensures in let l : arity (a .word) ≤ a .count + 1 = subst (λ (k : ℕ). k ≤ a .count + 1) (c .before .before .before .arity .ensures) (c .before .before .if1 .left) in let e = c .before .before .before .before .before .number .given .1 in c .ending .ensures ∙ ap (λ (w : Words). endingState w (a .byte)) (c .before .condition .ensures) ∙ sym (ap (λ (x : Number). stepCounting (a .word) (a .count) (a .a) (a .b) (a .c) x (a .byte)) e ∙ counting-ends (a .word) (a .count) (a .a) (a .b) (a .c) (a .byte) _ (ap₂ (λ (t : ℕ) (x : Number). grownBy t x (a .byte)) (sym m) (sym e) ∙ sym (c .before .before .before .before .before .before .before .before .before .grow .ensures) ∙ c .before .before .before .before .before .before .before .enum-told .given .1) l)
 
