@@ -9,7 +9,8 @@ use mathlib.Core.List.{List, [], _∷_, _++_, map}
 use lib.ListN.{length, getD}
 use Rattle.seq.specs.Lists.{joined}
 pub use Rattle.grammar.specs.declared.tokens.Word.{Word}
-pub use Rattle.grammar.specs.declared.tokens.Word.the-variants.{Near as near, Before as before, Same as same, Span as span, Apart as apart}
+pub use Rattle.grammar.specs.declared.tokens.Word.the-variants.{Near as near, Before as before, Same as same, Span as span}
+pub use Rattle.grammar.specs.declared.tokens.Word.the-variants.{Apart as apart}
 use Rattle.grammar.specs.Text.{lead}
 
 -- the letter that a condition begins with: `n`, `b`, `t`, `s`, `a`

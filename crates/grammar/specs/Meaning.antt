@@ -12,7 +12,8 @@ use Rattle.plan.specs.declared.row.Row.{Row}
 use Rattle.plan.specs.Patterns.{Pattern}
 use Rattle.plan.specs.Parts.{patternRows}
 use Rattle.fulltext.specs.Documents.{found}
-use Rattle.grammar.specs.Grammar.{Word, near, before, same, span, apart, Condition, Figure, Joint, both, without, Line, one, either, Part, alone, join, Item, figure, round}
+use Rattle.grammar.specs.Grammar.{Word, near, before, same, span, apart, Condition, Figure, Joint, both, without, Line, one, either}
+use Rattle.grammar.specs.Grammar.{Part, alone, join, Item, figure, round}
 
 -- the predicate of a word and its numbers
 abbrev pub predicateBy : Word → List ℕ → Predicate

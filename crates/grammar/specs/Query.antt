@@ -13,7 +13,8 @@ use Rattle.plan.specs.declared.row.Row.{Row}
 use Rattle.plan.specs.Patterns.{Pattern, noRow, openAfter}
 use Rattle.plan.specs.Parts.{patternRows}
 use Rattle.plan.specs.Rows.{rowsOf}
-use Rattle.grammar.specs.Grammar.{near, before, same, span, apart, Condition, Figure, both, without, Line, one, either, Part, alone, join, Item, figure, round, written}
+use Rattle.grammar.specs.Grammar.{near, before, same, span, apart, Condition, Figure, both, without, Line, one, either, Part, alone}
+use Rattle.grammar.specs.Grammar.{join, Item, figure, round, written}
 use Rattle.grammar.specs.Meaning.{patternOf, operatorOf, operatorRow}
 
 pub data Query : Type 0 where

@@ -9,7 +9,8 @@ use lib.ListN.{length}
 pub use Rattle.grammar.specs.declared.tokens.Number.{Number}
 pub use Rattle.grammar.specs.declared.tokens.Number.the-variants.{Fresh as fresh, Digits as digits}
 use Rattle.grammar.specs.Text.{lead, gapAfter}
-use Rattle.grammar.specs.Grammar.{Word, near, before, same, span, apart, letterOf, arity, mostOf, Figure, Joint, both, without, jointByte, Line, one, either, Part, alone, join, Item, figure, round, openText, written, partText}
+use Rattle.grammar.specs.Grammar.{Word, near, before, same, span, apart, letterOf, arity, mostOf, Figure, Joint, both, without}
+use Rattle.grammar.specs.Grammar.{jointByte, Line, one, either, Part, alone, join, Item, figure, round, openText, written, partText}
 
 abbrev pub valueOf : Number → ℕ
 valueOf fresh = 0
@@ -83,7 +84,8 @@ pub data Place : Type 0 where
   first : Front → Place
   next : Front → Part → Joint → Place
 
--- all that has been read: an item is to come; in a figure; behind an item. Each with the places of the brackets that are open, the last one first
+-- all that has been read: an item is to come; in a figure; behind an item. Each with the places of the brackets that are open, the last one
+-- first
 pub data Config : Type 0 where
   ready : Place → List Place → Config
   inside : Partial → Place → List Place → Config

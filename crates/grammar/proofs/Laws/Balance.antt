@@ -11,7 +11,9 @@ use borrow.Author.Tests.{eqb-true, ne-eqb}
 use Rattle.seq.specs.Lists.{keep, consIf}
 use Rattle.grammar.specs.Grammar as g
 use Rattle.grammar.specs.Grammar.{Figure, Item, Line, arity, mostOf}
-use Rattle.grammar.specs.Reading.{Number, fresh, digits, grows, Partial, listing, semicolon, lettered, counting, Next, goes, closes, stuck, firstLists, withCondition, behind, ending, stepIn, Place, first, next, Config, ready, inside, after, lineOf, placed, shut, within, step, openIn}
+use Rattle.grammar.specs.Reading.{Number, fresh, digits, grows, Partial, listing, semicolon, lettered, counting, Next, goes, closes}
+use Rattle.grammar.specs.Reading.{stuck, firstLists, withCondition, behind, ending, stepIn, Place, first, next, Config, ready, inside}
+use Rattle.grammar.specs.Reading.{after, lineOf, placed, shut, within, step, openIn}
 use Rattle.grammar.proofs.Laws.Reading.{split, grows-tells}
 use Rattle.grammar.proofs.Laws.Steps.{Steps}
 
@@ -28,10 +30,15 @@ plain-is : (b k : ℕ) → eqb b k ≡ true → Plain k → Plain b
 plain-is b k e h = subst Plain (sym (eqb-true b k e)) h
 
 plain-digit : (most : ℕ) (x : Number) (b : ℕ) → grows most x b ≡ true → Plain b
-plain-digit most x b e = let w = grows-tells most x b e in let l = w .low in (ne-eqb b 40 (λ q. omega arith), ne-eqb b 41 (λ q. omega arith))
+plain-digit most x b e =
+    let w = grows-tells most x b e in
+    let l = w .low in
+    (ne-eqb b 40 (λ q. omega arith), ne-eqb b 41 (λ q. omega arith))
 
 ending-plain : (f : Figure) (b : ℕ) → PlainNext b (ending f b)
-ending-plain f b = split (PlainNext b) (eqb b 59) _ _ (λ e. plain-is b 59 e (refl, refl)) (λ _. split (PlainNext b) (eqb b 93) _ _ (λ e. plain-is b 93 e (refl, refl)) (λ _. tt))
+ending-plain f b =
+    split (PlainNext b) (eqb b 59) _ _ (λ e. plain-is b 59 e (refl, refl))
+    (λ _. split (PlainNext b) (eqb b 93) _ _ (λ e. plain-is b 93 e (refl, refl)) (λ _. tt))
 
 stepIn-plain : (f : Partial) (b : ℕ) → PlainNext b (stepIn f b)
 unfolding stepIn
@@ -46,7 +53,8 @@ stepIn-plain (semicolon f) b =
     (λ _. split (PlainNext b) (eqb b 115) _ _ (λ e. plain-is b 115 e (refl, refl))
     (λ _. split (PlainNext b) (eqb b 97) _ _ (λ e. plain-is b 97 e (refl, refl)) (λ _. tt)))))
 stepIn-plain (lettered f w) b = split (PlainNext b) (eqb b 32) _ _ (λ e. plain-is b 32 e (refl, refl)) (λ _. tt)
-stepIn-plain (counting f w ns fresh) b = split (PlainNext b) (grows (mostOf w (length ns)) fresh b) _ _ (plain-digit (mostOf w (length ns)) fresh b) (λ _. tt)
+stepIn-plain (counting f w ns fresh) b =
+    split (PlainNext b) (grows (mostOf w (length ns)) fresh b) _ _ (plain-digit (mostOf w (length ns)) fresh b) (λ _. tt)
 stepIn-plain (counting f w ns (digits n)) b =
     split (PlainNext b) (grows (mostOf w (length ns)) (digits n) b) _ _ (plain-digit (mostOf w (length ns)) (digits n) b)
     (λ _. split (PlainNext b) (ltb (length ns + 1) (arity w)) _ _
@@ -65,9 +73,13 @@ placed-open : (p : Place) (i : Item) (ps : List Place) → openIn (placed p i ps
 placed-open (first f) i ps = refl
 placed-open (next f q j) i ps = refl
 
-inside-balanced : (f : Next) (p : Place) (ps : List Place) (b : ℕ) (x : Partial) → PlainNext b f → Balanced (inside x p ps) b (within f p ps)
+inside-balanced : (f : Next) (p : Place) (ps : List Place) (b : ℕ) (x : Partial) → PlainNext b f
+    → Balanced (inside x p ps) b (within f p ps)
 inside-balanced (goes f) p ps b x h = ap (λ (t : Bool). length ps + one t) (h .1) ∙ sym (ap (λ (t : Bool). length ps + one t) (h .0))
-inside-balanced (closes f) p ps b x h = ap (λ (l : List Place). length l + one (eqb b 41)) (placed-open p (g.figure f) ps) ∙ ap (λ (t : Bool). length ps + one t) (h .1) ∙ sym (ap (λ (t : Bool). length ps + one t) (h .0))
+inside-balanced (closes f) p ps b x h =
+    ap (λ (l : List Place). length l + one (eqb b 41)) (placed-open p (g.figure f) ps)
+    ∙ ap (λ (t : Bool). length ps + one t) (h .1)
+    ∙ sym (ap (λ (t : Bool). length ps + one t) (h .0))
 inside-balanced stuck p ps b x h = tt
 
 module _ (f : Line) (x : Config) (b : ℕ) where
@@ -90,13 +102,17 @@ step-balanced (ready p ps) b =
     (λ _. split (Balanced (ready p ps) b) (eqb b 91) _ _ (λ e. plain-balanced (length ps) b 91 e (refl, refl)) (λ _. tt))
   where
     opened : b ≡ 40 → suc (length ps) + one (eqb b 41) ≡ length ps + one (eqb b 40)
-    opened e = ap (λ (k : ℕ). suc (length ps) + one (eqb k 41)) e ∙ (let z : suc (length ps) + 0 ≡ length ps + 1 = omega arith in z) ∙ sym (ap (λ (k : ℕ). length ps + one (eqb k 40)) e)
+    opened e =
+        ap (λ (k : ℕ). suc (length ps) + one (eqb k 41)) e
+        ∙ (let z : suc (length ps) + 0 ≡ length ps + 1 = omega arith in z)
+        ∙ sym (ap (λ (k : ℕ). length ps + one (eqb k 40)) e)
 step-balanced (inside f p ps) b = inside-balanced (stepIn f b) p ps b f (stepIn-plain f b)
 step-balanced (after f q ps) b =
     split (Balanced (after f q ps) b) (eqb b 124) _ _ (λ e. plain-balanced (length ps) b 124 e (refl, refl))
     (λ _. split (Balanced (after f q ps) b) (eqb b 38) _ _ (λ e. plain-balanced (length ps) b 38 e (refl, refl))
     (λ _. split (Balanced (after f q ps) b) (eqb b 33) _ _ (λ e. plain-balanced (length ps) b 33 e (refl, refl))
-    (λ _. split (Balanced (after f q ps) b) (eqb b 41) _ _ (λ e. shut-balanced (lineOf f q) (after f q ps) b ps refl (eqb-true b 41 e)) (λ _. tt))))
+    (λ _. split (Balanced (after f q ps) b) (eqb b 41) _ _ (λ e. shut-balanced (lineOf f q) (after f q ps) b ps refl (eqb-true b 41 e))
+    (λ _. tt))))
 
 pub keep-cons : (test : ℕ → Bool) (b : ℕ) (s : List ℕ) → length (keep test (b ∷ s)) ≡ one (test b) + length (keep test s)
 unfolding keep
@@ -107,7 +123,8 @@ keep-cons test b s = go (test b)
     go false = omega arith
 
 -- along a way
-pub steps-balanced : (n : ℕ) (c : Config) (s : List ℕ) (d : Config) → Steps n c s d → length (openIn d) + length (keep (λ b. eqb b 41) s) ≡ length (openIn c) + length (keep (λ b. eqb b 40) s)
+pub steps-balanced : (n : ℕ) (c : Config) (s : List ℕ) (d : Config) → Steps n c s d
+    → length (openIn d) + length (keep (λ b. eqb b 41) s) ≡ length (openIn c) + length (keep (λ b. eqb b 40) s)
 unfolding Steps keep
 steps-balanced n c [] d p = ap (λ (x : Config). length (openIn x) + 0) (sym p)
 steps-balanced n c (b ∷ s) d p =

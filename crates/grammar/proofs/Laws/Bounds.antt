@@ -32,7 +32,8 @@ use Rattle.volume.proofs.Laws.Check.{good}
 use Rattle.seq.specs.Decimal.{decimal}
 use Rattle.grammar.specs.Text.{lead}
 use Rattle.grammar.specs.Grammar as g
-use Rattle.grammar.specs.Grammar.{Condition, Line, conditionText, openText, figureText, written, partText, itemText, ConditionFits, FigureFits, Fits, PartFits, ItemFits, noCondition, arity, mostOf, Within}
+use Rattle.grammar.specs.Grammar.{Condition, Line, conditionText, openText, figureText, written, partText, itemText, ConditionFits}
+use Rattle.grammar.specs.Grammar.{FigureFits, Fits, PartFits, ItemFits, noCondition, arity, mostOf, Within}
 use Rattle.grammar.specs.Brackets.{depth, partDepth, itemDepth}
 use Rattle.grammar.specs.Meaning.{operatorRow}
 use Rattle.grammar.specs.Query.{Query, leaf, node, queryRows, queryOf, conditionOf, figureOf, typed, planLine, planText}
@@ -51,24 +52,36 @@ unfoldable leaves : Query → List Pattern
 leaves (leaf f) = f ∷ []
 leaves (node o a b) = leaves a ++ leaves b
 
-voices-leave : (ls vs : List ℕ) (cs : List Predicate) (rest : List Row) → patternsFrom (record { vars = vs; predicates = cs }) (map voice ls ++ rest) ≡ patternsFrom (record { vars = vs ++ ls; predicates = cs }) rest
+voices-leave : (ls vs : List ℕ) (cs : List Predicate) (rest : List Row)
+    → patternsFrom (record { vars = vs; predicates = cs }) (map voice ls ++ rest)
+    ≡ patternsFrom (record { vars = vs ++ ls; predicates = cs }) rest
 unfolding patternsFrom
 voices-leave [] vs cs rest = ap (λ (l : List ℕ). patternsFrom (record { vars = l; predicates = cs }) rest) (sym (append-nil vs))
-voices-leave (x ∷ ls) vs cs rest = voices-leave ls (vs ++ (x ∷ [])) cs rest ∙ ap (λ (l : List ℕ). patternsFrom (record { vars = l; predicates = cs }) rest) (append-assoc vs (x ∷ []) ls)
+voices-leave (x ∷ ls) vs cs rest =
+    voices-leave ls (vs ++ (x ∷ [])) cs rest
+    ∙ ap (λ (l : List ℕ). patternsFrom (record { vars = l; predicates = cs }) rest) (append-assoc vs (x ∷ []) ls)
 
-conditions-leave : (ds cs : List Predicate) (vs : List ℕ) (rest : List Row) → patternsFrom (record { vars = vs; predicates = cs }) (map condition ds ++ rest) ≡ patternsFrom (record { vars = vs; predicates = cs ++ ds }) rest
+conditions-leave : (ds cs : List Predicate) (vs : List ℕ) (rest : List Row)
+    → patternsFrom (record { vars = vs; predicates = cs }) (map condition ds ++ rest)
+    ≡ patternsFrom (record { vars = vs; predicates = cs ++ ds }) rest
 unfolding patternsFrom
 conditions-leave [] cs vs rest = ap (λ (l : List Predicate). patternsFrom (record { vars = vs; predicates = l }) rest) (sym (append-nil cs))
-conditions-leave (x ∷ ds) cs vs rest = conditions-leave ds (cs ++ (x ∷ [])) vs rest ∙ ap (λ (l : List Predicate). patternsFrom (record { vars = vs; predicates = l }) rest) (append-assoc cs (x ∷ []) ds)
+conditions-leave (x ∷ ds) cs vs rest =
+    conditions-leave ds (cs ++ (x ∷ [])) vs rest
+    ∙ ap (λ (l : List Predicate). patternsFrom (record { vars = vs; predicates = l }) rest) (append-assoc cs (x ∷ []) ds)
 
 patterns-leave : (q : Query) (rest : List Row) → patternsFrom noRow (queryRows q ++ rest) ≡ leaves q ++ patternsFrom noRow rest
 unfolding queryRows patternsFrom leaves
 patterns-leave (leaf f) rest =
-    ap (patternsFrom noRow) (append-assoc (map voice (f .vars) ++ map condition (f .predicates)) (end ∷ []) rest ∙ append-assoc (map voice (f .vars)) (map condition (f .predicates)) (end ∷ rest))
+    ap (patternsFrom noRow)
+    (append-assoc (map voice (f .vars) ++ map condition (f .predicates)) (end ∷ []) rest
+    ∙ append-assoc (map voice (f .vars)) (map condition (f .predicates)) (end ∷ rest))
     ∙ voices-leave (f .vars) [] [] (map condition (f .predicates) ++ (end ∷ rest))
     ∙ conditions-leave (f .predicates) [] (f .vars) (end ∷ rest)
 patterns-leave (node o a b) rest =
-    ap (patternsFrom noRow) (append-assoc (queryRows a) (queryRows b ++ operatorRow o) rest ∙ ap (λ (l : List Row). queryRows a ++ l) (append-assoc (queryRows b) (operatorRow o) rest))
+    ap (patternsFrom noRow)
+    (append-assoc (queryRows a) (queryRows b ++ operatorRow o) rest
+    ∙ ap (λ (l : List Row). queryRows a ++ l) (append-assoc (queryRows b) (operatorRow o) rest))
     ∙ patterns-leave a (queryRows b ++ (operatorRow o ++ rest))
     ∙ ap (λ (l : List Pattern). leaves a ++ l) (patterns-leave b (operatorRow o ++ rest))
     ∙ sym (append-assoc (leaves a) (leaves b) (patternsFrom noRow rest))
@@ -86,8 +99,12 @@ made : (t : ℕ) (q : Query) → Each (WellMade t) noRow (leaves q) → Made t q
 unfolding Made leaves
 made t (leaf f) h = h 0 (omega arith)
 made t (node o a b) h = (
-  made t a (λ i l. subst (WellMade t) (List·getD-append (leaves a) (leaves b) noRow i l) (h i (let e = length-append (leaves a) (leaves b) in omega arith))),
-  made t b (λ i l. subst (WellMade t) (getD-append-add (leaves a) (leaves b) i noRow) (h (length (leaves a) + i) (let e = length-append (leaves a) (leaves b) in omega arith))),
+  made t a
+      (λ i l. subst (WellMade t) (List·getD-append (leaves a) (leaves b) noRow i l)
+      (h i (let e = length-append (leaves a) (leaves b) in omega arith))),
+  made t b
+      (λ i l. subst (WellMade t) (getD-append-add (leaves a) (leaves b) i noRow)
+      (h (length (leaves a) + i) (let e = length-append (leaves a) (leaves b) in omega arith))),
 )
 
 condition-fits : (n : ℕ) (c : Predicate) → namesBelow n c ≡ true → n ≤ 8 → InRange (kind.Condition c) → ConditionFits (conditionOf c)
@@ -140,7 +157,8 @@ figure-fits t f l h = record {
   within = λ i k. let w : getD (f .vars) i 0 < t = h .lists i k .1 in omega arith;
   conditions = λ i k.
       let n : i < length (f .predicates) = subst (λ (m : ℕ). i < m) (length-map (f .predicates) conditionOf) k in
-      subst ConditionFits (sym (List·getD-map conditionOf (f .predicates) i (Window 1))) (condition-fits (length (f .vars)) (getD (f .predicates) i (Window 1)) (h .names i n) (h .most-vars) (h .ranges i n));
+      subst ConditionFits (sym (List·getD-map conditionOf (f .predicates) i (Window 1)))
+      (condition-fits (length (f .vars)) (getD (f .predicates) i (Window 1)) (h .names i n) (h .most-vars) (h .ranges i n));
 }
 
 record TypedFits (q : Query) : Type 0 where
@@ -151,9 +169,18 @@ record TypedFits (q : Query) : Type 0 where
 typed-fits : (t : ℕ) (q : Query) → t ≤ 65536 → Made t q → TypedFits q
 unfolding typed Fits Made
 typed-fits t (leaf f) l h = let w = figure-fits t f l h in record { line = w; part = w; item = w }
-typed-fits t (node Both a b) l h = let x = typed-fits t a l (h .0) .part in let y = typed-fits t b l (h .1) .item in record { line = (x, y); part = (x, y); item = (x, y) }
-typed-fits t (node Either a b) l h = let x = typed-fits t a l (h .0) .line in let y = typed-fits t b l (h .1) .part in record { line = (x, y); part = (x, y); item = (x, y) }
-typed-fits t (node FirstNotSecond a b) l h = let x = typed-fits t a l (h .0) .part in let y = typed-fits t b l (h .1) .item in record { line = (x, y); part = (x, y); item = (x, y) }
+typed-fits t (node Both a b) l h =
+    let x = typed-fits t a l (h .0) .part in
+    let y = typed-fits t b l (h .1) .item in
+    record { line = (x, y); part = (x, y); item = (x, y) }
+typed-fits t (node Either a b) l h =
+    let x = typed-fits t a l (h .0) .line in
+    let y = typed-fits t b l (h .1) .part in
+    record { line = (x, y); part = (x, y); item = (x, y) }
+typed-fits t (node FirstNotSecond a b) l h =
+    let x = typed-fits t a l (h .0) .part in
+    let y = typed-fits t b l (h .1) .item in
+    record { line = (x, y); part = (x, y); item = (x, y) }
 
 -- brackets lie in one another less deep than there are patterns
 record Shallow (q : Query) : Type 0 where
@@ -166,11 +193,26 @@ shallow : (q : Query) → Shallow q
 unfolding typed depth leaves
 shallow (leaf f) = record { some = omega arith; line = omega arith; part = omega arith; item = omega arith }
 shallow (node Both a b) = let x = shallow a in let y = shallow b in let e = length-append (leaves a) (leaves b) in
-    record { some = omega (arith, x .some); line = omega (arith, x .part, y .item, x .some, y .some); part = omega (arith, x .part, y .item, x .some, y .some); item = omega (arith, x .part, y .item, x .some, y .some) }
+    record {
+      some = omega (arith, x .some);
+      line = omega (arith, x .part, y .item, x .some, y .some);
+      part = omega (arith, x .part, y .item, x .some, y .some);
+      item = omega (arith, x .part, y .item, x .some, y .some);
+    }
 shallow (node Either a b) = let x = shallow a in let y = shallow b in let e = length-append (leaves a) (leaves b) in
-    record { some = omega (arith, x .some); line = omega (arith, x .line, y .part, x .some, y .some); part = omega (arith, x .line, y .part, x .some, y .some); item = omega (arith, x .line, y .part, x .some, y .some) }
+    record {
+      some = omega (arith, x .some);
+      line = omega (arith, x .line, y .part, x .some, y .some);
+      part = omega (arith, x .line, y .part, x .some, y .some);
+      item = omega (arith, x .line, y .part, x .some, y .some);
+    }
 shallow (node FirstNotSecond a b) = let x = shallow a in let y = shallow b in let e = length-append (leaves a) (leaves b) in
-    record { some = omega (arith, x .some); line = omega (arith, x .part, y .item, x .some, y .some); part = omega (arith, x .part, y .item, x .some, y .some); item = omega (arith, x .part, y .item, x .some, y .some) }
+    record {
+      some = omega (arith, x .some);
+      line = omega (arith, x .part, y .item, x .some, y .some);
+      part = omega (arith, x .part, y .item, x .some, y .some);
+      item = omega (arith, x .part, y .item, x .some, y .some);
+    }
 
 -- a number of the grammar has at most five digits
 five : (n : ℕ) → n ≤ 65536 → length (decimal n) ≤ 5
@@ -218,7 +260,8 @@ condition-length c h =
     let l = lead-length 32 (c .numbers) (λ i k. let m = h .within i k in let s = small (c .word) i in omega arith) in
     omega arith
 
-conditions-length : (cs : List Condition) → ((i : ℕ) → i < length cs → ConditionFits (getD cs i noCondition)) → length (joined (map conditionText cs)) ≤ 26 * length cs
+conditions-length : (cs : List Condition) → ((i : ℕ) → i < length cs → ConditionFits (getD cs i noCondition))
+    → length (joined (map conditionText cs)) ≤ 26 * length cs
 unfolding joined
 conditions-length [] h = omega arith
 conditions-length (c ∷ cs) h =
@@ -248,10 +291,14 @@ record Short (q : Query) : Type 0 where
 
 node-rows : (o : Operator) (a b : Query) → length (queryRows (node o a b)) ≡ length (queryRows a) + length (queryRows b) + 1
 unfolding queryRows
-node-rows o a b = let e = length-append (queryRows a) (queryRows b ++ operatorRow o) in let f = length-append (queryRows b) (operatorRow o) in omega arith
+node-rows o a b =
+    let e = length-append (queryRows a) (queryRows b ++ operatorRow o) in
+    let f = length-append (queryRows b) (operatorRow o) in
+    omega arith
 
 -- two texts with a byte between them, in brackets and without
-bracketed : (x y : List ℕ) (j n : ℕ) → length x + length y + 3 ≤ n → (length (x ++ (j ∷ y)) ≤ n) × (length (40 ∷ ((x ++ (j ∷ y)) ++ (41 ∷ []))) ≤ n)
+bracketed : (x y : List ℕ) (j n : ℕ) → length x + length y + 3 ≤ n
+    → (length (x ++ (j ∷ y)) ≤ n) × (length (40 ∷ ((x ++ (j ∷ y)) ++ (41 ∷ []))) ≤ n)
 bracketed x y j n h = let e = length-append x (j ∷ y) in let f = length-append (x ++ (j ∷ y)) (41 ∷ []) in (omega arith, omega arith)
 
 typed-length : (q : Query) → TypedFits q → (t : ℕ) → t ≤ 65536 → Made t q → Short q
@@ -261,19 +308,22 @@ typed-length (node Both a b) w t l h =
     let x = typed-length a (typed-fits t a l (h .0)) t l (h .0) .part in
     let y = typed-length b (typed-fits t b l (h .1)) t l (h .1) .item in
     let r = node-rows Both a b in
-    let z = bracketed (partText (typed a .part)) (itemText (typed b .item)) 38 (26 * length (queryRows (node Both a b))) (omega arith) in
+    let most = 26 * length (queryRows (node Both a b)) in
+    let z = bracketed (partText (typed a .part)) (itemText (typed b .item)) 38 most (omega arith) in
     record { line = z .0; part = z .0; item = z .1 }
 typed-length (node Either a b) w t l h =
     let x = typed-length a (typed-fits t a l (h .0)) t l (h .0) .line in
     let y = typed-length b (typed-fits t b l (h .1)) t l (h .1) .part in
     let r = node-rows Either a b in
-    let z = bracketed (written (typed a .line)) (partText (typed b .part)) 124 (26 * length (queryRows (node Either a b))) (omega arith) in
+    let most = 26 * length (queryRows (node Either a b)) in
+    let z = bracketed (written (typed a .line)) (partText (typed b .part)) 124 most (omega arith) in
     record { line = z .0; part = z .1; item = z .1 }
 typed-length (node FirstNotSecond a b) w t l h =
     let x = typed-length a (typed-fits t a l (h .0)) t l (h .0) .part in
     let y = typed-length b (typed-fits t b l (h .1)) t l (h .1) .item in
     let r = node-rows FirstNotSecond a b in
-    let z = bracketed (partText (typed a .part)) (itemText (typed b .item)) 33 (26 * length (queryRows (node FirstNotSecond a b))) (omega arith) in
+    let most = 26 * length (queryRows (node FirstNotSecond a b)) in
+    let z = bracketed (partText (typed a .part)) (itemText (typed b .item)) 33 most (omega arith) in
     record { line = z .0; part = z .0; item = z .1 }
 
 -- a way through eight brackets is what is read

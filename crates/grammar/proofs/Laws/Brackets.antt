@@ -15,7 +15,8 @@ use Rattle.seq.proofs.Laws.Tests.{below-or}
 use Rattle.seq.specs.Decimal.{digit, decimalF, decimal}
 use Rattle.grammar.specs.Text.{lead}
 use Rattle.grammar.specs.Grammar as g
-use Rattle.grammar.specs.Grammar.{Word, Condition, Figure, Joint, Line, Part, Item, letterOf, jointByte, conditionText, openText, figureText, written, partText, itemText}
+use Rattle.grammar.specs.Grammar.{Word, Condition, Figure, Joint, Line, Part, Item, letterOf, jointByte, conditionText, openText}
+use Rattle.grammar.specs.Grammar.{figureText, written, partText, itemText}
 use Rattle.grammar.specs.Brackets.{opens, rounds, partRounds, itemRounds}
 use Rattle.grammar.proofs.Laws.Balance.{one, keep-cons}
 use Rattle.seq.proofs.Laws.Decimal.{decimal-one, decimal-more}
@@ -47,7 +48,9 @@ decimal-none zero n = refl
 decimal-none (suc f) n =
     ⊎-elim
     (λ (l : n < 10). ap opens (decimal-one f n l) ∙ other (digit n) [] (λ e. omega arith))
-    (λ (l : 10 ≤ n). ap opens (decimal-more f n l) ∙ opens-append (decimalF f (n / 10)) (digit (n % 10) ∷ []) ∙ ap₂ (λ (x y : ℕ). x + y) (decimal-none f (n / 10)) (other (digit (n % 10)) [] (λ e. omega arith)))
+    (λ (l : 10 ≤ n). ap opens (decimal-more f n l)
+    ∙ opens-append (decimalF f (n / 10)) (digit (n % 10) ∷ [])
+    ∙ ap₂ (λ (x y : ℕ). x + y) (decimal-none f (n / 10)) (other (digit (n % 10)) [] (λ e. omega arith)))
     (below-or n 10)
 
 lead-none : (b : ℕ) (ns : List ℕ) → (b ≡ 40 → ⊥) → opens (lead b ns) ≡ 0
@@ -61,7 +64,10 @@ lead-none b (n ∷ ns) h =
     omega arith
 
 condition-none : (c : Condition) → opens (conditionText c) ≡ 0
-condition-none c = other 59 (letterOf (c .word) ∷ lead 32 (c .numbers)) (λ e. omega arith) ∙ other (letterOf (c .word)) (lead 32 (c .numbers)) (letter (c .word)) ∙ lead-none 32 (c .numbers) (λ e. omega arith)
+condition-none c =
+    other 59 (letterOf (c .word) ∷ lead 32 (c .numbers)) (λ e. omega arith)
+    ∙ other (letterOf (c .word)) (lead 32 (c .numbers)) (letter (c .word))
+    ∙ lead-none 32 (c .numbers) (λ e. omega arith)
   where
     letter : (w : Word) → letterOf w ≡ 40 → ⊥
     letter g.near e = omega arith
@@ -73,7 +79,8 @@ condition-none c = other 59 (letterOf (c .word) ∷ lead 32 (c .numbers)) (λ e.
 conditions-none : (cs : List Condition) → opens (joined (map conditionText cs)) ≡ 0
 unfolding joined keep
 conditions-none [] = refl
-conditions-none (c ∷ cs) = opens-append (conditionText c) (joined (map conditionText cs)) ∙ ap₂ (λ (x y : ℕ). x + y) (condition-none c) (conditions-none cs)
+conditions-none (c ∷ cs) =
+    opens-append (conditionText c) (joined (map conditionText cs)) ∙ ap₂ (λ (x y : ℕ). x + y) (condition-none c) (conditions-none cs)
 
 figure-none : (f : Figure) → opens (figureText f) ≡ 0
 unfolding figureText openText
@@ -95,12 +102,27 @@ mutual
 
   pub line-opens : (l : Line) → opens (written l) ≡ rounds l
   line-opens (g.one p) = part-opens p
-  line-opens (g.either l p) = let a = line-opens l in let b = part-opens p in let x = opens-append (written l) (124 ∷ partText p) in let y = other 124 (partText p) (λ e. omega arith) in omega arith
+  line-opens (g.either l p) =
+      let a = line-opens l in
+      let b = part-opens p in
+      let x = opens-append (written l) (124 ∷ partText p) in
+      let y = other 124 (partText p) (λ e. omega arith) in
+      omega arith
 
   pub part-opens : (p : Part) → opens (partText p) ≡ partRounds p
   part-opens (g.alone i) = item-opens i
-  part-opens (g.join j p i) = let a = part-opens p in let b = item-opens i in let x = opens-append (partText p) (jointByte j ∷ itemText i) in let y = other (jointByte j) (itemText i) (joint-other j) in omega arith
+  part-opens (g.join j p i) =
+      let a = part-opens p in
+      let b = item-opens i in
+      let x = opens-append (partText p) (jointByte j ∷ itemText i) in
+      let y = other (jointByte j) (itemText i) (joint-other j) in
+      omega arith
 
   pub item-opens : (i : Item) → opens (itemText i) ≡ itemRounds i
   item-opens (g.figure f) = figure-none f
-  item-opens (g.round l) = let a = line-opens l in let x = opens-append (written l) (41 ∷ []) in let y = other 41 [] (λ e. omega arith) ∙ nothing in let z = opens-cons 40 (written l ++ (41 ∷ [])) in omega arith
+  item-opens (g.round l) =
+      let a = line-opens l in
+      let x = opens-append (written l) (41 ∷ []) in
+      let y = other 41 [] (λ e. omega arith) ∙ nothing in
+      let z = opens-cons 40 (written l ++ (41 ∷ [])) in
+      omega arith

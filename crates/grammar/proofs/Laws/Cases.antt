@@ -1,8 +1,13 @@
--- Examples, computed.
+-- Examples of readings, computed. No contract cites this file.
+--     told        how a reading ends: 0 for a line, else 21 or 22 and the byte
+--     sample      the tree of document 02's line
+--     The others are named by what they show; above each one is its text.
+-- Assumes nothing.
 use Prim.Native.Nat.{ℕ}
 use mathlib.Core.Path.{_≡_, refl}
 use mathlib.Core.List.{List, [], _∷_}
-use Rattle.grammar.specs.Grammar.{before, both, one, either, alone, join, figure, round}
+use Rattle.grammar.specs.Demands.{sampleText, sampleLine, sampleBoth}
+use Rattle.grammar.specs.Grammar.{one, alone, round}
 use Rattle.grammar.specs.Reading.{Outcome, whole, broken, deep, reading, outcome}
 
 abbrev told : Outcome → List ℕ
@@ -10,108 +15,119 @@ told (whole l) = 0 ∷ []
 told (broken q) = 21 ∷ q ∷ []
 told (deep q) = 22 ∷ q ∷ []
 
--- the tree of the request's line
-sample : reading (91 ∷ 49 ∷ 32 ∷ 50 ∷ 59 ∷ 98 ∷ 32 ∷ 48 ∷ 32 ∷ 49 ∷ 93 ∷ 124 ∷ 40 ∷ 91 ∷ 51 ∷ 93 ∷ 38 ∷ 91 ∷ 52 ∷ 93 ∷ 41 ∷ []) ≡ whole (either (one (alone (figure (record { lists = 1 ∷ 2 ∷ []; conditions = record { word = before; numbers = 0 ∷ 1 ∷ [] } ∷ [] }))))
-    (alone (round (one (join both (alone (figure (record { lists = 3 ∷ []; conditions = [] }))) (figure (record { lists = 4 ∷ []; conditions = [] })))))))
+sample : reading sampleText ≡ whole (sampleLine (alone (round (one sampleBoth))))
 unfolding outcome
 sample = refl
 
--- `[1 2;b 0 1]|([3]&[4])`
-case-0 : told (reading (91 ∷ 49 ∷ 32 ∷ 50 ∷ 59 ∷ 98 ∷ 32 ∷ 48 ∷ 32 ∷ 49 ∷ 93 ∷ 124 ∷ 40 ∷ 91 ∷ 51 ∷ 93 ∷ 38 ∷ 91 ∷ 52 ∷ 93 ∷ 41 ∷ [])) ≡ 0 ∷ []
+-- `[1 2;b 0 1]|([3]&[4])`: a line
+sample-line : told (reading (91 ∷ 49 ∷ 32 ∷ 50 ∷ 59 ∷ 98 ∷ 32 ∷ 48 ∷ 32 ∷ 49 ∷ 93 ∷ 124 ∷ 40 ∷ 91 ∷ 51 ∷ 93 ∷ 38 ∷ 91 ∷ 52 ∷ 93 ∷ 41 ∷ []))
+    ≡ 0 ∷ []
 unfolding outcome
-case-0 = refl
+sample-line = refl
 
--- ``
-case-1 : told (reading ([])) ≡ 21 ∷ 0 ∷ []
+-- ``: the empty text ends too early
+empty : told (reading ([])) ≡ 21 ∷ 0 ∷ []
 unfolding outcome
-case-1 = refl
+empty = refl
 
--- `[65537`
-case-2 : told (reading (91 ∷ 54 ∷ 53 ∷ 53 ∷ 51 ∷ 55 ∷ [])) ≡ 21 ∷ 5 ∷ []
+-- `[65537`: the digit that passes 65,536
+number-over-limit : told (reading (91 ∷ 54 ∷ 53 ∷ 53 ∷ 51 ∷ 55 ∷ [])) ≡ 21 ∷ 5 ∷ []
 unfolding outcome
-case-2 = refl
+number-over-limit = refl
 
--- `[65536`
-case-3 : told (reading (91 ∷ 54 ∷ 53 ∷ 53 ∷ 51 ∷ 54 ∷ [])) ≡ 21 ∷ 6 ∷ []
+-- `[65536`: 65,536 itself may stand there
+number-at-limit : told (reading (91 ∷ 54 ∷ 53 ∷ 53 ∷ 51 ∷ 54 ∷ [])) ≡ 21 ∷ 6 ∷ []
 unfolding outcome
-case-3 = refl
+number-at-limit = refl
 
--- `[655360]`
-case-4 : told (reading (91 ∷ 54 ∷ 53 ∷ 53 ∷ 51 ∷ 54 ∷ 48 ∷ 93 ∷ [])) ≡ 21 ∷ 6 ∷ []
+-- `[655360]`: one digit more
+number-too-long : told (reading (91 ∷ 54 ∷ 53 ∷ 53 ∷ 51 ∷ 54 ∷ 48 ∷ 93 ∷ [])) ≡ 21 ∷ 6 ∷ []
 unfolding outcome
-case-4 = refl
+number-too-long = refl
 
--- `[01]`
-case-5 : told (reading (91 ∷ 48 ∷ 49 ∷ 93 ∷ [])) ≡ 21 ∷ 2 ∷ []
+-- `[01]`: no digit follows a zero
+zero-in-front : told (reading (91 ∷ 48 ∷ 49 ∷ 93 ∷ [])) ≡ 21 ∷ 2 ∷ []
 unfolding outcome
-case-5 = refl
+zero-in-front = refl
 
--- `[0]`
-case-6 : told (reading (91 ∷ 48 ∷ 93 ∷ [])) ≡ 0 ∷ []
+-- `[0]`: zero alone is a number
+zero : told (reading (91 ∷ 48 ∷ 93 ∷ [])) ≡ 0 ∷ []
 unfolding outcome
-case-6 = refl
+zero = refl
 
--- `[1  2]`
-case-7 : told (reading (91 ∷ 49 ∷ 32 ∷ 32 ∷ 50 ∷ 93 ∷ [])) ≡ 21 ∷ 3 ∷ []
+-- `[1  2]`: one space between numbers
+two-spaces : told (reading (91 ∷ 49 ∷ 32 ∷ 32 ∷ 50 ∷ 93 ∷ [])) ≡ 21 ∷ 3 ∷ []
 unfolding outcome
-case-7 = refl
+two-spaces = refl
 
--- `[1 ]`
-case-8 : told (reading (91 ∷ 49 ∷ 32 ∷ 93 ∷ [])) ≡ 21 ∷ 3 ∷ []
+-- `[1 ]`: a number follows a space
+space-at-end : told (reading (91 ∷ 49 ∷ 32 ∷ 93 ∷ [])) ≡ 21 ∷ 3 ∷ []
 unfolding outcome
-case-8 = refl
+space-at-end = refl
 
--- `[1;s 65536]`
-case-9 : told (reading (91 ∷ 49 ∷ 59 ∷ 115 ∷ 32 ∷ 54 ∷ 53 ∷ 53 ∷ 51 ∷ 54 ∷ 93 ∷ [])) ≡ 0 ∷ []
+-- `[1;s 65536]`: the limit of SPAN
+span-at-limit : told (reading (91 ∷ 49 ∷ 59 ∷ 115 ∷ 32 ∷ 54 ∷ 53 ∷ 53 ∷ 51 ∷ 54 ∷ 93 ∷ [])) ≡ 0 ∷ []
 unfolding outcome
-case-9 = refl
+span-at-limit = refl
 
--- `[1;n 0 1]`
-case-10 : told (reading (91 ∷ 49 ∷ 59 ∷ 110 ∷ 32 ∷ 48 ∷ 32 ∷ 49 ∷ 93 ∷ [])) ≡ 21 ∷ 8 ∷ []
+-- `[1;n 0 1]`: NEAR has three numbers
+number-missing : told (reading (91 ∷ 49 ∷ 59 ∷ 110 ∷ 32 ∷ 48 ∷ 32 ∷ 49 ∷ 93 ∷ [])) ≡ 21 ∷ 8 ∷ []
 unfolding outcome
-case-10 = refl
+number-missing = refl
 
--- `[1]]`
-case-11 : told (reading (91 ∷ 49 ∷ 93 ∷ 93 ∷ [])) ≡ 21 ∷ 3 ∷ []
+-- `[1]]`: a figure is closed once
+bracket-twice : told (reading (91 ∷ 49 ∷ 93 ∷ 93 ∷ [])) ≡ 21 ∷ 3 ∷ []
 unfolding outcome
-case-11 = refl
+bracket-twice = refl
 
--- `([1]`
-case-12 : told (reading (40 ∷ 91 ∷ 49 ∷ 93 ∷ [])) ≡ 21 ∷ 4 ∷ []
+-- `([1]`: an open round bracket at the end
+bracket-open : told (reading (40 ∷ 91 ∷ 49 ∷ 93 ∷ [])) ≡ 21 ∷ 4 ∷ []
 unfolding outcome
-case-12 = refl
+bracket-open = refl
 
--- `(((((((([1]))))))))`
-case-13 : told (reading (40 ∷ 40 ∷ 40 ∷ 40 ∷ 40 ∷ 40 ∷ 40 ∷ 40 ∷ 91 ∷ 49 ∷ 93 ∷ 41 ∷ 41 ∷ 41 ∷ 41 ∷ 41 ∷ 41 ∷ 41 ∷ 41 ∷ [])) ≡ 0 ∷ []
+-- `(((((((([1]))))))))`: eight round brackets
+eight-deep : told (reading (40 ∷ 40 ∷ 40 ∷ 40 ∷ 40 ∷ 40 ∷ 40 ∷ 40 ∷ 91 ∷ 49 ∷ 93 ∷ 41 ∷ 41 ∷ 41 ∷ 41 ∷ 41 ∷ 41 ∷ 41 ∷ 41 ∷ [])) ≡ 0 ∷ []
 unfolding outcome
-case-13 = refl
+eight-deep = refl
 
--- `((((((((([1])))))))))`
-case-14 : told (reading (40 ∷ 40 ∷ 40 ∷ 40 ∷ 40 ∷ 40 ∷ 40 ∷ 40 ∷ 40 ∷ 91 ∷ 49 ∷ 93 ∷ 41 ∷ 41 ∷ 41 ∷ 41 ∷ 41 ∷ 41 ∷ 41 ∷ 41 ∷ 41 ∷ [])) ≡ 22 ∷ 8 ∷ []
+-- `((((((((([1])))))))))`: a ninth one inside eight
+nine-deep : told (reading (40 ∷ 40 ∷ 40 ∷ 40 ∷ 40 ∷ 40 ∷ 40 ∷ 40 ∷ 40 ∷ 91 ∷ 49 ∷ 93 ∷ 41 ∷ 41 ∷ 41 ∷ 41 ∷ 41 ∷ 41 ∷ 41 ∷ 41 ∷ 41 ∷ []))
+    ≡ 22 ∷ 8 ∷ []
 unfolding outcome
-case-14 = refl
+nine-deep = refl
 
--- `(((((((([1](`
-case-15 : told (reading (40 ∷ 40 ∷ 40 ∷ 40 ∷ 40 ∷ 40 ∷ 40 ∷ 40 ∷ 91 ∷ 49 ∷ 93 ∷ 40 ∷ [])) ≡ 21 ∷ 11 ∷ []
+-- `(((((((([1](`: a bracket where none may stand, inside eight
+broken-before-deep : told (reading (40 ∷ 40 ∷ 40 ∷ 40 ∷ 40 ∷ 40 ∷ 40 ∷ 40 ∷ 91 ∷ 49 ∷ 93 ∷ 40 ∷ [])) ≡ 21 ∷ 11 ∷ []
 unfolding outcome
-case-15 = refl
+broken-before-deep = refl
 
--- `[1]&![2]`
-case-16 : told (reading (91 ∷ 49 ∷ 93 ∷ 38 ∷ 33 ∷ 91 ∷ 50 ∷ 93 ∷ [])) ≡ 21 ∷ 4 ∷ []
+-- `[1]&![2]`: an item follows `&`
+joint-twice : told (reading (91 ∷ 49 ∷ 93 ∷ 38 ∷ 33 ∷ 91 ∷ 50 ∷ 93 ∷ [])) ≡ 21 ∷ 4 ∷ []
 unfolding outcome
-case-16 = refl
+joint-twice = refl
 
--- `[1;n 0 1 2 3]`
-case-17 : told (reading (91 ∷ 49 ∷ 59 ∷ 110 ∷ 32 ∷ 48 ∷ 32 ∷ 49 ∷ 32 ∷ 50 ∷ 32 ∷ 51 ∷ 93 ∷ [])) ≡ 21 ∷ 10 ∷ []
+-- `[1;n 0 1 2 3]`: NEAR has no fourth number
+number-more : told (reading (91 ∷ 49 ∷ 59 ∷ 110 ∷ 32 ∷ 48 ∷ 32 ∷ 49 ∷ 32 ∷ 50 ∷ 32 ∷ 51 ∷ 93 ∷ [])) ≡ 21 ∷ 10 ∷ []
 unfolding outcome
-case-17 = refl
+number-more = refl
 
--- `[1];`
-case-18 : told (reading (91 ∷ 49 ∷ 93 ∷ 59 ∷ [])) ≡ 21 ∷ 3 ∷ []
+-- `[1];`: a condition behind its figure
+condition-outside : told (reading (91 ∷ 49 ∷ 93 ∷ 59 ∷ [])) ≡ 21 ∷ 3 ∷ []
 unfolding outcome
-case-18 = refl
+condition-outside = refl
 
--- `[x`
-case-19 : told (reading (91 ∷ 120 ∷ [])) ≡ 21 ∷ 1 ∷ []
+-- `[x`: a letter where a number is wanted
+letter-for-number : told (reading (91 ∷ 120 ∷ [])) ≡ 21 ∷ 1 ∷ []
 unfolding outcome
-case-19 = refl
+letter-for-number = refl
+
+-- `[1 2;a 0 1 65535 65535]`: the limit of APART's least and most
+apart-at-limit : told (reading (91 ∷ 49 ∷ 32 ∷ 50 ∷ 59 ∷ 97 ∷ 32 ∷ 48 ∷ 32 ∷ 49 ∷ 32 ∷ 54 ∷ 53 ∷ 53 ∷ 51 ∷ 53 ∷ 32 ∷ 54 ∷ 53 ∷ 53 ∷ 51 ∷ 53 ∷ 93 ∷ []))
+    ≡ 0 ∷ []
+unfolding outcome
+apart-at-limit = refl
+
+-- `[1 2;a 0 1 65536`: the digit that passes 65,535
+apart-over-limit : told (reading (91 ∷ 49 ∷ 32 ∷ 50 ∷ 59 ∷ 97 ∷ 32 ∷ 48 ∷ 32 ∷ 49 ∷ 32 ∷ 54 ∷ 53 ∷ 53 ∷ 51 ∷ 54 ∷ [])) ≡ 21 ∷ 15 ∷ []
+unfolding outcome
+apart-over-limit = refl

@@ -9,7 +9,8 @@ use lib.ListN.{length}
 use borrow.Author.Tests.{ltb-true, ltb-false}
 use Rattle.grammar.specs.Grammar.{Line, Part, Fits, written, LineText, Begins}
 use Rattle.grammar.specs.Brackets.{depth}
-use Rattle.grammar.specs.Reading.{Front, Config, ready, inside, after, start, lineOf, step, openIn, Outcome, whole, broken, deep, ended, continued, outcome, shown}
+use Rattle.grammar.specs.Reading.{Front, Config, ready, inside, after, start, lineOf, step, openIn, Outcome, whole, broken, deep}
+use Rattle.grammar.specs.Reading.{ended, continued, outcome, shown}
 use Rattle.grammar.proofs.Laws.Reading.{split, Sound, StepTold, step-told, PlacesFit}
 use Rattle.grammar.proofs.Laws.Viable.{begins-shown}
 use Rattle.grammar.proofs.Laws.Steps.{Steps, line-steps, frontOf, lastOf, line-again}
@@ -84,29 +85,77 @@ OutcomeTold c q s (whole l) = Wholly c s l
 OutcomeTold c q s (broken e) = Stopped c q s e
 OutcomeTold c q s (deep e) = Opened c q s e
 
-later : (c : Config) (q b : ℕ) (s : List ℕ) (x : Config) (o : Outcome) → step c b ≡ some x → length (openIn x) ≤ 8 → OutcomeTold x (suc q) s o → OutcomeTold c q (b ∷ s) o
+later : (c : Config) (q b : ℕ) (s : List ℕ) (x : Config) (o : Outcome) → step c b ≡ some x → length (openIn x) ≤ 8
+    → OutcomeTold x (suc q) s o → OutcomeTold c q (b ∷ s) o
 unfolding Steps
 later c q b s x (whole l) e h r = record { front = r .front; part = r .part; line = r .line; steps = (x, e, h, r .steps) }
-later c q b s x (broken k) e h r = record { read = b ∷ (r .read); rest = r .rest; text = ap (λ (l : List ℕ). b ∷ l) (r .text); at = let p = r .at in omega arith; there = r .there; steps = (x, e, h, r .steps); stops = r .stops }
-later c q b s x (deep k) e h r = record { read = b ∷ (r .read); byte = r .byte; rest = r .rest; text = ap (λ (l : List ℕ). b ∷ l) (r .text); at = let p = r .at in omega arith; there = r .there; then = r .then; steps = (x, e, h, r .steps); goes = r .goes; ninth = r .ninth }
+later c q b s x (broken k) e h r = record {
+  read = b ∷ (r .read);
+  rest = r .rest;
+  text = ap (λ (l : List ℕ). b ∷ l) (r .text);
+  at = let p = r .at in omega arith;
+  there = r .there;
+  steps = (x, e, h, r .steps);
+  stops = r .stops;
+}
+later c q b s x (deep k) e h r = record {
+  read = b ∷ (r .read);
+  byte = r .byte;
+  rest = r .rest;
+  text = ap (λ (l : List ℕ). b ∷ l) (r .text);
+  at = let p = r .at in omega arith;
+  there = r .there;
+  then = r .then;
+  steps = (x, e, h, r .steps);
+  goes = r .goes;
+  ninth = r .ninth;
+}
 
 at-end : (c : Config) (q : ℕ) → OutcomeTold c q [] (ended c q)
 unfolding Steps
 at-end (ready p ps) q = record { read = []; rest = []; text = refl; at = omega arith; there = ready p ps; steps = refl; stops = λ z. z }
-at-end (inside f p ps) q = record { read = []; rest = []; text = refl; at = omega arith; there = inside f p ps; steps = refl; stops = λ z. z }
+at-end (inside f p ps) q = record {
+  read = [];
+  rest = [];
+  text = refl;
+  at = omega arith;
+  there = inside f p ps;
+  steps = refl;
+  stops = λ z. z;
+}
 at-end (after f p []) q = record { front = f; part = p; line = refl; steps = refl }
-at-end (after f p (x ∷ ps)) q = record { read = []; rest = []; text = refl; at = omega arith; there = after f p (x ∷ ps); steps = refl; stops = λ z. z }
+at-end (after f p (x ∷ ps)) q = record {
+  read = [];
+  rest = [];
+  text = refl;
+  at = omega arith;
+  there = after f p (x ∷ ps);
+  steps = refl;
+  stops = λ z. z;
+}
 
 pub outcome-told : (s : List ℕ) (c : Config) (q : ℕ) → OutcomeTold c q s (outcome c q s)
 unfolding outcome Steps
 outcome-told [] c q = at-end c q
 outcome-told (b ∷ s) c q = go (step c b) refl (λ x. outcome-told s x (suc q))
   where
-    go : (o : Option Config) → step c b ≡ o → ((x : Config) → OutcomeTold x (suc q) s (outcome x (suc q) s)) → OutcomeTold c q (b ∷ s) (continued o q (λ x. outcome x (suc q) s))
+    go : (o : Option Config) → step c b ≡ o → ((x : Config) → OutcomeTold x (suc q) s (outcome x (suc q) s))
+        → OutcomeTold c q (b ∷ s) (continued o q (λ x. outcome x (suc q) s))
     go none e r = record { read = []; rest = b ∷ s; text = refl; at = omega arith; there = c; steps = refl; stops = e }
     go (some x) e r =
         split (OutcomeTold c q (b ∷ s)) (ltb 8 (length (openIn x))) (deep q) (outcome x (suc q) s)
-        (λ t. record { read = []; byte = b; rest = s; text = refl; at = omega arith; there = c; then = x; steps = refl; goes = e; ninth = ltb-true 8 (length (openIn x)) t })
+        (λ t. record {
+          read = [];
+          byte = b;
+          rest = s;
+          text = refl;
+          at = omega arith;
+          there = c;
+          then = x;
+          steps = refl;
+          goes = e;
+          ninth = ltb-true 8 (length (openIn x)) t;
+        })
         (λ t. later c q b s x (outcome x (suc q) s) e (ltb-false 8 (length (openIn x)) t) (r x))
 
 start-sound : Sound start
@@ -123,7 +172,9 @@ from-start n s d p = let r = steps-told n start s d p start-sound in (r .0 ∙ a
 
 -- the text of a line leads from the start to its end
 pub text-steps : (s : List ℕ) (t : LineText s) → Steps (depth (t .line)) start s (after (frontOf (t .line)) (lastOf (t .line)) [])
-text-steps s t = subst (λ (x : List ℕ). Steps (depth (t .line)) start x (after (frontOf (t .line)) (lastOf (t .line)) [])) (t .text) (line-steps (t .line) (depth (t .line)) [] (t .fits) (omega arith))
+text-steps s t =
+    subst (λ (x : List ℕ). Steps (depth (t .line)) start x (after (frontOf (t .line)) (lastOf (t .line)) [])) (t .text)
+    (line-steps (t .line) (depth (t .line)) [] (t .fits) (omega arith))
 
 -- a beginning that can be read is one with which some line begins
 pub read-begins : (n : ℕ) (s : List ℕ) (d : Config) → Steps n start s d → Begins s
@@ -133,8 +184,9 @@ read-begins n s d p = let r = from-start n s d p in subst Begins (r .0) (begins-
 pub begins-read : (s : List ℕ) (h : Begins s) → (n : ℕ) × (d : Config) × Steps n start s d
 begins-read s h =
     let t = h .whole in
-    let q = steps-prefix (depth (t .line)) start s (h .rest) (after (frontOf (t .line)) (lastOf (t .line)) []) (text-steps (s ++ (h .rest)) t) in
-    (depth (t .line), q .0, q .1)
+    let l = t .line in
+    let q = steps-prefix (depth l) start s (h .rest) (after (frontOf l) (lastOf l) []) (text-steps (s ++ (h .rest)) t) in
+    (depth l, q .0, q .1)
 
 -- the line of a text is one: the tree is determined by its text
 pub unambiguous : (l m : Line) → Fits l → Fits m → written l ≡ written m → l ≡ m

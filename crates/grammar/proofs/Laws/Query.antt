@@ -17,8 +17,10 @@ use Rattle.plan.specs.Parts.{patternRows}
 use Rattle.fulltext.specs.Documents.{found, matching}
 use Rattle.grammar.specs.Grammar as g
 use Rattle.grammar.specs.Grammar.{Condition, Joint, Line, Part, Item}
-use Rattle.grammar.specs.Meaning.{predicateOf, patternOf, operatorOf, operatorRow, lineRows, partRows, itemRows, joinedBy, lineHolds, partHolds, itemHolds, lineTrue}
-use Rattle.grammar.specs.Query.{Query, leaf, node, queryRows, queryHolds, topTwo, queriesAfter, queriesFrom, lineQuery, partQuery, itemQuery, conditionOf, figureOf, typed}
+use Rattle.grammar.specs.Meaning.{predicateOf, patternOf, operatorOf, operatorRow, lineRows, partRows, itemRows, joinedBy, lineHolds}
+use Rattle.grammar.specs.Meaning.{partHolds, itemHolds, lineTrue}
+use Rattle.grammar.specs.Query.{Query, leaf, node, queryRows, queryHolds, topTwo, queriesAfter, queriesFrom, lineQuery, partQuery}
+use Rattle.grammar.specs.Query.{itemQuery, conditionOf, figureOf, typed}
 use Rattle.grammar.specs.Brackets.{rounds, partRounds, itemRounds}
 
 -- the rows of a line are those of its tree
@@ -38,7 +40,8 @@ mutual
   item-rows (g.round l) = line-rows l
 
 -- and so is its truth
-node-holds : (h : Pattern → Bool) (j : Joint) (a b : Query) → joinedBy j (queryHolds h a) (queryHolds h b) ≡ queryHolds h (node (operatorOf j) a b)
+node-holds : (h : Pattern → Bool) (j : Joint) (a b : Query)
+    → joinedBy j (queryHolds h a) (queryHolds h b) ≡ queryHolds h (node (operatorOf j) a b)
 unfolding queryHolds
 node-holds h g.both a b = refl
 node-holds h g.without a b = refl
@@ -72,14 +75,16 @@ module _ (h : Pattern → Bool) where
   two-map FirstNotSecond (b ∷ []) = refl
   two-map FirstNotSecond (b ∷ (a ∷ qs)) = refl
 
-  after-map : (f : Pattern) (qs : List Query) (k : Kind) → answersAfter h f (map (queryHolds h) qs) k ≡ map (queryHolds h) (queriesAfter f qs k)
+  after-map : (f : Pattern) (qs : List Query) (k : Kind)
+      → answersAfter h f (map (queryHolds h) qs) k ≡ map (queryHolds h) (queriesAfter f qs k)
   unfolding queryHolds
   after-map f qs (kind.Voice list) = refl
   after-map f qs (kind.Condition c) = refl
   after-map f qs kind.End = refl
   after-map f qs (kind.Operator o) = two-map o qs
 
-  pub answers-map : (rows : List Row) (f : Pattern) (qs : List Query) → answersFrom h f (map (queryHolds h) qs) rows ≡ map (queryHolds h) (queriesFrom f qs rows)
+  pub answers-map : (rows : List Row) (f : Pattern) (qs : List Query)
+      → answersFrom h f (map (queryHolds h) qs) rows ≡ map (queryHolds h) (queriesFrom f qs rows)
   unfolding answersFrom queriesFrom
   answers-map [] f qs = refl
   answers-map (r ∷ rows) f qs =
@@ -96,29 +101,44 @@ condition c = record { kind = kind.Condition c }
 abbrev pub end : Row
 end = record { kind = kind.End }
 
-voices-read : (ls vs : List ℕ) (cs : List Predicate) (qs : List Query) (rest : List Row) → queriesFrom (record { vars = vs; predicates = cs }) qs (map voice ls ++ rest) ≡ queriesFrom (record { vars = vs ++ ls; predicates = cs }) qs rest
+voices-read : (ls vs : List ℕ) (cs : List Predicate) (qs : List Query) (rest : List Row)
+    → queriesFrom (record { vars = vs; predicates = cs }) qs (map voice ls ++ rest)
+    ≡ queriesFrom (record { vars = vs ++ ls; predicates = cs }) qs rest
 unfolding queriesFrom
 voices-read [] vs cs qs rest = ap (λ (l : List ℕ). queriesFrom (record { vars = l; predicates = cs }) qs rest) (sym (append-nil vs))
-voices-read (x ∷ ls) vs cs qs rest = voices-read ls (vs ++ (x ∷ [])) cs qs rest ∙ ap (λ (l : List ℕ). queriesFrom (record { vars = l; predicates = cs }) qs rest) (append-assoc vs (x ∷ []) ls)
+voices-read (x ∷ ls) vs cs qs rest =
+    voices-read ls (vs ++ (x ∷ [])) cs qs rest
+    ∙ ap (λ (l : List ℕ). queriesFrom (record { vars = l; predicates = cs }) qs rest) (append-assoc vs (x ∷ []) ls)
 
-conditions-read : (ds cs : List Predicate) (vs : List ℕ) (qs : List Query) (rest : List Row) → queriesFrom (record { vars = vs; predicates = cs }) qs (map condition ds ++ rest) ≡ queriesFrom (record { vars = vs; predicates = cs ++ ds }) qs rest
+conditions-read : (ds cs : List Predicate) (vs : List ℕ) (qs : List Query) (rest : List Row)
+    → queriesFrom (record { vars = vs; predicates = cs }) qs (map condition ds ++ rest)
+    ≡ queriesFrom (record { vars = vs; predicates = cs ++ ds }) qs rest
 unfolding queriesFrom
-conditions-read [] cs vs qs rest = ap (λ (l : List Predicate). queriesFrom (record { vars = vs; predicates = l }) qs rest) (sym (append-nil cs))
-conditions-read (x ∷ ds) cs vs qs rest = conditions-read ds (cs ++ (x ∷ [])) vs qs rest ∙ ap (λ (l : List Predicate). queriesFrom (record { vars = vs; predicates = l }) qs rest) (append-assoc cs (x ∷ []) ds)
+conditions-read [] cs vs qs rest =
+    ap (λ (l : List Predicate). queriesFrom (record { vars = vs; predicates = l }) qs rest) (sym (append-nil cs))
+conditions-read (x ∷ ds) cs vs qs rest =
+    conditions-read ds (cs ++ (x ∷ [])) vs qs rest
+    ∙ ap (λ (l : List Predicate). queriesFrom (record { vars = vs; predicates = l }) qs rest) (append-assoc cs (x ∷ []) ds)
 
-pattern-read : (f : Pattern) (qs : List Query) (rest : List Row) → queriesFrom noRow qs (patternRows f ++ rest) ≡ queriesFrom noRow (leaf f ∷ qs) rest
+pattern-read : (f : Pattern) (qs : List Query) (rest : List Row)
+    → queriesFrom noRow qs (patternRows f ++ rest) ≡ queriesFrom noRow (leaf f ∷ qs) rest
 unfolding queriesFrom
 pattern-read f qs rest =
-    ap (queriesFrom noRow qs) (append-assoc (map voice (f .vars) ++ map condition (f .predicates)) (end ∷ []) rest ∙ append-assoc (map voice (f .vars)) (map condition (f .predicates)) (end ∷ rest))
+    ap (queriesFrom noRow qs)
+    (append-assoc (map voice (f .vars) ++ map condition (f .predicates)) (end ∷ []) rest
+    ∙ append-assoc (map voice (f .vars)) (map condition (f .predicates)) (end ∷ rest))
     ∙ voices-read (f .vars) [] [] qs (map condition (f .predicates) ++ (end ∷ rest))
     ∙ conditions-read (f .predicates) [] (f .vars) qs (end ∷ rest)
 
 -- the rows of a tree stack it
-pub query-read : (q : Query) (qs : List Query) (rest : List Row) → queriesFrom noRow qs (queryRows q ++ rest) ≡ queriesFrom noRow (q ∷ qs) rest
+pub query-read : (q : Query) (qs : List Query) (rest : List Row)
+    → queriesFrom noRow qs (queryRows q ++ rest) ≡ queriesFrom noRow (q ∷ qs) rest
 unfolding queryRows queriesFrom
 query-read (leaf f) qs rest = pattern-read f qs rest
 query-read (node o a b) qs rest =
-    ap (queriesFrom noRow qs) (append-assoc (queryRows a) (queryRows b ++ operatorRow o) rest ∙ ap (λ (l : List Row). queryRows a ++ l) (append-assoc (queryRows b) (operatorRow o) rest))
+    ap (queriesFrom noRow qs)
+    (append-assoc (queryRows a) (queryRows b ++ operatorRow o) rest
+    ∙ ap (λ (l : List Row). queryRows a ++ l) (append-assoc (queryRows b) (operatorRow o) rest))
     ∙ query-read a qs (queryRows b ++ (operatorRow o ++ rest))
     ∙ query-read b (a ∷ qs) (operatorRow o ++ rest)
 
@@ -136,7 +156,8 @@ unfolding matching answer lineTrue
 meaning lists l d =
     let h = found lists d in
     ap (λ (rows : List Row). getD (answersFrom h noRow [] rows) 0 false) (line-rows l)
-    ∙ ap (λ (bs : List Bool). getD bs 0 false) (answers-map h (queryRows (lineQuery l)) noRow [] ∙ ap (map (queryHolds h)) (query-alone (lineQuery l)))
+    ∙ ap (λ (bs : List Bool). getD bs 0 false)
+    (answers-map h (queryRows (lineQuery l)) noRow [] ∙ ap (map (queryHolds h)) (query-alone (lineQuery l)))
     ∙ sym (line-holds h l)
 
 -- a typed tree is that tree
@@ -163,8 +184,12 @@ pub typed-back : (q : Query) → TypedBack q
 unfolding typed lineQuery
 typed-back (leaf f) = let e = ap leaf (figure-back f) in record { line = e; part = e; item = e }
 typed-back (node Both a b) = let e = ap₂ (node Both) (typed-back a .part) (typed-back b .item) in record { line = e; part = e; item = e }
-typed-back (node Either a b) = let e = ap₂ (node Either) (typed-back a .line) (typed-back b .part) in record { line = e; part = e; item = e }
-typed-back (node FirstNotSecond a b) = let e = ap₂ (node FirstNotSecond) (typed-back a .part) (typed-back b .item) in record { line = e; part = e; item = e }
+typed-back (node Either a b) =
+    let e = ap₂ (node Either) (typed-back a .line) (typed-back b .part) in
+    record { line = e; part = e; item = e }
+typed-back (node FirstNotSecond a b) =
+    let e = ap₂ (node FirstNotSecond) (typed-back a .part) (typed-back b .item) in
+    record { line = e; part = e; item = e }
 
 pub typed-rows : (q : Query) → lineRows (typed q .line) ≡ queryRows q
 typed-rows q = line-rows (typed q .line) ∙ ap queryRows (typed-back q .line)
@@ -182,7 +207,8 @@ ranked (node Both a b) = record { line-part = omega arith; part-item = omega ari
 ranked (node Either a b) = record { line-part = omega arith; part-item = omega arith; item-line = omega arith }
 ranked (node FirstNotSecond a b) = record { line-part = omega arith; part-item = omega arith; item-line = omega arith }
 
-join-fewest : (j : Joint) (a b : Query) → partRounds (typed (node (operatorOf j) a b) .part) ≡ partRounds (typed a .part) + itemRounds (typed b .item)
+join-fewest : (j : Joint) (a b : Query)
+    → partRounds (typed (node (operatorOf j) a b) .part) ≡ partRounds (typed a .part) + itemRounds (typed b .item)
 unfolding typed rounds
 join-fewest g.both a b = refl
 join-fewest g.without a b = refl
@@ -196,7 +222,11 @@ mutual
 
   pub part-fewest : (p : Part) → partRounds (typed (partQuery p) .part) ≤ partRounds p
   part-fewest (g.alone i) = let r = ranked (itemQuery i) in let h = item-fewest i in omega (arith, r .part-item)
-  part-fewest (g.join j p i) = let e = join-fewest j (partQuery p) (itemQuery i) in let h = part-fewest p in let k = item-fewest i in omega arith
+  part-fewest (g.join j p i) =
+      let e = join-fewest j (partQuery p) (itemQuery i) in
+      let h = part-fewest p in
+      let k = item-fewest i in
+      omega arith
 
   pub item-fewest : (i : Item) → itemRounds (typed (itemQuery i) .item) ≤ itemRounds i
   item-fewest (g.figure f) = omega arith

@@ -14,8 +14,13 @@ use Rattle.seq.proofs.Laws.Lists.{each-snoc, length-snoc}
 use Rattle.seq.specs.Decimal.{digit, decimal}
 use Rattle.grammar.specs.Text.{lead, gapAfter}
 use Rattle.grammar.specs.Grammar as g
-use Rattle.grammar.specs.Grammar.{Word, Condition, Figure, Joint, Part, Item, letterOf, arity, mostOf, conditionText, openText, figureText, written, partText, itemText, Within, ConditionFits, FigureFits, Fits, PartFits, ItemFits, noCondition, jointByte}
-use Rattle.grammar.specs.Reading.{Number, fresh, digits, mayGrow, isDigit, grown, grows, Partial, listing, semicolon, lettered, counting, Next, goes, closes, stuck, firstLists, withCondition, behind, ending, stepIn, Front, bare, eithers, Place, first, next, Config, ready, inside, after, lineOf, placed, shut, within, step, numberText, partialText, frontText, placeText, openedText, shown}
+use Rattle.grammar.specs.Grammar.{Word, Condition, Figure, Joint, Part, Item, letterOf, arity, mostOf, conditionText, openText}
+use Rattle.grammar.specs.Grammar.{figureText, written, partText, itemText, Within, ConditionFits, FigureFits, Fits, PartFits}
+use Rattle.grammar.specs.Grammar.{ItemFits, noCondition, jointByte}
+use Rattle.grammar.specs.Reading.{Number, fresh, digits, mayGrow, isDigit, grown, grows, Partial, listing, semicolon, lettered}
+use Rattle.grammar.specs.Reading.{counting, Next, goes, closes, stuck, firstLists, withCondition, behind, ending, stepIn, Front, bare}
+use Rattle.grammar.specs.Reading.{eithers, Place, first, next, Config, ready, inside, after, lineOf, placed, shut, within, step}
+use Rattle.grammar.specs.Reading.{numberText, partialText, frontText, placeText, openedText, shown}
 use Rattle.seq.proofs.Laws.Decimal.{decimal-digit, decimal-grow}
 use Rattle.grammar.proofs.Laws.Text.{lead-behind}
 
@@ -39,7 +44,8 @@ grows-tells most x b e =
     let m = both (mayGrow x) (leb (grown x b) most) (d .1) in
     record { low = leb-true 48 b (r .0); high = leb-true b 57 (r .1); may = m .0; small = leb-true (grown x b) most (m .1) }
 
-grow-text : (a : ℕ) (ns : List ℕ) (most : ℕ) (x : Number) (b : ℕ) → Grows most x b → numberText a ns (digits (grown x b)) ≡ numberText a ns x ++ (b ∷ [])
+grow-text : (a : ℕ) (ns : List ℕ) (most : ℕ) (x : Number) (b : ℕ) → Grows most x b
+    → numberText a ns (digits (grown x b)) ≡ numberText a ns x ++ (b ∷ [])
 grow-text a ns most fresh b w =
     let l = w .low in
     let h = w .high in
@@ -53,7 +59,8 @@ grow-text a ns most (digits n) b w =
     let p = ltb-true 0 n (w .may) in
     let e : digit (b - 48) ≡ b = omega arith in
     lead-behind a ns (grown (digits n) b)
-    ∙ ap (λ (xs : List ℕ). lead a ns ++ (gapAfter a ns ∷ xs)) (decimal-grow n (b - 48) p (omega arith) ∙ ap (λ (k : ℕ). decimal n ++ (k ∷ [])) e)
+    ∙ ap (λ (xs : List ℕ). lead a ns ++ (gapAfter a ns ∷ xs))
+    (decimal-grow n (b - 48) p (omega arith) ∙ ap (λ (k : ℕ). decimal n ++ (k ∷ [])) e)
     ∙ sym (append-assoc (lead a ns) (gapAfter a ns ∷ decimal n) (b ∷ []))
     ∙ ap (λ (xs : List ℕ). xs ++ (b ∷ [])) (sym (lead-behind a ns n))
 
@@ -98,7 +105,8 @@ lists-fit ns n h = record {
   conditions = λ i l. absurd (let z : ⊥ = omega arith in z);
 }
 
-condition-fits : (f : Figure) (w : Word) (ns : List ℕ) (n : ℕ) → Counted f w ns (digits n) → (ltb (length ns + 1) (arity w) ≡ false) → FigureFits (withCondition f w (behind ns n))
+condition-fits : (f : Figure) (w : Word) (ns : List ℕ) (n : ℕ) → Counted f w ns (digits n) → (ltb (length ns + 1) (arity w) ≡ false)
+    → FigureFits (withCondition f w (behind ns n))
 condition-fits f w ns n h e = record {
   some-list = h .of .some-list;
   within = h .of .within;
@@ -113,10 +121,13 @@ open-lists : (ns : List ℕ) → openText (firstLists ns) ≡ lead 91 ns
 unfolding openText joined
 open-lists ns = append-nil (lead 91 ns)
 
-map-snoc : (cs : List Condition) (c : Condition) → joined (map conditionText (cs ++ (c ∷ []))) ≡ joined (map conditionText cs) ++ conditionText c
+map-snoc : (cs : List Condition) (c : Condition)
+    → joined (map conditionText (cs ++ (c ∷ []))) ≡ joined (map conditionText cs) ++ conditionText c
 unfolding joined
 map-snoc [] c = append-nil (conditionText c)
-map-snoc (d ∷ cs) c = ap (λ (l : List ℕ). conditionText d ++ l) (map-snoc cs c) ∙ sym (append-assoc (conditionText d) (joined (map conditionText cs)) (conditionText c))
+map-snoc (d ∷ cs) c =
+    ap (λ (l : List ℕ). conditionText d ++ l) (map-snoc cs c)
+    ∙ sym (append-assoc (conditionText d) (joined (map conditionText cs)) (conditionText c))
 
 open-condition : (f : Figure) (w : Word) (ns : List ℕ) → openText (withCondition f w ns) ≡ openText f ++ (59 ∷ letterOf w ∷ lead 32 ns)
 unfolding openText
@@ -129,7 +140,8 @@ unfolding partialText figureText
 ending-told f b h =
     split (NextTold (openText f ++ (b ∷ []))) (eqb b 59) _ _
     (λ e. (ap (λ (k : ℕ). openText f ++ (k ∷ [])) (sym (eqb-true b 59 e)), h))
-    (λ n. split (NextTold (openText f ++ (b ∷ []))) (eqb b 93) _ _ (λ e. (ap (λ (k : ℕ). openText f ++ (k ∷ [])) (sym (eqb-true b 93 e)), h)) (λ m. tt))
+    (λ n. split (NextTold (openText f ++ (b ∷ []))) (eqb b 93) _ _
+    (λ e. (ap (λ (k : ℕ). openText f ++ (k ∷ [])) (sym (eqb-true b 93 e)), h)) (λ m. tt))
 
 gap-32 : (ns : List ℕ) → gapAfter 32 ns ≡ 32
 gap-32 [] = refl
@@ -147,9 +159,14 @@ stepIn-told (listing ns fresh) b h =
     (λ e. tt)
 stepIn-told (listing ns (digits n)) b h =
     split (NextTold (numberText 91 ns (digits n) ++ (b ∷ []))) (grows 65536 (digits n) b) _ _
-    (λ e. let w = grows-tells 65536 (digits n) b e in (grow-text 91 ns 65536 (digits n) b w, record { numbers = h .numbers; last = w .small }))
+    (λ e.
+    let w = grows-tells 65536 (digits n) b e in
+    (grow-text 91 ns 65536 (digits n) b w, record { numbers = h .numbers; last = w .small }))
     (λ e. split (NextTold (numberText 91 ns (digits n) ++ (b ∷ []))) (eqb b 32) _ _
-    (λ q. (ap (λ (k : ℕ). lead 91 (behind ns n) ++ (k ∷ [])) (gap-behind 91 ns n ∙ sym (eqb-true b 32 q)), record { numbers = within-behind (λ i. 65536) ns n (h .numbers) (h .last); last = tt }))
+    (λ q. (
+      ap (λ (k : ℕ). lead 91 (behind ns n) ++ (k ∷ [])) (gap-behind 91 ns n ∙ sym (eqb-true b 32 q)),
+      record { numbers = within-behind (λ i. 65536) ns n (h .numbers) (h .last); last = tt },
+    ))
     (λ q. rw (open-lists (behind ns n)) at (ending-told (firstLists (behind ns n)) b (lists-fit ns n h))))
 stepIn-told (semicolon f) b h =
     split (NextTold ((openText f ++ (59 ∷ [])) ++ (b ∷ []))) (eqb b 110) _ _ (λ e. (letter-text f g.near b e, h))
@@ -159,12 +176,15 @@ stepIn-told (semicolon f) b h =
     (λ _. split (NextTold ((openText f ++ (59 ∷ [])) ++ (b ∷ []))) (eqb b 97) _ _ (λ e. (letter-text f g.apart b e, h))
     (λ _. tt)))))
   where
-    letter-text : (f : Figure) (w : Word) (b : ℕ) → eqb b (letterOf w) ≡ true → openText f ++ (59 ∷ letterOf w ∷ []) ≡ (openText f ++ (59 ∷ [])) ++ (b ∷ [])
-    letter-text f w b e = ap (λ (k : ℕ). openText f ++ (59 ∷ k ∷ [])) (sym (eqb-true b (letterOf w) e)) ∙ sym (append-assoc (openText f) (59 ∷ []) (b ∷ []))
+    letter-text : (f : Figure) (w : Word) (b : ℕ) → eqb b (letterOf w) ≡ true
+        → openText f ++ (59 ∷ letterOf w ∷ []) ≡ (openText f ++ (59 ∷ [])) ++ (b ∷ [])
+    letter-text f w b e =
+        ap (λ (k : ℕ). openText f ++ (59 ∷ k ∷ [])) (sym (eqb-true b (letterOf w) e)) ∙ sym (append-assoc (openText f) (59 ∷ []) (b ∷ []))
 stepIn-told (lettered f w) b h =
     split (NextTold ((openText f ++ (59 ∷ letterOf w ∷ [])) ++ (b ∷ []))) (eqb b 32) _ _
     (λ e. (
-      ap (λ (k : ℕ). openText f ++ (59 ∷ letterOf w ∷ k ∷ [])) (sym (eqb-true b 32 e)) ∙ sym (append-assoc (openText f) (59 ∷ letterOf w ∷ []) (b ∷ [])),
+      ap (λ (k : ℕ). openText f ++ (59 ∷ letterOf w ∷ k ∷ [])) (sym (eqb-true b 32 e))
+          ∙ sym (append-assoc (openText f) (59 ∷ letterOf w ∷ []) (b ∷ [])),
       record { of = h; room = some w; numbers = λ i l. absurd (let z : ⊥ = omega arith in z); last = tt },
     ))
     (λ e. tt)
@@ -179,7 +199,8 @@ stepIn-told (counting f w ns fresh) b h =
     let most = mostOf w (length ns) in
     split (NextTold ((openText f ++ (59 ∷ letterOf w ∷ numberText 32 ns fresh)) ++ (b ∷ []))) (grows most fresh b) _ _
     (λ e. let r = grows-tells most fresh b e in (
-      ap (λ (l : List ℕ). openText f ++ (59 ∷ letterOf w ∷ l)) (grow-text 32 ns most fresh b r) ∙ sym (append-assoc (openText f) (59 ∷ letterOf w ∷ numberText 32 ns fresh) (b ∷ [])),
+      ap (λ (l : List ℕ). openText f ++ (59 ∷ letterOf w ∷ l)) (grow-text 32 ns most fresh b r)
+          ∙ sym (append-assoc (openText f) (59 ∷ letterOf w ∷ numberText 32 ns fresh) (b ∷ [])),
       record { of = h .of; room = h .room; numbers = h .numbers; last = r .small },
     ))
     (λ e. tt)
@@ -187,14 +208,21 @@ stepIn-told (counting f w ns (digits n)) b h =
     let most = mostOf w (length ns) in
     split (NextTold ((openText f ++ (59 ∷ letterOf w ∷ numberText 32 ns (digits n))) ++ (b ∷ []))) (grows most (digits n) b) _ _
     (λ e. let r = grows-tells most (digits n) b e in (
-      ap (λ (l : List ℕ). openText f ++ (59 ∷ letterOf w ∷ l)) (grow-text 32 ns most (digits n) b r) ∙ sym (append-assoc (openText f) (59 ∷ letterOf w ∷ numberText 32 ns (digits n)) (b ∷ [])),
+      ap (λ (l : List ℕ). openText f ++ (59 ∷ letterOf w ∷ l)) (grow-text 32 ns most (digits n) b r)
+          ∙ sym (append-assoc (openText f) (59 ∷ letterOf w ∷ numberText 32 ns (digits n)) (b ∷ [])),
       record { of = h .of; room = h .room; numbers = h .numbers; last = r .small },
     ))
     (λ e. split (NextTold ((openText f ++ (59 ∷ letterOf w ∷ numberText 32 ns (digits n))) ++ (b ∷ []))) (ltb (length ns + 1) (arity w)) _ _
     (λ m. split (NextTold ((openText f ++ (59 ∷ letterOf w ∷ numberText 32 ns (digits n))) ++ (b ∷ []))) (eqb b 32) _ _
     (λ q. (
-      ap (λ (k : ℕ). openText f ++ (59 ∷ letterOf w ∷ (lead 32 (behind ns n) ++ (k ∷ [])))) (gap-32 (behind ns n) ∙ sym (eqb-true b 32 q)) ∙ sym (append-assoc (openText f) (59 ∷ letterOf w ∷ lead 32 (behind ns n)) (b ∷ [])),
-      record { of = h .of; room = let e = length-snoc ns n in let l = ltb-true (length ns + 1) (arity w) m in omega arith; numbers = within-behind (mostOf w) ns n (h .numbers) (h .last); last = tt },
+      ap (λ (k : ℕ). openText f ++ (59 ∷ letterOf w ∷ (lead 32 (behind ns n) ++ (k ∷ [])))) (gap-32 (behind ns n) ∙ sym (eqb-true b 32 q))
+          ∙ sym (append-assoc (openText f) (59 ∷ letterOf w ∷ lead 32 (behind ns n)) (b ∷ [])),
+      record {
+        of = h .of;
+        room = let e = length-snoc ns n in let l = ltb-true (length ns + 1) (arity w) m in omega arith;
+        numbers = within-behind (mostOf w) ns n (h .numbers) (h .last);
+        last = tt;
+      },
     ))
     (λ q. tt))
     (λ m. rw (open-condition f w (behind ns n)) at (ending-told (withCondition f w (behind ns n)) b (condition-fits f w ns n h m))))
@@ -236,7 +264,8 @@ unfolding shown written
 placed-text (first f) i ps = refl
 placed-text (next f q j) i ps =
     ap (λ (l : List ℕ). openedText ps ++ l)
-    (ap (λ (l : List ℕ). frontText f ++ l) (sym (append-assoc (partText q) (jointByte j ∷ []) (itemText i))) ∙ sym (append-assoc (frontText f) (partText q ++ (jointByte j ∷ [])) (itemText i)))
+    (ap (λ (l : List ℕ). frontText f ++ l) (sym (append-assoc (partText q) (jointByte j ∷ []) (itemText i)))
+    ∙ sym (append-assoc (frontText f) (partText q ++ (jointByte j ∷ [])) (itemText i)))
 
 placed-sound : (p : Place) (i : Item) (ps : List Place) → PlaceFits p → ItemFits i → PlacesFit ps → Sound (placed p i ps)
 unfolding Fits
@@ -251,16 +280,22 @@ inside-told : (f : Next) (p : Place) (ps : List Place) (s : List ℕ) (b : ℕ) 
     → StepTold ((openedText ps ++ (placeText p ++ s)) ++ (b ∷ [])) (within f p ps)
 unfolding shown written Fits
 inside-told (goes f) p ps s b h k m = (
-  ap (λ (l : List ℕ). openedText ps ++ (placeText p ++ l)) (h .0) ∙ ap (λ (l : List ℕ). openedText ps ++ l) (snoc-last (placeText p) s b) ∙ snoc-last (openedText ps) (placeText p ++ s) b,
+  ap (λ (l : List ℕ). openedText ps ++ (placeText p ++ l)) (h .0)
+      ∙ ap (λ (l : List ℕ). openedText ps ++ l) (snoc-last (placeText p) s b)
+      ∙ snoc-last (openedText ps) (placeText p ++ s) b,
   (h .1, k, m),
 )
 inside-told (closes f) p ps s b h k m = (
-  placed-text p (g.figure f) ps ∙ ap (λ (l : List ℕ). openedText ps ++ (placeText p ++ l)) (h .0) ∙ ap (λ (l : List ℕ). openedText ps ++ l) (snoc-last (placeText p) s b) ∙ snoc-last (openedText ps) (placeText p ++ s) b,
+  placed-text p (g.figure f) ps
+      ∙ ap (λ (l : List ℕ). openedText ps ++ (placeText p ++ l)) (h .0)
+      ∙ ap (λ (l : List ℕ). openedText ps ++ l) (snoc-last (placeText p) s b)
+      ∙ snoc-last (openedText ps) (placeText p ++ s) b,
   placed-sound p (g.figure f) ps k (h .1) m,
 )
 inside-told stuck p ps s b h k m = tt
 
-shut-told : (f : Front) (q : Part) (ps : List Place) (b : ℕ) → b ≡ 41 → FrontFits f → PartFits q → PlacesFit ps → StepTold (shown (after f q ps) ++ (b ∷ [])) (shut (lineOf f q) ps)
+shut-told : (f : Front) (q : Part) (ps : List Place) (b : ℕ) → b ≡ 41 → FrontFits f → PartFits q → PlacesFit ps
+    → StepTold (shown (after f q ps) ++ (b ∷ [])) (shut (lineOf f q) ps)
 unfolding shown written Fits PlacesFit
 shut-told f q [] b e h k m = tt
 shut-told f q (p ∷ ps) b e h k m = (
@@ -276,7 +311,12 @@ pub step-told : (c : Config) (b : ℕ) → Sound c → StepTold (shown c ++ (b �
 unfolding step shown partialText PlacesFit Fits written
 step-told (ready p ps) b h =
     split (StepTold ((openedText ps ++ placeText p) ++ (b ∷ []))) (eqb b 40) _ _
-    (λ e. (append-nil (openedText ps ++ (placeText p ++ (40 ∷ []))) ∙ ap (λ (x : ℕ). openedText ps ++ (placeText p ++ (x ∷ []))) (sym (eqb-true b 40 e)) ∙ snoc-last (openedText ps) (placeText p) b, (tt, h)))
+    (λ e. (
+      append-nil (openedText ps ++ (placeText p ++ (40 ∷ [])))
+          ∙ ap (λ (x : ℕ). openedText ps ++ (placeText p ++ (x ∷ []))) (sym (eqb-true b 40 e))
+          ∙ snoc-last (openedText ps) (placeText p) b,
+      (tt, h),
+    ))
     (λ _. split (StepTold ((openedText ps ++ placeText p) ++ (b ∷ []))) (eqb b 91) _ _
     (λ e. (
       ap (λ (x : ℕ). openedText ps ++ (placeText p ++ (x ∷ []))) (sym (eqb-true b 91 e)) ∙ snoc-last (openedText ps) (placeText p) b,
@@ -287,7 +327,9 @@ step-told (inside f p ps) b h = inside-told (stepIn f b) p ps (partialText f) b 
 step-told (after f q ps) b h =
     split (StepTold ((openedText ps ++ (frontText f ++ partText q)) ++ (b ∷ []))) (eqb b 124) _ _
     (λ e. (
-      ap (λ (l : List ℕ). openedText ps ++ (l ++ (124 ∷ []))) (line-text f q) ∙ ap (λ (x : ℕ). openedText ps ++ ((frontText f ++ partText q) ++ (x ∷ []))) (sym (eqb-true b 124 e)) ∙ snoc-last (openedText ps) (frontText f ++ partText q) b,
+      ap (λ (l : List ℕ). openedText ps ++ (l ++ (124 ∷ []))) (line-text f q)
+          ∙ ap (λ (x : ℕ). openedText ps ++ ((frontText f ++ partText q) ++ (x ∷ []))) (sym (eqb-true b 124 e))
+          ∙ snoc-last (openedText ps) (frontText f ++ partText q) b,
       (line-fits f q (h .0) (h .1), h .2),
     ))
     (λ _. split (StepTold ((openedText ps ++ (frontText f ++ partText q)) ++ (b ∷ []))) (eqb b 38) _ _
@@ -298,5 +340,9 @@ step-told (after f q ps) b h =
     (λ e. shut-told f q ps b (eqb-true b 41 e) (h .0) (h .1) (h .2))
     (λ _. tt))))
   where
-    joint-text : (j : Joint) → eqb b (jointByte j) ≡ true → openedText ps ++ (frontText f ++ (partText q ++ (jointByte j ∷ []))) ≡ (openedText ps ++ (frontText f ++ partText q)) ++ (b ∷ [])
-    joint-text j e = ap (λ (x : ℕ). openedText ps ++ (frontText f ++ (partText q ++ (x ∷ [])))) (sym (eqb-true b (jointByte j) e)) ∙ ap (λ (l : List ℕ). openedText ps ++ l) (snoc-last (frontText f) (partText q) b) ∙ snoc-last (openedText ps) (frontText f ++ partText q) b
+    joint-text : (j : Joint) → eqb b (jointByte j) ≡ true
+        → openedText ps ++ (frontText f ++ (partText q ++ (jointByte j ∷ []))) ≡ (openedText ps ++ (frontText f ++ partText q)) ++ (b ∷ [])
+    joint-text j e =
+        ap (λ (x : ℕ). openedText ps ++ (frontText f ++ (partText q ++ (x ∷ [])))) (sym (eqb-true b (jointByte j) e))
+        ∙ ap (λ (l : List ℕ). openedText ps ++ l) (snoc-last (frontText f) (partText q) b)
+        ∙ snoc-last (openedText ps) (frontText f ++ partText q) b

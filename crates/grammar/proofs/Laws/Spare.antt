@@ -14,10 +14,12 @@ use Rattle.plan.specs.declared.row.Operator.the-variants.{Both, Either, FirstNo
 use Rattle.plan.specs.Patterns.{noRow}
 use Rattle.plan.specs.Rows.{planOf}
 use Rattle.grammar.specs.Grammar as g
-use Rattle.grammar.specs.Grammar.{Word, Condition, Figure, Joint, Line, Part, Item, arity, jointByte, written, partText, itemText, ConditionFits, FigureFits, Fits, PartFits, ItemFits, noCondition}
+use Rattle.grammar.specs.Grammar.{Word, Condition, Figure, Joint, Line, Part, Item, arity, jointByte, written, partText, itemText}
+use Rattle.grammar.specs.Grammar.{ConditionFits, FigureFits, Fits, PartFits, ItemFits, noCondition}
 use Rattle.grammar.specs.Brackets.{opens, rounds, Dropped, Spare}
 use Rattle.grammar.specs.Meaning.{predicateBy, predicateOf, patternOf, operatorOf, lineRows}
-use Rattle.grammar.specs.Query.{Query, leaf, node, queryRows, queriesFrom, queryOf, lineQuery, partQuery, itemQuery, conditionOf, figureOf, typed, planLine, planText}
+use Rattle.grammar.specs.Query.{Query, leaf, node, queryRows, queriesFrom, queryOf, lineQuery, partQuery, itemQuery, conditionOf}
+use Rattle.grammar.specs.Query.{figureOf, typed, planLine, planText}
 use Rattle.grammar.proofs.Laws.Query.{line-rows, query-alone, rows-tree, line-fewest}
 use Rattle.grammar.proofs.Laws.Words.{line-back}
 use Rattle.grammar.proofs.Laws.Brackets.{opens-append, opens-open, opens-close, line-opens}
@@ -82,7 +84,8 @@ numbers-again g.apart (a ∷ b ∷ []) e = absurd (let z : ⊥ = omega arith in 
 numbers-again g.apart (a ∷ b ∷ c ∷ []) e = absurd (let z : ⊥ = omega arith in z)
 numbers-again g.apart (a ∷ b ∷ c ∷ d ∷ x ∷ ns) e = absurd (let z : ⊥ = omega arith in z)
 
-conditions-again : (cs : List Condition) → ((i : ℕ) → i < length cs → ConditionFits (getD cs i noCondition)) → map conditionOf (map predicateOf cs) ≡ cs
+conditions-again : (cs : List Condition) → ((i : ℕ) → i < length cs → ConditionFits (getD cs i noCondition))
+    → map conditionOf (map predicateOf cs) ≡ cs
 conditions-again [] h = refl
 conditions-again (c ∷ cs) h =
     ap₂ (λ (x : Condition) (xs : List Condition). x ∷ xs)
@@ -90,7 +93,8 @@ conditions-again (c ∷ cs) h =
     (conditions-again cs (λ i l. h (suc i) (omega arith)))
 
 figure-again : (f : Figure) → FigureFits f → figureOf (patternOf f) ≡ f
-figure-again f h = ap (λ (cs : List Condition). record { lists = f .lists; conditions = cs }) (conditions-again (f .conditions) (h .conditions))
+figure-again f h =
+    ap (λ (cs : List Condition). record { lists = f .lists; conditions = cs }) (conditions-again (f .conditions) (h .conditions))
 
 -- a pair that could be dropped, of a line, a part, an item: what is left has the same tree
 record LessLine (l : Line) : Type 0 where
@@ -238,7 +242,9 @@ one-tight p h e =
     (λ (x : typed (partQuery p) .line ≡ g.one (typed (partQuery p) .part)). inl (ap g.one e ∙ sym x))
     (λ (x : typed (partQuery p) .part ≡ g.alone (g.round (typed (partQuery p) .line))).
     let y : p ≡ g.alone (g.round (typed (partQuery p) .line)) = e ∙ x in
-    inr (subst (λ (z : Part). LessLine (g.one z)) (sym y) (line-round (typed (partQuery p) .line) (unround (typed (partQuery p) .line) (subst PartFits y h)))))
+    inr
+    (subst (λ (z : Part). LessLine (g.one z)) (sym y)
+    (line-round (typed (partQuery p) .line) (unround (typed (partQuery p) .line) (subst PartFits y h)))))
     (line-or (partQuery p))
 
 alone-tight : (i : Item) → ItemFits i → i ≡ typed (itemQuery i) .item → (g.alone i ≡ typed (itemQuery i) .part) ⊎ LessPart (g.alone i)
@@ -247,7 +253,9 @@ alone-tight i h e =
     (λ (x : typed (itemQuery i) .part ≡ g.alone (typed (itemQuery i) .item)). inl (ap g.alone e ∙ sym x))
     (λ (x : typed (itemQuery i) .item ≡ g.round (g.one (typed (itemQuery i) .part))).
     let y : i ≡ g.round (g.one (typed (itemQuery i) .part)) = e ∙ x in
-    inr (subst (λ (z : Item). LessPart (g.alone z)) (sym y) (part-round (typed (itemQuery i) .part) (unround-part (typed (itemQuery i) .part) (subst ItemFits y h)))))
+    inr
+    (subst (λ (z : Item). LessPart (g.alone z)) (sym y)
+    (part-round (typed (itemQuery i) .part) (unround-part (typed (itemQuery i) .part) (subst ItemFits y h)))))
     (part-or (itemQuery i))
 
 round-tight : (l : Line) → Fits l → l ≡ typed (lineQuery l) .line → (g.round l ≡ typed (lineQuery l) .item) ⊎ LessItem (g.round l)
@@ -256,7 +264,9 @@ round-tight l h e =
     (λ (x : typed (lineQuery l) .item ≡ g.round (typed (lineQuery l) .line)). inl (ap g.round e ∙ sym x))
     (λ (x : typed (lineQuery l) .line ≡ g.one (g.alone (typed (lineQuery l) .item))).
     let y : l ≡ g.one (g.alone (typed (lineQuery l) .item)) = e ∙ x in
-    inr (subst (λ (z : Line). LessItem (g.round z)) (sym y) (item-round (typed (lineQuery l) .item) (unround-item (typed (lineQuery l) .item) (subst Fits y h)))))
+    inr
+    (subst (λ (z : Line). LessItem (g.round z)) (sym y)
+    (item-round (typed (lineQuery l) .item) (unround-item (typed (lineQuery l) .item) (subst Fits y h)))))
     (item-or (lineQuery l))
 
 either-typed : (a b : Query) → typed (node Either a b) .line ≡ g.either (typed a .line) (typed b .part)
@@ -310,8 +320,10 @@ tight l h none = ⊎-elim (λ e. e) (λ (w : LessLine l). absurd (none (written 
 -- the line of a tree has none to spare
 pub none-spare : (q : Query) (t : List ℕ) → Spare (typed q .line) t → lineQuery (typed q .line) ≡ q → ⊥
 none-spare q t s e =
-    let same : lineQuery (s .line) ≡ q = rows-tree (lineQuery (s .line)) (lineQuery (typed q .line)) (sym (line-rows (s .line)) ∙ s .rows ∙ line-rows (typed q .line)) ∙ e in
-    let few : rounds (typed q .line) ≤ rounds (s .line) = subst (λ (x : Query). rounds (typed x .line) ≤ rounds (s .line)) same (line-fewest (s .line)) in
+    let l = s .line in
+    let rows = sym (line-rows l) ∙ s .rows ∙ line-rows (typed q .line) in
+    let same : lineQuery l ≡ q = rows-tree (lineQuery l) (lineQuery (typed q .line)) rows ∙ e in
+    let few : rounds (typed q .line) ≤ rounds l = subst (λ (x : Query). rounds (typed x .line) ≤ rounds l) same (line-fewest l) in
     let a = line-opens (typed q .line) in
     let b = line-opens (s .line) in
     let c = ap opens (s .text) in

@@ -15,9 +15,13 @@ use Rattle.seq.proofs.Laws.Lists.{length-snoc}
 use Rattle.seq.specs.Decimal.{digit, decimalF, decimal}
 use Rattle.grammar.specs.Text.{lead}
 use Rattle.grammar.specs.Grammar as g
-use Rattle.grammar.specs.Grammar.{Word, Condition, Figure, Joint, Line, Part, Item, arity, mostOf, letterOf, jointByte, conditionText, openText, figureText, written, partText, itemText, Within, ConditionFits, FigureFits, PartFits, ItemFits, Fits, noCondition}
+use Rattle.grammar.specs.Grammar.{Word, Condition, Figure, Joint, Line, Part, Item, arity, mostOf, letterOf, jointByte, conditionText}
+use Rattle.grammar.specs.Grammar.{openText, figureText, written, partText, itemText, Within, ConditionFits, FigureFits, PartFits}
+use Rattle.grammar.specs.Grammar.{ItemFits, Fits, noCondition}
 use Rattle.grammar.specs.Brackets.{depth, partDepth, itemDepth}
-use Rattle.grammar.specs.Reading.{Number, fresh, digits, grown, grows, mayGrow, isDigit, Partial, listing, semicolon, lettered, counting, Next, goes, closes, firstLists, withCondition, behind, stepIn, Front, bare, eithers, Place, first, next, Config, ready, inside, after, lineOf, placed, within, step, openIn}
+use Rattle.grammar.specs.Reading.{Number, fresh, digits, grown, grows, mayGrow, isDigit, Partial, listing, semicolon, lettered}
+use Rattle.grammar.specs.Reading.{counting, Next, goes, closes, firstLists, withCondition, behind, stepIn, Front, bare, eithers}
+use Rattle.grammar.specs.Reading.{Place, first, next, Config, ready, inside, after, lineOf, placed, within, step, openIn}
 use Rattle.seq.proofs.Laws.Decimal.{decimal-one, decimal-more}
 
 -- from c the text s leads to d, with never more than n brackets open
@@ -33,7 +37,8 @@ pub hop : (n : ℕ) (c : Config) (b : ℕ) (d : Config) → step c b ≡ some d 
 unfolding Steps
 hop n c b d e h = (d, e, h, refl)
 
-pub steps-append : (n : ℕ) (c : Config) (s : List ℕ) (d : Config) (r : List ℕ) (e : Config) → Steps n c s d → Steps n d r e → Steps n c (s ++ r) e
+pub steps-append : (n : ℕ) (c : Config) (s : List ℕ) (d : Config) (r : List ℕ) (e : Config) → Steps n c s d → Steps n d r e
+    → Steps n c (s ++ r) e
 unfolding Steps
 steps-append n c [] d r e p q = subst (λ (x : Config). Steps n x r e) (sym p) q
 steps-append n c (b ∷ s) d r e p q = (p .0, p .1, p .2, steps-append n (p .0) s d r e (p .3) q)
@@ -49,13 +54,16 @@ module _ (n : ℕ) (p : Place) (ps : List Place) (room : length ps ≤ n) where
 
 grows-true : (most : ℕ) (x : Number) (b : ℕ) → 48 ≤ b → b ≤ 57 → mayGrow x ≡ true → grown x b ≤ most → grows most x b ≡ true
 unfolding grows
-grows-true most x b l h m s = both-true (isDigit b) _ (both-true (leb 48 b) (leb b 57) (le-leb 48 b l) (le-leb b 57 h)) (both-true (mayGrow x) _ m (le-leb (grown x b) most s))
+grows-true most x b l h m s =
+    both-true (isDigit b) _ (both-true (leb 48 b) (leb b 57) (le-leb 48 b l) (le-leb b 57 h))
+    (both-true (mayGrow x) _ m (le-leb (grown x b) most s))
 
 -- numbers, one behind the other: H holds those before and the one that is read
 module _ (n : ℕ) (p : Place) (ps : List Place) (room : length ps ≤ n) (H : List ℕ → Number → Partial) (most : ℕ → ℕ) (total : ℕ)
     (grow : (ns : List ℕ) (x : Number) (b : ℕ) → grows (most (length ns)) x b ≡ true → stepIn (H ns x) b ≡ goes (H ns (digits (grown x b))))
     (gap : (ns : List ℕ) (k : ℕ) → length ns + 1 < total → stepIn (H ns (digits k)) 32 ≡ goes (H (behind ns k) fresh)) where
-  number-steps : (f k : ℕ) (ns : List ℕ) → k < f → k ≤ most (length ns) → Steps n (inside (H ns fresh) p ps) (decimalF f k) (inside (H ns (digits k)) p ps)
+  number-steps : (f k : ℕ) (ns : List ℕ) → k < f → k ≤ most (length ns)
+      → Steps n (inside (H ns fresh) p ps) (decimalF f k) (inside (H ns (digits k)) p ps)
   number-steps zero k ns l h = absurd (let z : ⊥ = omega arith in z)
   number-steps (suc f) k ns l h =
       ⊎-elim
@@ -63,15 +71,19 @@ module _ (n : ℕ) (p : Place) (ps : List Place) (room : length ps ≤ n) (H : L
       let e : grown fresh (digit k) ≡ k = omega arith in
       subst (λ (xs : List ℕ). Steps n (inside (H ns fresh) p ps) xs (inside (H ns (digits k)) p ps)) (sym (decimal-one f k s))
       (goes-on n p ps room (H ns fresh) (digit k) (H ns (digits k))
-      (grow ns fresh (digit k) (grows-true (most (length ns)) fresh (digit k) (omega arith) (omega arith) refl (omega arith)) ∙ ap (λ (m : ℕ). goes (H ns (digits m))) e)))
+      (grow ns fresh (digit k) (grows-true (most (length ns)) fresh (digit k) (omega arith) (omega arith) refl (omega arith))
+      ∙ ap (λ (m : ℕ). goes (H ns (digits m))) e)))
       (λ (s : 10 ≤ k).
       let e : grown (digits (k / 10)) (digit (k % 10)) ≡ k = omega arith in
       let pos : 0 < k / 10 = omega arith in
       subst (λ (xs : List ℕ). Steps n (inside (H ns fresh) p ps) xs (inside (H ns (digits k)) p ps)) (sym (decimal-more f k s))
-      (steps-append n (inside (H ns fresh) p ps) (decimalF f (k / 10)) (inside (H ns (digits (k / 10))) p ps) (digit (k % 10) ∷ []) (inside (H ns (digits k)) p ps)
+      (steps-append n (inside (H ns fresh) p ps) (decimalF f (k / 10)) (inside (H ns (digits (k / 10))) p ps) (digit (k % 10) ∷ [])
+      (inside (H ns (digits k)) p ps)
       (number-steps f (k / 10) ns (omega arith) (omega arith))
       (goes-on n p ps room (H ns (digits (k / 10))) (digit (k % 10)) (H ns (digits k))
-      (grow ns (digits (k / 10)) (digit (k % 10)) (grows-true (most (length ns)) (digits (k / 10)) (digit (k % 10)) (omega arith) (omega arith) (lt-ltb 0 (k / 10) pos) (omega arith)) ∙ ap (λ (m : ℕ). goes (H ns (digits m))) e))))
+      (grow ns (digits (k / 10)) (digit (k % 10))
+      (grows-true (most (length ns)) (digits (k / 10)) (digit (k % 10)) (omega arith) (omega arith) (lt-ltb 0 (k / 10) pos) (omega arith))
+      ∙ ap (λ (m : ℕ). goes (H ns (digits m))) e))))
       (below-or k 10)
 
   one-number : (k : ℕ) (ns : List ℕ) → k ≤ most (length ns) → Steps n (inside (H ns fresh) p ps) (decimal k) (inside (H ns (digits k)) p ps)
@@ -85,20 +97,33 @@ module _ (n : ℕ) (p : Place) (ps : List Place) (room : length ps ≤ n) (H : L
     same : behind front last ≡ ns ++ (k ∷ rest)
     steps : Steps n (inside (H ns (digits k)) p ps) (lead 32 rest) (inside (H front (digits last)) p ps)
 
-  more-numbers : (rest : List ℕ) (ns : List ℕ) (k : ℕ) → length ns + 1 + length rest ≤ total → Within (λ i. most (length ns + 1 + i)) rest → Numbers ns k rest
+  -- the limits of the numbers behind the next one
+  later : (ns : List ℕ) (k m : ℕ) (rest : List ℕ) → Within (λ i. most (length ns + 1 + i)) (m ∷ rest)
+      → Within (λ i. most (length (behind ns k) + 1 + i)) rest
+  later ns k m rest w i l =
+      let len = length-snoc ns k in
+      let next : length ns + 1 + suc i ≡ length (behind ns k) + 1 + i = omega arith in
+      subst (λ (j : ℕ). getD rest i 0 ≤ most j) next (w (suc i) (omega arith))
+
+  more-numbers : (rest : List ℕ) (ns : List ℕ) (k : ℕ) → length ns + 1 + length rest ≤ total
+      → Within (λ i. most (length ns + 1 + i)) rest
+      → Numbers ns k rest
   unfolding lead
   more-numbers [] ns k h w = record { front = ns; last = k; same = refl; steps = stay n (inside (H ns (digits k)) p ps) }
   more-numbers (m ∷ rest) ns k h w =
       let len = length-snoc ns k in
-      let fits : m ≤ most (length (behind ns k)) = subst (λ (i : ℕ). m ≤ most i) (let e : length ns + 1 + 0 ≡ length (behind ns k) = omega arith in e) (w 0 (omega arith)) in
-      let later : Within (λ i. most (length (behind ns k) + 1 + i)) rest = λ i l. subst (λ (j : ℕ). getD rest i 0 ≤ most j) (let e : length ns + 1 + suc i ≡ length (behind ns k) + 1 + i = omega arith in e) (w (suc i) (omega arith)) in
-      let r = more-numbers rest (behind ns k) m (omega arith) later in
+      let here : length ns + 1 + 0 ≡ length (behind ns k) = omega arith in
+      let fits : m ≤ most (length (behind ns k)) = subst (λ (i : ℕ). m ≤ most i) here (w 0 (omega arith)) in
+      let r = more-numbers rest (behind ns k) m (omega arith) (later ns k m rest w) in
       record {
         front = r .front;
         last = r .last;
         same = r .same ∙ append-assoc ns (k ∷ []) (m ∷ rest);
-        steps = steps-append n (inside (H ns (digits k)) p ps) (32 ∷ decimal m) (inside (H (behind ns k) (digits m)) p ps) (lead 32 rest) (inside (H (r .front) (digits (r .last))) p ps)
-            (steps-append n (inside (H ns (digits k)) p ps) (32 ∷ []) (inside (H (behind ns k) fresh) p ps) (decimal m) (inside (H (behind ns k) (digits m)) p ps)
+        steps =
+            steps-append n (inside (H ns (digits k)) p ps) (32 ∷ decimal m) (inside (H (behind ns k) (digits m)) p ps) (lead 32 rest)
+            (inside (H (r .front) (digits (r .last))) p ps)
+            (steps-append n (inside (H ns (digits k)) p ps) (32 ∷ []) (inside (H (behind ns k) fresh) p ps) (decimal m)
+            (inside (H (behind ns k) (digits m)) p ps)
             (goes-on n p ps room (H ns (digits k)) 32 (H (behind ns k) fresh) (gap ns k (omega arith)))
             (one-number m (behind ns k) fits))
             (r .steps);
@@ -118,25 +143,30 @@ listing-whole : (ns : List ℕ) (k : ℕ) → Whole (listing ns (digits k)) (fir
 unfolding stepIn grows
 listing-whole ns k = record { more = refl; end = refl }
 
-counting-whole : (f : Figure) (w : Word) (ns : List ℕ) (k : ℕ) → arity w ≤ length ns + 1 → Whole (counting f w ns (digits k)) (withCondition f w (behind ns k))
+counting-whole : (f : Figure) (w : Word) (ns : List ℕ) (k : ℕ) → arity w ≤ length ns + 1
+    → Whole (counting f w ns (digits k)) (withCondition f w (behind ns k))
 unfolding stepIn grows
 counting-whole f w ns k h = record { more = rw (le-ltb (length ns + 1) (arity w) h); end = rw (le-ltb (length ns + 1) (arity w) h) }
 
-listing-grow : (ns : List ℕ) (x : Number) (b : ℕ) → grows 65536 x b ≡ true → stepIn (listing ns x) b ≡ goes (listing ns (digits (grown x b)))
+listing-grow : (ns : List ℕ) (x : Number) (b : ℕ) → grows 65536 x b ≡ true
+    → stepIn (listing ns x) b ≡ goes (listing ns (digits (grown x b)))
 unfolding stepIn
 listing-grow ns fresh b e = rw e
 listing-grow ns (digits k) b e = rw e
 
-listing-gap : (ns : List ℕ) (k : ℕ) → stepIn (listing ns (digits k)) 32 ≡ goes (listing (behind ns k) fresh)
+listing-gap : (total : ℕ) (ns : List ℕ) (k : ℕ) → length ns + 1 < total
+    → stepIn (listing ns (digits k)) 32 ≡ goes (listing (behind ns k) fresh)
 unfolding stepIn grows
-listing-gap ns k = refl
+listing-gap total ns k h = refl
 
-counting-grow : (f : Figure) (w : Word) (ns : List ℕ) (x : Number) (b : ℕ) → grows (mostOf w (length ns)) x b ≡ true → stepIn (counting f w ns x) b ≡ goes (counting f w ns (digits (grown x b)))
+counting-grow : (f : Figure) (w : Word) (ns : List ℕ) (x : Number) (b : ℕ) → grows (mostOf w (length ns)) x b ≡ true
+    → stepIn (counting f w ns x) b ≡ goes (counting f w ns (digits (grown x b)))
 unfolding stepIn
 counting-grow f w ns fresh b e = rw e
 counting-grow f w ns (digits k) b e = rw e
 
-counting-gap : (f : Figure) (w : Word) (ns : List ℕ) (k : ℕ) → length ns + 1 < arity w → stepIn (counting f w ns (digits k)) 32 ≡ goes (counting f w (behind ns k) fresh)
+counting-gap : (f : Figure) (w : Word) (ns : List ℕ) (k : ℕ) → length ns + 1 < arity w
+    → stepIn (counting f w ns (digits k)) 32 ≡ goes (counting f w (behind ns k) fresh)
 unfolding stepIn grows
 counting-gap f w ns k h = rw (lt-ltb (length ns + 1) (arity w) h)
 
@@ -158,44 +188,73 @@ module _ (n : ℕ) (p : Place) (ps : List Place) (room : length ps ≤ n) where
   unfolding lead step
   lists-led [] h w = absurd (let z : ⊥ = omega arith in z)
   lists-led (k ∷ rest) h w =
-      let r = more-numbers n p ps room listing (λ i. 65536) (1 + length rest) listing-grow (λ ns k l. listing-gap ns k) rest [] k (omega arith) (λ i l. w (suc i) (omega arith)) in
+      let total = 1 + length rest in
+      let gap = listing-gap total in
+      let small : Within (λ i. 65536) rest = λ i l. w (suc i) (omega arith) in
+      let r = more-numbers n p ps room listing (λ i. 65536) total listing-grow gap rest [] k (omega arith) small in
       record {
         at = listing (r .front) (digits (r .last));
-        whole = subst (λ (l : List ℕ). Whole (listing (r .front) (digits (r .last))) (firstLists l)) (r .same) (listing-whole (r .front) (r .last));
-        steps = steps-append n (ready p ps) (91 ∷ decimal k) (inside (listing [] (digits k)) p ps) (lead 32 rest) (inside (listing (r .front) (digits (r .last))) p ps)
+        whole =
+            subst (λ (l : List ℕ). Whole (listing (r .front) (digits (r .last))) (firstLists l)) (r .same)
+            (listing-whole (r .front) (r .last));
+        steps =
+            steps-append n (ready p ps) (91 ∷ decimal k) (inside (listing [] (digits k)) p ps) (lead 32 rest)
+            (inside (listing (r .front) (digits (r .last))) p ps)
             (steps-append n (ready p ps) (91 ∷ []) (inside (listing [] fresh) p ps) (decimal k) (inside (listing [] (digits k)) p ps)
             (hop n (ready p ps) 91 (inside (listing [] fresh) p ps) refl room)
-            (one-number n p ps room listing (λ i. 65536) (1 + length rest) listing-grow (λ ns k l. listing-gap ns k) k [] (w 0 (omega arith))))
+            (one-number n p ps room listing (λ i. 65536) total listing-grow gap k [] (w 0 (omega arith))))
             (r .steps);
       }
 
+  -- the limits of the numbers behind the first one
+  behind-first : (w : Word) (k : ℕ) (rest : List ℕ) → Within (mostOf w) (k ∷ rest) → Within (λ i. mostOf w (0 + 1 + i)) rest
+  behind-first w k rest m i l =
+      let next : suc i ≡ 0 + 1 + i = omega arith in
+      subst (λ (j : ℕ). getD rest i 0 ≤ mostOf w j) next (m (suc i) (omega arith))
+
   -- one condition
-  condition-led : (x : Partial) (f : Figure) (w : Word) (ns : List ℕ) → Whole x f → length ns ≡ arity w → Within (mostOf w) ns → 1 ≤ length ns
+  condition-led : (x : Partial) (f : Figure) (w : Word) (ns : List ℕ) → Whole x f → length ns ≡ arity w → Within (mostOf w) ns
+      → 1 ≤ length ns
       → Led n (inside x p ps) (59 ∷ letterOf w ∷ lead 32 ns) p ps (withCondition f w ns)
   unfolding lead
   condition-led x f w [] h e m s = absurd (let z : ⊥ = omega arith in z)
   condition-led x f w (k ∷ rest) h e m s =
-      let r = more-numbers n p ps room (counting f w) (mostOf w) (arity w) (counting-grow f w) (counting-gap f w) rest [] k (omega arith) (λ i l. subst (λ (j : ℕ). getD rest i 0 ≤ mostOf w j) (let q : suc i ≡ 0 + 1 + i = omega arith in q) (m (suc i) (omega arith))) in
+      let grow = counting-grow f w in
+      let gap = counting-gap f w in
+      let small : Within (λ i. mostOf w (0 + 1 + i)) rest = behind-first w k rest m in
+      let r = more-numbers n p ps room (counting f w) (mostOf w) (arity w) grow gap rest [] k (omega arith) small in
       let end : length (behind (r .front) (r .last)) ≡ length (k ∷ rest) = ap length (r .same) in
       let len = length-snoc (r .front) (r .last) in
       record {
         at = counting f w (r .front) (digits (r .last));
-        whole = subst (λ (l : List ℕ). Whole (counting f w (r .front) (digits (r .last))) (withCondition f w l)) (r .same) (counting-whole f w (r .front) (r .last) (omega arith));
-        steps = steps-append n (inside x p ps) (59 ∷ letterOf w ∷ 32 ∷ []) (inside (counting f w [] fresh) p ps) (decimal k ++ lead 32 rest) (inside (counting f w (r .front) (digits (r .last))) p ps)
-            (steps-append n (inside x p ps) (59 ∷ []) (inside (semicolon f) p ps) (letterOf w ∷ 32 ∷ []) (inside (counting f w [] fresh) p ps)
+        whole =
+            subst (λ (l : List ℕ). Whole (counting f w (r .front) (digits (r .last))) (withCondition f w l)) (r .same)
+            (counting-whole f w (r .front) (r .last) (omega arith));
+        steps =
+            steps-append n (inside x p ps) (59 ∷ letterOf w ∷ 32 ∷ []) (inside (counting f w [] fresh) p ps) (decimal k ++ lead 32 rest)
+            (inside (counting f w (r .front) (digits (r .last))) p ps)
+            (steps-append n (inside x p ps) (59 ∷ []) (inside (semicolon f) p ps) (letterOf w ∷ 32 ∷ [])
+            (inside (counting f w [] fresh) p ps)
             (goes-on n p ps room x 59 (semicolon f) (h .more))
-            (steps-append n (inside (semicolon f) p ps) (letterOf w ∷ []) (inside (lettered f w) p ps) (32 ∷ []) (inside (counting f w [] fresh) p ps)
+            (steps-append n (inside (semicolon f) p ps) (letterOf w ∷ []) (inside (lettered f w) p ps) (32 ∷ [])
+            (inside (counting f w [] fresh) p ps)
             (goes-on n p ps room (semicolon f) (letterOf w) (lettered f w) (letter-goes f w))
             (goes-on n p ps room (lettered f w) 32 (counting f w [] fresh) (lettered-goes f w))))
-            (steps-append n (inside (counting f w [] fresh) p ps) (decimal k) (inside (counting f w [] (digits k)) p ps) (lead 32 rest) (inside (counting f w (r .front) (digits (r .last))) p ps)
-            (one-number n p ps room (counting f w) (mostOf w) (arity w) (counting-grow f w) (counting-gap f w) k [] (m 0 (omega arith)))
+            (steps-append n (inside (counting f w [] fresh) p ps) (decimal k) (inside (counting f w [] (digits k)) p ps) (lead 32 rest)
+            (inside (counting f w (r .front) (digits (r .last))) p ps)
+            (one-number n p ps room (counting f w) (mostOf w) (arity w) grow gap k [] (m 0 (omega arith)))
             (r .steps));
       }
 
-  conditions-led : (cs : List Condition) (x : Partial) (f : Figure) → Whole x f → ((i : ℕ) → i < length cs → ConditionFits (getD cs i noCondition))
+  conditions-led : (cs : List Condition) (x : Partial) (f : Figure) → Whole x f
+      → ((i : ℕ) → i < length cs → ConditionFits (getD cs i noCondition))
       → Led n (inside x p ps) (joined (map conditionText cs)) p ps (record { lists = f .lists; conditions = f .conditions ++ cs })
   unfolding joined
-  conditions-led [] x f h m = record { at = x; whole = subst (Whole x) (ap (λ (l : List Condition). record { lists = f .lists; conditions = l }) (sym (append-nil (f .conditions)))) h; steps = stay n (inside x p ps) }
+  conditions-led [] x f h m = record {
+    at = x;
+    whole = subst (Whole x) (ap (λ (l : List Condition). record { lists = f .lists; conditions = l }) (sym (append-nil (f .conditions)))) h;
+    steps = stay n (inside x p ps);
+  }
   conditions-led (c ∷ cs) x f h m =
       let fits = m 0 (omega arith) in
       let some = some-arity (c .word) in
@@ -203,8 +262,12 @@ module _ (n : ℕ) (p : Place) (ps : List Place) (room : length ps ≤ n) where
       let b = conditions-led cs (a .at) (withCondition f (c .word) (c .numbers)) (a .whole) (λ i l. m (suc i) (omega arith)) in
       record {
         at = b .at;
-        whole = subst (λ (l : List Condition). Whole (b .at) (record { lists = f .lists; conditions = l })) (append-assoc (f .conditions) (c ∷ []) cs) (b .whole);
-        steps = steps-append n (inside x p ps) (conditionText c) (inside (a .at) p ps) (joined (map conditionText cs)) (inside (b .at) p ps) (a .steps) (b .steps);
+        whole =
+            subst (λ (l : List Condition). Whole (b .at) (record { lists = f .lists; conditions = l }))
+            (append-assoc (f .conditions) (c ∷ []) cs) (b .whole);
+        steps =
+            steps-append n (inside x p ps) (conditionText c) (inside (a .at) p ps) (joined (map conditionText cs)) (inside (b .at) p ps)
+            (a .steps) (b .steps);
       }
     where
       some-arity : (w : Word) → 1 ≤ arity w
@@ -224,8 +287,10 @@ module _ (n : ℕ) (p : Place) (ps : List Place) (room : length ps ≤ n) where
       let a = lists-led (f .lists) (h .some-list) (h .within) in
       let b = conditions-led (f .conditions) (a .at) (firstLists (f .lists)) (a .whole) (h .conditions) in
       steps-append n (ready p ps) (openText f) (inside (b .at) p ps) (93 ∷ []) (placed p (g.figure f) ps)
-      (steps-append n (ready p ps) (lead 91 (f .lists)) (inside (a .at) p ps) (joined (map conditionText (f .conditions))) (inside (b .at) p ps) (a .steps) (b .steps))
-      (hop n (inside (b .at) p ps) 93 (placed p (g.figure f) ps) (ap (λ (x : Next). within x p ps) (b .whole .end)) (rw (placed-open p (g.figure f)) room))
+      (steps-append n (ready p ps) (lead 91 (f .lists)) (inside (a .at) p ps) (joined (map conditionText (f .conditions)))
+      (inside (b .at) p ps) (a .steps) (b .steps))
+      (hop n (inside (b .at) p ps) 93 (placed p (g.figure f) ps) (ap (λ (x : Next). within x p ps) (b .whole .end))
+      (rw (placed-open p (g.figure f)) room))
 
 -- a line, taken apart at its last part
 abbrev pub frontOf : Line → Front
@@ -262,7 +327,8 @@ open-step p ps = refl
 mutual
   unfolding written Fits depth
 
-  pub line-steps : (l : Line) (n : ℕ) (ps : List Place) → Fits l → length ps + depth l ≤ n → Steps n (ready (first bare) ps) (written l) (after (frontOf l) (lastOf l) ps)
+  pub line-steps : (l : Line) (n : ℕ) (ps : List Place) → Fits l → length ps + depth l ≤ n
+      → Steps n (ready (first bare) ps) (written l) (after (frontOf l) (lastOf l) ps)
   line-steps (g.one q) n ps h r = part-steps q n bare ps h r
   line-steps (g.either l q) n ps h r =
       steps-append n (ready (first bare) ps) (written l) (after (frontOf l) (lastOf l) ps) (124 ∷ partText q) (after (eithers l) q ps)
@@ -271,7 +337,8 @@ mutual
       (hop n (after (frontOf l) (lastOf l) ps) 124 (ready (first (eithers l)) ps) (either-step l ps) (omega arith))
       (part-steps q n (eithers l) ps (h .1) (omega arith)))
 
-  pub part-steps : (q : Part) (n : ℕ) (f : Front) (ps : List Place) → PartFits q → length ps + partDepth q ≤ n → Steps n (ready (first f) ps) (partText q) (after f q ps)
+  pub part-steps : (q : Part) (n : ℕ) (f : Front) (ps : List Place) → PartFits q → length ps + partDepth q ≤ n
+      → Steps n (ready (first f) ps) (partText q) (after f q ps)
   part-steps (g.alone i) n f ps h r = item-steps i n (first f) ps h r
   part-steps (g.join j q i) n f ps h r =
       steps-append n (ready (first f) ps) (partText q) (after f q ps) (jointByte j ∷ itemText i) (after f (g.join j q i) ps)
@@ -280,11 +347,13 @@ mutual
       (hop n (after f q ps) (jointByte j) (ready (next f q j) ps) (joint-step f q j ps) (omega arith))
       (item-steps i n (next f q j) ps (h .1) (omega arith)))
 
-  pub item-steps : (i : Item) (n : ℕ) (p : Place) (ps : List Place) → ItemFits i → length ps + itemDepth i ≤ n → Steps n (ready p ps) (itemText i) (placed p i ps)
+  pub item-steps : (i : Item) (n : ℕ) (p : Place) (ps : List Place) → ItemFits i → length ps + itemDepth i ≤ n
+      → Steps n (ready p ps) (itemText i) (placed p i ps)
   item-steps (g.figure f) n p ps h r = figure-steps n p ps (omega arith) f h
   item-steps (g.round l) n p ps h r =
       steps-append n (ready p ps) (40 ∷ []) (ready (first bare) (p ∷ ps)) (written l ++ (41 ∷ [])) (placed p (g.round l) ps)
       (hop n (ready p ps) 40 (ready (first bare) (p ∷ ps)) (open-step p ps) (omega arith))
       (steps-append n (ready (first bare) (p ∷ ps)) (written l) (after (frontOf l) (lastOf l) (p ∷ ps)) (41 ∷ []) (placed p (g.round l) ps)
       (line-steps l n (p ∷ ps) h (omega arith))
-      (hop n (after (frontOf l) (lastOf l) (p ∷ ps)) 41 (placed p (g.round l) ps) (shut-step l p ps) (rw (placed-open n p ps (omega arith) p (g.round l)) (omega arith))))
+      (hop n (after (frontOf l) (lastOf l) (p ∷ ps)) 41 (placed p (g.round l) ps) (shut-step l p ps)
+      (rw (placed-open n p ps (omega arith) p (g.round l)) (omega arith))))

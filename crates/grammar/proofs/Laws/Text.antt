@@ -9,7 +9,9 @@ use Rattle.grammar.specs.Text.{lead, gapAfter}
 pub lead-behind : (b : ℕ) (ns : List ℕ) (n : ℕ) → lead b (ns ++ (n ∷ [])) ≡ lead b ns ++ (gapAfter b ns ∷ decimal n)
 unfolding lead
 lead-behind b [] n = append-nil (b ∷ decimal n)
-lead-behind b (m ∷ ns) n = ap (λ (l : List ℕ). (b ∷ decimal m) ++ l) (lead-behind 32 ns n ∙ ap (λ (x : ℕ). lead 32 ns ++ (x ∷ decimal n)) (go ns)) ∙ sym (append-assoc (b ∷ decimal m) (lead 32 ns) (32 ∷ decimal n))
+lead-behind b (m ∷ ns) n =
+    ap (λ (l : List ℕ). (b ∷ decimal m) ++ l) (lead-behind 32 ns n ∙ ap (λ (x : ℕ). lead 32 ns ++ (x ∷ decimal n)) (go ns))
+    ∙ sym (append-assoc (b ∷ decimal m) (lead 32 ns) (32 ∷ decimal n))
   where
     go : (xs : List ℕ) → gapAfter 32 xs ≡ 32
     go [] = refl

@@ -11,7 +11,9 @@ use Rattle.seq.proofs.Laws.Tests.{below-or}
 use Rattle.seq.proofs.Laws.Lists.{length-snoc}
 use Rattle.grammar.specs.Grammar as g
 use Rattle.grammar.specs.Grammar.{Word, Figure, Part, Item, arity, mostOf, written, partText, Begins}
-use Rattle.grammar.specs.Reading.{fresh, digits, grows, Partial, listing, semicolon, lettered, counting, Next, closes, firstLists, withCondition, behind, stepIn, Front, Place, first, next, Config, ready, inside, after, lineOf, placed, within, step, frontText, shown}
+use Rattle.grammar.specs.Reading.{fresh, digits, grows, Partial, listing, semicolon, lettered, counting, Next, closes, firstLists}
+use Rattle.grammar.specs.Reading.{withCondition, behind, stepIn, Front, Place, first, next, Config, ready, inside, after, lineOf}
+use Rattle.grammar.specs.Reading.{placed, within, step, frontText, shown}
 use Rattle.grammar.proofs.Laws.Reading.{Sound, StepTold, step-told, line-text, line-fits}
 
 pub begins-back : (s k : List ℕ) → Begins (s ++ k) → Begins s
@@ -35,7 +37,8 @@ begins-after [] f q h = record { rest = []; whole = record { line = lineOf f q; 
     done = line-text f q ∙ sym at-end ∙ sym (append-nil (shown (after f q [])))
 begins-after (p ∷ ps) f q h = via (after f q (p ∷ ps)) 41 (placed p (g.round (lineOf f q)) ps) h refl (go p (begins-after ps))
   where
-    go : (p : Place) → ((f : Front) (q : Part) → Sound (after f q ps) → Begins (shown (after f q ps))) → Sound (placed p (g.round (lineOf f q)) ps) → Begins (shown (placed p (g.round (lineOf f q)) ps))
+    go : (p : Place) → ((f : Front) (q : Part) → Sound (after f q ps) → Begins (shown (after f q ps)))
+        → Sound (placed p (g.round (lineOf f q)) ps) → Begins (shown (placed p (g.round (lineOf f q)) ps))
     go (first x) r s = r x (g.alone (g.round (lineOf f q))) s
     go (next x y j) r s = r x (g.join j y (g.round (lineOf f q))) s
 
@@ -43,40 +46,53 @@ begins-placed : (p : Place) (i : Item) (ps : List Place) → Sound (placed p i p
 begins-placed (first f) i ps h = begins-after ps f (g.alone i) h
 begins-placed (next f q j) i ps h = begins-after ps f (g.join j q i) h
 
-begins-closed : (f : Partial) (x : Figure) (p : Place) (ps : List Place) → stepIn f 93 ≡ closes x → Sound (inside f p ps) → Begins (shown (inside f p ps))
+begins-closed : (f : Partial) (x : Figure) (p : Place) (ps : List Place) → stepIn f 93 ≡ closes x → Sound (inside f p ps)
+    → Begins (shown (inside f p ps))
 unfolding step
-begins-closed f x p ps e h = via (inside f p ps) 93 (placed p (g.figure x) ps) h (ap (λ (n : Next). within n p ps) e) (begins-placed p (g.figure x) ps)
+begins-closed f x p ps e h =
+    via (inside f p ps) 93 (placed p (g.figure x) ps) h (ap (λ (n : Next). within n p ps) e) (begins-placed p (g.figure x) ps)
 
 -- in a condition the numbers that are wanting can be 0
-begins-counting : (k : ℕ) (f : Figure) (w : Word) (ns : List ℕ) (n : ℕ) (p : Place) (ps : List Place) → arity w ≤ length ns + k → Sound (inside (counting f w ns (digits n)) p ps) → Begins (shown (inside (counting f w ns (digits n)) p ps))
+begins-counting : (k : ℕ) (f : Figure) (w : Word) (ns : List ℕ) (n : ℕ) (p : Place) (ps : List Place) → arity w ≤ length ns + k
+    → Sound (inside (counting f w ns (digits n)) p ps) → Begins (shown (inside (counting f w ns (digits n)) p ps))
 unfolding step stepIn grows
 begins-counting zero f w ns n p ps l h = absurd (let r = h .0 .room in let z : ⊥ = omega arith in z)
 begins-counting (suc k) f w ns n p ps l h =
     ⊎-elim
     (λ (m : length ns + 1 < arity w).
-    via (inside (counting f w ns (digits n)) p ps) 32 (inside (counting f w (behind ns n) fresh) p ps) h (rw (lt-ltb (length ns + 1) (arity w) m))
-    (λ s. via (inside (counting f w (behind ns n) fresh) p ps) 48 (inside (counting f w (behind ns n) (digits 0)) p ps) s (rw (le-leb 0 (mostOf w (length (behind ns n))) (omega arith)))
+    via (inside (counting f w ns (digits n)) p ps) 32 (inside (counting f w (behind ns n) fresh) p ps) h
+    (rw (lt-ltb (length ns + 1) (arity w) m))
+    (λ s. via (inside (counting f w (behind ns n) fresh) p ps) 48 (inside (counting f w (behind ns n) (digits 0)) p ps) s
+    (rw (le-leb 0 (mostOf w (length (behind ns n))) (omega arith)))
     (λ t. begins-counting k f w (behind ns n) 0 p ps (let e = length-snoc ns n in omega arith) t)))
-    (λ (m : arity w ≤ length ns + 1). begins-closed (counting f w ns (digits n)) (withCondition f w (behind ns n)) p ps (rw (le-ltb (length ns + 1) (arity w) m)) h)
+    (λ (m : arity w ≤ length ns + 1). begins-closed (counting f w ns (digits n)) (withCondition f w (behind ns n)) p ps
+    (rw (le-ltb (length ns + 1) (arity w) m)) h)
     (below-or (length ns + 1) (arity w))
 
-begins-fresh : (f : Figure) (w : Word) (ns : List ℕ) (p : Place) (ps : List Place) → Sound (inside (counting f w ns fresh) p ps) → Begins (shown (inside (counting f w ns fresh) p ps))
+begins-fresh : (f : Figure) (w : Word) (ns : List ℕ) (p : Place) (ps : List Place) → Sound (inside (counting f w ns fresh) p ps)
+    → Begins (shown (inside (counting f w ns fresh) p ps))
 unfolding step stepIn grows
-begins-fresh f w ns p ps h = via (inside (counting f w ns fresh) p ps) 48 (inside (counting f w ns (digits 0)) p ps) h (rw (le-leb 0 (mostOf w (length ns)) (omega arith))) (begins-counting (arity w) f w ns 0 p ps (omega arith))
+begins-fresh f w ns p ps h =
+    via (inside (counting f w ns fresh) p ps) 48 (inside (counting f w ns (digits 0)) p ps) h
+    (rw (le-leb 0 (mostOf w (length ns)) (omega arith))) (begins-counting (arity w) f w ns 0 p ps (omega arith))
 
-begins-lettered : (f : Figure) (w : Word) (p : Place) (ps : List Place) → Sound (inside (lettered f w) p ps) → Begins (shown (inside (lettered f w) p ps))
+begins-lettered : (f : Figure) (w : Word) (p : Place) (ps : List Place) → Sound (inside (lettered f w) p ps)
+    → Begins (shown (inside (lettered f w) p ps))
 unfolding step stepIn
 begins-lettered f w p ps h = via (inside (lettered f w) p ps) 32 (inside (counting f w [] fresh) p ps) h refl (begins-fresh f w [] p ps)
 
-begins-digits : (ns : List ℕ) (n : ℕ) (p : Place) (ps : List Place) → Sound (inside (listing ns (digits n)) p ps) → Begins (shown (inside (listing ns (digits n)) p ps))
+begins-digits : (ns : List ℕ) (n : ℕ) (p : Place) (ps : List Place) → Sound (inside (listing ns (digits n)) p ps)
+    → Begins (shown (inside (listing ns (digits n)) p ps))
 unfolding stepIn grows
 begins-digits ns n p ps h = begins-closed (listing ns (digits n)) (firstLists (behind ns n)) p ps refl h
 
 begins-partial : (f : Partial) (p : Place) (ps : List Place) → Sound (inside f p ps) → Begins (shown (inside f p ps))
 unfolding step stepIn grows
-begins-partial (listing ns fresh) p ps h = via (inside (listing ns fresh) p ps) 48 (inside (listing ns (digits 0)) p ps) h refl (begins-digits ns 0 p ps)
+begins-partial (listing ns fresh) p ps h =
+    via (inside (listing ns fresh) p ps) 48 (inside (listing ns (digits 0)) p ps) h refl (begins-digits ns 0 p ps)
 begins-partial (listing ns (digits n)) p ps h = begins-digits ns n p ps h
-begins-partial (semicolon f) p ps h = via (inside (semicolon f) p ps) 115 (inside (lettered f g.span) p ps) h refl (begins-lettered f g.span p ps)
+begins-partial (semicolon f) p ps h =
+    via (inside (semicolon f) p ps) 115 (inside (lettered f g.span) p ps) h refl (begins-lettered f g.span p ps)
 begins-partial (lettered f w) p ps h = begins-lettered f w p ps h
 begins-partial (counting f w ns fresh) p ps h = begins-fresh f w ns p ps h
 begins-partial (counting f w ns (digits n)) p ps h = begins-counting (arity w) f w ns n p ps (omega arith) h

@@ -25,9 +25,11 @@ use Rattle.plan.specs.Parts.{patternRows}
 use Rattle.plan.specs.Rows.{rowAt, rowOf, rowsOf, kindOf, wordsOf, planOf}
 use Rattle.fulltext.specs.Documents.{workOf, work, matching, docsIn}
 use Rattle.grammar.specs.Grammar as g
-use Rattle.grammar.specs.Grammar.{Word, Condition, Figure, Line, Part, Item, arity, ConditionFits, FigureFits, Fits, PartFits, ItemFits, noCondition}
+use Rattle.grammar.specs.Grammar.{Word, Condition, Figure, Line, Part, Item, arity, ConditionFits, FigureFits, Fits, PartFits}
+use Rattle.grammar.specs.Grammar.{ItemFits, noCondition}
 use Rattle.grammar.specs.Demands.{Meant}
-use Rattle.grammar.specs.Meaning.{predicateBy, predicateOf, patternOf, operatorOf, operatorRow, lineRows, partRows, itemRows, lineTrue}
+use Rattle.grammar.specs.Meaning.{predicateBy, predicateOf, patternOf, operatorOf, operatorRow, lineRows, partRows, itemRows}
+use Rattle.grammar.specs.Meaning.{lineTrue}
 use Rattle.grammar.proofs.Laws.Query.{voice, condition, end, meaning}
 
 -- four words of a row
@@ -146,7 +148,8 @@ condition-packed g.same ns e h = tt
 condition-packed g.span ns e h = tt
 condition-packed g.apart ns e h = four ns e h
 
-conditions-packed : (cs : List Condition) → ((i : ℕ) → i < length cs → ConditionFits (getD cs i noCondition)) → AllPacked (map condition (map predicateOf cs))
+conditions-packed : (cs : List Condition) → ((i : ℕ) → i < length cs → ConditionFits (getD cs i noCondition))
+    → AllPacked (map condition (map predicateOf cs))
 unfolding AllPacked
 conditions-packed [] h = tt
 conditions-packed (c ∷ cs) h =
@@ -161,7 +164,8 @@ figure-packed : (f : Figure) → FigureFits f → AllPacked (patternRows (patter
 unfolding AllPacked
 figure-packed f h =
     packed-append (map voice (f .lists) ++ map condition (map predicateOf (f .conditions))) (end ∷ [])
-    (packed-append (map voice (f .lists)) (map condition (map predicateOf (f .conditions))) (voices-packed (f .lists)) (conditions-packed (f .conditions) (h .conditions)))
+    (packed-append (map voice (f .lists)) (map condition (map predicateOf (f .conditions))) (voices-packed (f .lists))
+    (conditions-packed (f .conditions) (h .conditions)))
     (tt, tt)
 
 mutual

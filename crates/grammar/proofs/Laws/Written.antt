@@ -44,7 +44,8 @@ record Row-stacked (s : State) (f : Pattern) (qs : List Query) (k : Kind) : Type
   next : Stacked (after s k) (openAfter f k) (queriesAfter f qs k)
   rows : stackRows (queriesAfter f qs k) ++ openRows (openAfter f k) ≡ (stackRows qs ++ openRows f) ++ (record { kind = k } ∷ [])
 
-operator-stacked : (o : Operator) (s : State) (f : Pattern) (qs : List Query) → s .vars ≡ 0 → 2 ≤ length qs → Stacked s f qs → Row-stacked s f qs (kind.Operator o)
+operator-stacked : (o : Operator) (s : State) (f : Pattern) (qs : List Query) → s .vars ≡ 0 → 2 ≤ length qs → Stacked s f qs
+    → Row-stacked s f qs (kind.Operator o)
 unfolding stackRows queryRows
 operator-stacked o s f [] z l h = absurd (let x : ⊥ = omega arith in x)
 operator-stacked o s f (b ∷ []) z l h = absurd (let x : ⊥ = omega arith in x)
@@ -68,12 +69,19 @@ unfolding stackRows queryRows
 row-stacked t s f qs (kind.Voice list) p h =
     let b : f .predicates ≡ [] = h .unbegun (p .ordered) in
     record {
-      next = record { count = length-snoc (f .vars) list ∙ ap (λ (n : ℕ). n + 1) (h .count); idle = λ z. absurd (let q : ⊥ = omega arith in q); unbegun = λ x. b; stack = h .stack };
+      next = record {
+        count = length-snoc (f .vars) list ∙ ap (λ (n : ℕ). n + 1) (h .count);
+        idle = λ z. absurd (let q : ⊥ = omega arith in q);
+        unbegun = λ x. b;
+        stack = h .stack;
+      };
       rows =
           ap (λ (l : List Predicate). stackRows qs ++ (map voice (f .vars ++ (list ∷ [])) ++ map condition l)) b
-          ∙ ap (λ (l : List Row). stackRows qs ++ l) (append-nil (map voice (f .vars ++ (list ∷ []))) ∙ map-append voice (f .vars) (list ∷ []))
+          ∙ ap (λ (l : List Row). stackRows qs ++ l)
+          (append-nil (map voice (f .vars ++ (list ∷ []))) ∙ map-append voice (f .vars) (list ∷ []))
           ∙ sym (append-assoc (stackRows qs) (map voice (f .vars)) (voice list ∷ []))
-          ∙ ap (λ (l : List Row). (stackRows qs ++ l) ++ (voice list ∷ [])) (sym (append-nil (map voice (f .vars))) ∙ ap (λ (l : List Predicate). map voice (f .vars) ++ map condition l) (sym b));
+          ∙ ap (λ (l : List Row). (stackRows qs ++ l) ++ (voice list ∷ []))
+          (sym (append-nil (map voice (f .vars))) ∙ ap (λ (l : List Predicate). map voice (f .vars) ++ map condition l) (sym b));
     }
 row-stacked t s f qs (kind.Condition c) p h =
     let w = condition-stands s c (p .ordered) in
@@ -81,7 +89,8 @@ row-stacked t s f qs (kind.Condition c) p h =
       next = record { count = h .count; idle = λ z. absurd (w .0 z); unbegun = λ x. absurd (true≢false x); stack = h .stack };
       rows =
           ap (λ (l : List Row). stackRows qs ++ (map voice (f .vars) ++ l)) (map-append condition (f .predicates) (c ∷ []))
-          ∙ ap (λ (l : List Row). stackRows qs ++ l) (sym (append-assoc (map voice (f .vars)) (map condition (f .predicates)) (condition c ∷ [])))
+          ∙ ap (λ (l : List Row). stackRows qs ++ l)
+          (sym (append-assoc (map voice (f .vars)) (map condition (f .predicates)) (condition c ∷ [])))
           ∙ sym (append-assoc (stackRows qs) (openRows f) (condition c ∷ []));
     }
 row-stacked t s f qs kind.End p h = record {
@@ -105,7 +114,10 @@ all-stacked t [] s f qs p h = record { last = h; rows = sym (append-nil (stackRo
 all-stacked t (r ∷ rs) s f qs p h =
     let a = row-stacked t s f qs (r .kind) (p .0) h in
     let b = all-stacked t rs (after s (r .kind)) (openAfter f (r .kind)) (queriesAfter f qs (r .kind)) (p .1) (a .next) in
-    record { last = b .last; rows = b .rows ∙ ap (λ (l : List Row). l ++ rs) (a .rows) ∙ append-assoc (stackRows qs ++ openRows f) (r ∷ []) rs }
+    record {
+      last = b .last;
+      rows = b .rows ∙ ap (λ (l : List Row). l ++ rs) (a .rows) ∙ append-assoc (stackRows qs ++ openRows f) (r ∷ []) rs;
+    }
 
 -- a plan that passes every test is the rows of its tree
 module _ (t : ℕ) (p : List ℕ) (ok : Passed t p) where
@@ -114,12 +126,15 @@ module _ (t : ℕ) (p : List ℕ) (ok : Passed t p) where
   plan-tree = go (queriesFrom noRow [] (rowsOf p)) refl (w .last .stack ∙ ok .single) (w .rows)
     where
       w : All-stacked initial noRow [] (rowsOf p)
-      w = all-stacked t (rowsOf p) initial noRow [] (all-pass t p ok) (record { count = refl; idle = λ z. refl; unbegun = λ b. refl; stack = refl })
+      w =
+          all-stacked t (rowsOf p) initial noRow [] (all-pass t p ok)
+          (record { count = refl; idle = λ z. refl; unbegun = λ b. refl; stack = refl })
 
       none-open : openFrom noRow (rowsOf p) ≡ noRow
       none-open = w .last .idle (ok .closed)
 
-      go : (qs : List Query) → queriesFrom noRow [] (rowsOf p) ≡ qs → length qs ≡ 1 → stackRows qs ++ openRows (openFrom noRow (rowsOf p)) ≡ rowsOf p → queryRows (getD qs 0 (leaf noRow)) ≡ rowsOf p
+      go : (qs : List Query) → queriesFrom noRow [] (rowsOf p) ≡ qs → length qs ≡ 1
+          → stackRows qs ++ openRows (openFrom noRow (rowsOf p)) ≡ rowsOf p → queryRows (getD qs 0 (leaf noRow)) ≡ rowsOf p
       go [] e l r = absurd (let z : ⊥ = omega arith in z)
       go (q ∷ []) e l r = sym (append-nil (queryRows q)) ∙ ap (λ (f : Pattern). queryRows q ++ openRows f) (sym none-open) ∙ r
       go (q ∷ (x ∷ qs)) e l r = absurd (let z : ⊥ = omega arith in z)
