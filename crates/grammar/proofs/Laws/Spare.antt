@@ -242,8 +242,7 @@ one-tight p h e =
     (λ (x : typed (partQuery p) .line ≡ g.one (typed (partQuery p) .part)). inl (ap g.one e ∙ sym x))
     (λ (x : typed (partQuery p) .part ≡ g.alone (g.round (typed (partQuery p) .line))).
     let y : p ≡ g.alone (g.round (typed (partQuery p) .line)) = e ∙ x in
-    inr
-    (subst (λ (z : Part). LessLine (g.one z)) (sym y)
+    inr (subst (λ (z : Part). LessLine (g.one z)) (sym y)
     (line-round (typed (partQuery p) .line) (unround (typed (partQuery p) .line) (subst PartFits y h)))))
     (line-or (partQuery p))
 
@@ -253,8 +252,7 @@ alone-tight i h e =
     (λ (x : typed (itemQuery i) .part ≡ g.alone (typed (itemQuery i) .item)). inl (ap g.alone e ∙ sym x))
     (λ (x : typed (itemQuery i) .item ≡ g.round (g.one (typed (itemQuery i) .part))).
     let y : i ≡ g.round (g.one (typed (itemQuery i) .part)) = e ∙ x in
-    inr
-    (subst (λ (z : Item). LessPart (g.alone z)) (sym y)
+    inr (subst (λ (z : Item). LessPart (g.alone z)) (sym y)
     (part-round (typed (itemQuery i) .part) (unround-part (typed (itemQuery i) .part) (subst ItemFits y h)))))
     (part-or (itemQuery i))
 
@@ -264,8 +262,7 @@ round-tight l h e =
     (λ (x : typed (lineQuery l) .item ≡ g.round (typed (lineQuery l) .line)). inl (ap g.round e ∙ sym x))
     (λ (x : typed (lineQuery l) .line ≡ g.one (g.alone (typed (lineQuery l) .item))).
     let y : l ≡ g.one (g.alone (typed (lineQuery l) .item)) = e ∙ x in
-    inr
-    (subst (λ (z : Line). LessItem (g.round z)) (sym y)
+    inr (subst (λ (z : Line). LessItem (g.round z)) (sym y)
     (item-round (typed (lineQuery l) .item) (unround-item (typed (lineQuery l) .item) (subst Fits y h)))))
     (item-or (lineQuery l))
 

@@ -57,7 +57,11 @@ item-returns : (t : ℕ) → item-lts.Need-returns (
   line-below t,
   line.Post,
 ) (item-at t) item.Post
-item-returns t c = let a = c .before .before .before .args in let s = now (a .text) in let o = now (a .out) in laws.item-out s (a .at) (a .depth) (a .first) o (c .if1 .taken)
+item-returns t c =
+    let a = c .before .before .before .args in
+    let s = now (a .text) in
+    let o = now (a .out) in
+    laws.item-out s (a .at) (a .depth) (a .first) o (c .if1 .taken)
 
 item-shared-slice-read-if2 : (t : ℕ) → item-lts.Need-shared-slice-read-if2 (
   figure-reads.Asked,
@@ -97,7 +101,14 @@ item-returns-2 : (t : ℕ) → item-lts.Need-returns-2 (
   line-below t,
   line.Post,
 ) (item-at t) item.Post
-item-returns-2 t c = let a = c .before .before .before .before .before .before .before .before .before .args in let s = now (a .text) in let o = now (a .out) in laws.item-figure s (a .at) (a .depth) (a .first) o (omega arith) (omega arith) (c .before .before .before .before .if2 .taken) (c .before .before .figure .last .1 .1 .1 .0) (c .before .before .figure .result) (c .before .before .figure .ensures)
+item-returns-2 t c =
+    let c₁ = c .before .before .before .before .before .before in
+    let a = c₁ .before .before .before .args in
+    let s = now (a .text) in
+    let o = now (a .out) in
+    let f = c .before .before .figure in
+    laws.item-figure s (a .at) (a .depth) (a .first) o (omega arith) (omega arith) (c .before .before .before .before .if2 .taken)
+    (f .last .1 .1 .1 .0) (f .result) (f .ensures)
 
 item-shared-slice-read-if3 : (t : ℕ) → item-lts.Need-shared-slice-read-if3 (
   figure-reads.Asked,
@@ -113,7 +124,12 @@ item-returns-3 : (t : ℕ) → item-lts.Need-returns-3 (
   line-below t,
   line.Post,
 ) (item-at t) item.Post
-item-returns-3 t c = let a = c .before .before .before .before .before .before .before .args in let s = now (a .text) in let o = now (a .out) in laws.item-none s (a .at) (a .depth) (a .first) o (omega arith) (omega arith) (c .before .before .if2 .left) (c .if3 .taken)
+item-returns-3 t c =
+    let c₁ = c .before .before .before .before .before .before in
+    let a = c₁ .before .args in
+    let s = now (a .text) in
+    let o = now (a .out) in
+    laws.item-none s (a .at) (a .depth) (a .first) o (omega arith) (omega arith) (c .before .before .if2 .left) (c .if3 .taken)
 
 item-returns-4 : (t : ℕ) → item-lts.Need-returns-4 (
   figure-reads.Asked,
@@ -121,7 +137,12 @@ item-returns-4 : (t : ℕ) → item-lts.Need-returns-4 (
   line-below t,
   line.Post,
 ) (item-at t) item.Post
-item-returns-4 t c = let a = c .before .before .before .before .before .before .before .before .args in let s = now (a .text) in let o = now (a .out) in laws.item-deep s (a .at) (a .depth) (a .first) o (omega arith) (omega arith) (c .before .if3 .left) (c .if4 .taken)
+item-returns-4 t c =
+    let c₁ = c .before .before .before .before .before .before in
+    let a = c₁ .before .before .args in
+    let s = now (a .text) in
+    let o = now (a .out) in
+    laws.item-deep s (a .at) (a .depth) (a .first) o (omega arith) (omega arith) (c .before .if3 .left) (c .if4 .taken)
 
 item-add-line : (t : ℕ) → item-lts.Need-add-line (
   figure-reads.Asked,
@@ -185,7 +206,20 @@ item-returns-5 : (t : ℕ) → item-lts.Need-returns-5 (
   line-below t,
   line.Post,
 ) (item-at t) item.Post
-item-returns-5 t c = let a = c .before .before .before .before .before .before .before .before .before .before .before .before .before .before .before .before .args in let s = now (a .text) in let o = now (a .out) in let w : LineAt s (a .at + 1) (a .depth + 1) (a .first) pending.Nothing o (c .before .before .before .before .before .before .line .last .1 .1 .1 .1 .1 .0) (c .before .before .inner3 .given .0 .0) (c .before .before .inner3 .given .0 .1 .0) = subst (LineRead s (a .at + 1) (a .depth + 1) (a .first) pending.Nothing o (c .before .before .before .before .before .before .line .last .1 .1 .1 .1 .1 .0)) (c .before .before .inner3 .given .1) (c .before .before .before .before .before .before .line .ensures) in let z = w .rows in laws.item-open s (a .at) (a .depth) (a .first) o (omega arith) (omega arith) (c .before .before .before .before .before .before .before .before .before .if3 .left) (omega arith) (c .before .before .before .before .before .before .line .last .1 .1 .1 .1 .1 .0) _ _ w (c .if5 .taken)
+item-returns-5 t c =
+    let c₁ = c .before .before .before .before .before .before in
+    let c₂ = c₁ .before .before .before .before .before .before in
+    let a = c₂ .before .before .before .before .args in
+    let s = now (a .text) in
+    let o = now (a .out) in
+    let l = c₁ .line in
+    let o₁ = l .last .1 .1 .1 .1 .1 .0 in
+    let b = c .before .before .inner3 .given in
+    let read = LineRead s (a .at + 1) (a .depth + 1) (a .first) pending.Nothing o o₁ in
+    let w : LineAt s (a .at + 1) (a .depth + 1) (a .first) pending.Nothing o o₁ (b .0 .0) (b .0 .1 .0) = subst read (b .1) (l .ensures) in
+    let z = w .rows in
+    laws.item-open s (a .at) (a .depth) (a .first) o (omega arith) (omega arith) (c₁ .before .before .before .if3 .left)
+    (omega arith) o₁ _ _ w (c .if5 .taken)
 
 item-shared-slice-read-if6 : (t : ℕ) → item-lts.Need-shared-slice-read-if6 (
   figure-reads.Asked,
@@ -209,7 +243,21 @@ item-returns-6 : (t : ℕ) → item-lts.Need-returns-6 (
   line-below t,
   line.Post,
 ) (item-at t) item.Post
-item-returns-6 t c = let a = c .before .before .before .before .before .before .before .before .before .before .before .before .before .before .before .before .before .before .args in let s = now (a .text) in let o = now (a .out) in let w : LineAt s (a .at + 1) (a .depth + 1) (a .first) pending.Nothing o (c .before .before .before .before .before .before .before .before .line .last .1 .1 .1 .1 .1 .0) (c .before .before .before .before .inner3 .given .0 .0) (c .before .before .before .before .inner3 .given .0 .1 .0) = subst (LineRead s (a .at + 1) (a .depth + 1) (a .first) pending.Nothing o (c .before .before .before .before .before .before .before .before .line .last .1 .1 .1 .1 .1 .0)) (c .before .before .before .before .inner3 .given .1) (c .before .before .before .before .before .before .before .before .line .ensures) in let z = w .rows in laws.item-wrong s (a .at) (a .depth) (a .first) o (omega arith) (omega arith) (c .before .before .before .before .before .before .before .before .before .before .before .if3 .left) (omega arith) (c .before .before .before .before .before .before .before .before .line .last .1 .1 .1 .1 .1 .0) _ _ w (omega arith) (c .if6 .taken)
+item-returns-6 t c =
+    let c₁ = c .before .before .before .before .before .before in
+    let c₂ = c₁ .before .before .before .before .before .before in
+    let c₃ = c₂ .before .before .before .before .before .before in
+    let a = c₃ .args in
+    let s = now (a .text) in
+    let o = now (a .out) in
+    let l = c₁ .before .before .line in
+    let o₁ = l .last .1 .1 .1 .1 .1 .0 in
+    let b = c .before .before .before .before .inner3 .given in
+    let read = LineRead s (a .at + 1) (a .depth + 1) (a .first) pending.Nothing o o₁ in
+    let w : LineAt s (a .at + 1) (a .depth + 1) (a .first) pending.Nothing o o₁ (b .0 .0) (b .0 .1 .0) = subst read (b .1) (l .ensures) in
+    let z = w .rows in
+    laws.item-wrong s (a .at) (a .depth) (a .first) o (omega arith) (omega arith) (c₁ .before .before .before .before .before .if3 .left)
+    (omega arith) o₁ _ _ w (omega arith) (c .if6 .taken)
 
 item-add-t24 : (t : ℕ) → item-lts.Need-add-t24 (
   figure-reads.Asked,
@@ -233,7 +281,16 @@ item-returns-7 : (t : ℕ) → item-lts.Need-returns-7 (
   line-below t,
   line.Post,
 ) (item-at t) item.Post
-item-returns-7 t c = let a = c .before .before .before .before .before .before .before .before .before .before .before .before .before .before .before .args in let s = now (a .text) in let o = now (a .out) in laws.item-broken s (a .at) (a .depth) (a .first) o (omega arith) (omega arith) (c .before .before .before .before .before .before .before .before .if3 .left) (omega arith) (c .before .before .before .before .before .line .last .1 .1 .1 .1 .1 .0) _ (subst (LineRead s (a .at + 1) (a .depth + 1) (a .first) pending.Nothing o (c .before .before .before .before .before .line .last .1 .1 .1 .1 .1 .0)) (c .before .inner .given .1) (c .before .before .before .before .before .line .ensures))
+item-returns-7 t c =
+    let c₁ = c .before .before .before .before .before .before in
+    let c₂ = c₁ .before .before .before .before .before .before in
+    let a = c₂ .before .before .before .args in
+    let s = now (a .text) in
+    let o = now (a .out) in
+    let l = c .before .before .before .before .before .line in
+    let o₁ = l .last .1 .1 .1 .1 .1 .0 in
+    laws.item-broken s (a .at) (a .depth) (a .first) o (omega arith) (omega arith) (c₁ .before .before .if3 .left) (omega arith) o₁ _
+    (subst (LineRead s (a .at + 1) (a .depth + 1) (a .first) pending.Nothing o o₁) (c .before .inner .given .1) (l .ensures))
 
 item-same-length-5 : (t : ℕ) → item-lts.Need-same-length-5 (
   figure-reads.Asked,
@@ -249,7 +306,16 @@ item-returns-8 : (t : ℕ) → item-lts.Need-returns-8 (
   line-below t,
   line.Post,
 ) (item-at t) item.Post
-item-returns-8 t c = let a = c .before .before .before .before .before .before .before .before .before .before .before .before .before .before .before .args in let s = now (a .text) in let o = now (a .out) in laws.item-too-deep s (a .at) (a .depth) (a .first) o (omega arith) (omega arith) (c .before .before .before .before .before .before .before .before .if3 .left) (omega arith) (c .before .before .before .before .before .line .last .1 .1 .1 .1 .1 .0) _ (subst (LineRead s (a .at + 1) (a .depth + 1) (a .first) pending.Nothing o (c .before .before .before .before .before .line .last .1 .1 .1 .1 .1 .0)) (c .before .inner2 .given .1) (c .before .before .before .before .before .line .ensures))
+item-returns-8 t c =
+    let c₁ = c .before .before .before .before .before .before in
+    let c₂ = c₁ .before .before .before .before .before .before in
+    let a = c₂ .before .before .before .args in
+    let s = now (a .text) in
+    let o = now (a .out) in
+    let l = c .before .before .before .before .before .line in
+    let o₁ = l .last .1 .1 .1 .1 .1 .0 in
+    laws.item-too-deep s (a .at) (a .depth) (a .first) o (omega arith) (omega arith) (c₁ .before .before .if3 .left) (omega arith) o₁ _
+    (subst (LineRead s (a .at + 1) (a .depth + 1) (a .first) pending.Nothing o o₁) (c .before .inner2 .given .1) (l .ensures))
 
 item-same-length-6 : (t : ℕ) → item-lts.Need-same-length-6 (
   figure-reads.Asked,
@@ -265,7 +331,21 @@ item-returns-9 : (t : ℕ) → item-lts.Need-returns-9 (
   line-below t,
   line.Post,
 ) (item-at t) item.Post
-item-returns-9 t c = let a = c .before .before .before .before .before .before .before .before .before .before .before .before .before .before .before .before .before .before .args in let s = now (a .text) in let o = now (a .out) in let w : LineAt s (a .at + 1) (a .depth + 1) (a .first) pending.Nothing o (c .before .before .before .before .before .before .before .before .line .last .1 .1 .1 .1 .1 .0) (c .before .before .before .before .inner3 .given .0 .0) (c .before .before .before .before .inner3 .given .0 .1 .0) = subst (LineRead s (a .at + 1) (a .depth + 1) (a .first) pending.Nothing o (c .before .before .before .before .before .before .before .before .line .last .1 .1 .1 .1 .1 .0)) (c .before .before .before .before .inner3 .given .1) (c .before .before .before .before .before .before .before .before .line .ensures) in let z = w .rows in laws.item-shut s (a .at) (a .depth) (a .first) o (omega arith) (omega arith) (c .before .before .before .before .before .before .before .before .before .before .before .if3 .left) (omega arith) (c .before .before .before .before .before .before .before .before .line .last .1 .1 .1 .1 .1 .0) _ _ w (omega arith) (c .if6 .left)
+item-returns-9 t c =
+    let c₁ = c .before .before .before .before .before .before in
+    let c₂ = c₁ .before .before .before .before .before .before in
+    let c₃ = c₂ .before .before .before .before .before .before in
+    let a = c₃ .args in
+    let s = now (a .text) in
+    let o = now (a .out) in
+    let l = c₁ .before .before .line in
+    let o₁ = l .last .1 .1 .1 .1 .1 .0 in
+    let b = c .before .before .before .before .inner3 .given in
+    let read = LineRead s (a .at + 1) (a .depth + 1) (a .first) pending.Nothing o o₁ in
+    let w : LineAt s (a .at + 1) (a .depth + 1) (a .first) pending.Nothing o o₁ (b .0 .0) (b .0 .1 .0) = subst read (b .1) (l .ensures) in
+    let z = w .rows in
+    laws.item-shut s (a .at) (a .depth) (a .first) o (omega arith) (omega arith) (c₁ .before .before .before .before .before .if3 .left)
+    (omega arith) o₁ _ _ w (omega arith) (c .if6 .left)
 
 line-part-requires : (t : ℕ) → line-lts.Need-part-requires (
   part-below t,
@@ -315,7 +395,18 @@ line-settle-requires : (t : ℕ) → line-lts.Need-settle-requires (
   line-below t,
   line.Post,
 ) (line-at t) line.Post
-line-settle-requires t c κs = let a = c .before .before .before .before .before .before .before .before .before .before .args in let s = now (a .text) in let o = now (a .out) in let w : PartAt s (a .at) (a .depth) (a .first) pending.Nothing o (c .before .before .before .before .before .before .part .last .1 .1 .1 .1 .1 .0) (c .before .before .begun3 .given .0 .0) (c .before .before .begun3 .given .0 .1 .0) = subst (PartRead s (a .at) (a .depth) (a .first) pending.Nothing o (c .before .before .before .before .before .before .part .last .1 .1 .1 .1 .1 .0)) (c .before .before .begun3 .given .1) (c .before .before .before .before .before .before .part .ensures) in let z = w .rows in omega arith
+line-settle-requires t c κs =
+    let c₁ = c .before .before .before .before .before .before in
+    let a = c₁ .before .before .before .before .args in
+    let s = now (a .text) in
+    let o = now (a .out) in
+    let p = c₁ .part in
+    let o₁ = p .last .1 .1 .1 .1 .1 .0 in
+    let b = c .before .before .begun3 .given in
+    let read = PartRead s (a .at) (a .depth) (a .first) pending.Nothing o o₁ in
+    let w : PartAt s (a .at) (a .depth) (a .first) pending.Nothing o o₁ (b .0 .0) (b .0 .1 .0) = subst read (b .1) (p .ensures) in
+    let z = w .rows in
+    omega arith
 
 line-same-length : (t : ℕ) → line-lts.Need-same-length (
   part-below t,
@@ -335,7 +426,21 @@ line-returns : (t : ℕ) → line-lts.Need-returns (
   line-below t,
   line.Post,
 ) (line-at t) line.Post
-line-returns t c = let a = c .before .before .before .before .before .before .before .before .before .before .before .before .before .before .args in let s = now (a .text) in let o = now (a .out) in let w : PartAt s (a .at) (a .depth) (a .first) pending.Nothing o (c .before .before .before .before .before .before .before .before .before .before .part .last .1 .1 .1 .1 .1 .0) (c .before .before .before .before .before .before .begun3 .given .0 .0) (c .before .before .before .before .before .before .begun3 .given .0 .1 .0) = subst (PartRead s (a .at) (a .depth) (a .first) pending.Nothing o (c .before .before .before .before .before .before .before .before .before .before .part .last .1 .1 .1 .1 .1 .0)) (c .before .before .before .before .before .before .begun3 .given .1) (c .before .before .before .before .before .before .before .before .before .before .part .ensures) in let z = w .rows in laws.line-at s (a .at) (a .depth) (a .first) o (a .waiting) (c .before .before .before .before .before .before .before .before .before .before .part .last .1 .1 .1 .1 .1 .0) (c .before .before .before .settle .last .0) _ _ (c .before .before .before .settle .result) w (c .before .before .before .settle .ensures .0) (c .before .before .before .settle .ensures .1) (λ h. absurd (omega arith))
+line-returns t c =
+    let c₁ = c .before .before .before .before .before .before in
+    let c₂ = c₁ .before .before .before .before .before .before in
+    let a = c₂ .before .before .args in
+    let s = now (a .text) in
+    let o = now (a .out) in
+    let p = c₁ .before .before .before .before .part in
+    let o₁ = p .last .1 .1 .1 .1 .1 .0 in
+    let b = c₁ .begun3 .given in
+    let q = c .before .before .before .settle in
+    let read = PartRead s (a .at) (a .depth) (a .first) pending.Nothing o o₁ in
+    let w : PartAt s (a .at) (a .depth) (a .first) pending.Nothing o o₁ (b .0 .0) (b .0 .1 .0) = subst read (b .1) (p .ensures) in
+    let z = w .rows in
+    laws.line-at s (a .at) (a .depth) (a .first) o (a .waiting) o₁ (q .last .0) _ _ (q .result) w (q .ensures .0) (q .ensures .1)
+    (λ h. absurd (omega arith))
 
 line-shared-slice-read-if2 : (t : ℕ) → line-lts.Need-shared-slice-read-if2 (
   part-below t,
@@ -365,7 +470,20 @@ line-line-requires : (t : ℕ) → line-lts.Need-line-requires (
   line-below t,
   line.Post,
 ) (line-at t) line.Post
-line-line-requires t c κs = let a = c .before .before .before .before .before .before .before .before .before .before .before .before .before .before .before .before .before .args in let s = now (a .text) in let o = now (a .out) in let w : PartAt s (a .at) (a .depth) (a .first) pending.Nothing o (c .before .before .before .before .before .before .before .before .before .before .before .before .before .part .last .1 .1 .1 .1 .1 .0) (c .before .before .before .before .before .before .before .before .before .begun3 .given .0 .0) (c .before .before .before .before .before .before .before .before .before .begun3 .given .0 .1 .0) = subst (PartRead s (a .at) (a .depth) (a .first) pending.Nothing o (c .before .before .before .before .before .before .before .before .before .before .before .before .before .part .last .1 .1 .1 .1 .1 .0)) (c .before .before .before .before .before .before .before .before .before .begun3 .given .1) (c .before .before .before .before .before .before .before .before .before .before .before .before .before .part .ensures) in let z = w .rows in let y = c .before .before .before .before .before .before .settle .ensures .1 in omega arith
+line-line-requires t c κs =
+    let c₁ = c .before .before .before .before .before .before in
+    let c₂ = c₁ .before .before .before .before .before .before in
+    let a = c₂ .before .before .before .before .before .args in
+    let s = now (a .text) in
+    let o = now (a .out) in
+    let p = c₂ .before .part in
+    let o₁ = p .last .1 .1 .1 .1 .1 .0 in
+    let b = c₁ .before .before .before .begun3 .given in
+    let read = PartRead s (a .at) (a .depth) (a .first) pending.Nothing o o₁ in
+    let w : PartAt s (a .at) (a .depth) (a .first) pending.Nothing o o₁ (b .0 .0) (b .0 .1 .0) = subst read (b .1) (p .ensures) in
+    let z = w .rows in
+    let y = c₁ .settle .ensures .1 in
+    omega arith
 
 line-same-length-2 : (t : ℕ) → line-lts.Need-same-length-2 (
   part-below t,
@@ -385,7 +503,23 @@ line-returns-2 : (t : ℕ) → line-lts.Need-returns-2 (
   line-below t,
   line.Post,
 ) (line-at t) line.Post
-line-returns-2 t c = let a = c .before .before .before .before .before .before .before .before .before .before .before .before .before .before .before .before .before .before .before .before .args in let s = now (a .text) in let o = now (a .out) in let w : PartAt s (a .at) (a .depth) (a .first) pending.Nothing o (c .before .before .before .before .before .before .before .before .before .before .before .before .before .before .before .before .part .last .1 .1 .1 .1 .1 .0) (c .before .before .before .before .before .before .before .before .before .before .before .before .begun3 .given .0 .0) (c .before .before .before .before .before .before .before .before .before .before .before .before .begun3 .given .0 .1 .0) = subst (PartRead s (a .at) (a .depth) (a .first) pending.Nothing o (c .before .before .before .before .before .before .before .before .before .before .before .before .before .before .before .before .part .last .1 .1 .1 .1 .1 .0)) (c .before .before .before .before .before .before .before .before .before .before .before .before .begun3 .given .1) (c .before .before .before .before .before .before .before .before .before .before .before .before .before .before .before .before .part .ensures) in let z = w .rows in laws.line-either s (a .at) (a .depth) (a .first) o (a .waiting) (c .before .before .before .before .before .before .before .before .before .before .before .before .before .before .before .before .part .last .1 .1 .1 .1 .1 .0) (c .before .before .before .before .before .before .before .before .before .settle .last .0) _ _ (c .before .before .before .before .before .before .before .before .before .settle .result) w (c .before .before .before .before .before .before .before .before .before .settle .ensures .0) (c .before .before .before .before .before .before .before .before .before .settle .ensures .1) (omega arith) (omega arith) (c .before .before .before .before .if2 .taken) (c .before .before .line .last .1 .1 .1 .1 .1 .0) (c .before .before .line .result) (c .before .before .line .ensures)
+line-returns-2 t c =
+    let c₁ = c .before .before .before .before .before .before in
+    let c₂ = c₁ .before .before .before .before .before .before in
+    let c₃ = c₂ .before .before .before .before .before .before in
+    let a = c₃ .before .before .args in
+    let s = now (a .text) in
+    let o = now (a .out) in
+    let p = c₂ .before .before .before .before .part in
+    let o₁ = p .last .1 .1 .1 .1 .1 .0 in
+    let b = c₂ .begun3 .given in
+    let q = c₁ .before .before .before .settle in
+    let l = c .before .before .line in
+    let read = PartRead s (a .at) (a .depth) (a .first) pending.Nothing o o₁ in
+    let w : PartAt s (a .at) (a .depth) (a .first) pending.Nothing o o₁ (b .0 .0) (b .0 .1 .0) = subst read (b .1) (p .ensures) in
+    let z = w .rows in
+    laws.line-either s (a .at) (a .depth) (a .first) o (a .waiting) o₁ (q .last .0) _ _ (q .result) w (q .ensures .0) (q .ensures .1)
+    (omega arith) (omega arith) (c .before .before .before .before .if2 .taken) (l .last .1 .1 .1 .1 .1 .0) (l .result) (l .ensures)
 
 line-same-length-3 : (t : ℕ) → line-lts.Need-same-length-3 (
   part-below t,
@@ -405,7 +539,15 @@ line-returns-3 : (t : ℕ) → line-lts.Need-returns-3 (
   line-below t,
   line.Post,
 ) (line-at t) line.Post
-line-returns-3 t c = let a = c .before .before .before .before .before .before .before .before .before .args in let s = now (a .text) in let o = now (a .out) in laws.line-broken s (a .at) (a .depth) (a .first) o (a .waiting) (c .before .before .before .before .before .part .last .1 .1 .1 .1 .1 .0) _ (subst (PartRead s (a .at) (a .depth) (a .first) pending.Nothing o (c .before .before .before .before .before .part .last .1 .1 .1 .1 .1 .0)) (c .before .begun .given .1) (c .before .before .before .before .before .part .ensures))
+line-returns-3 t c =
+    let c₁ = c .before .before .before .before .before .before in
+    let a = c₁ .before .before .before .args in
+    let s = now (a .text) in
+    let o = now (a .out) in
+    let p = c .before .before .before .before .before .part in
+    let o₁ = p .last .1 .1 .1 .1 .1 .0 in
+    laws.line-broken s (a .at) (a .depth) (a .first) o (a .waiting) o₁ _
+    (subst (PartRead s (a .at) (a .depth) (a .first) pending.Nothing o o₁) (c .before .begun .given .1) (p .ensures))
 
 line-same-length-4 : (t : ℕ) → line-lts.Need-same-length-4 (
   part-below t,
@@ -425,7 +567,15 @@ line-returns-4 : (t : ℕ) → line-lts.Need-returns-4 (
   line-below t,
   line.Post,
 ) (line-at t) line.Post
-line-returns-4 t c = let a = c .before .before .before .before .before .before .before .before .before .args in let s = now (a .text) in let o = now (a .out) in laws.line-deep s (a .at) (a .depth) (a .first) o (a .waiting) (c .before .before .before .before .before .part .last .1 .1 .1 .1 .1 .0) _ (subst (PartRead s (a .at) (a .depth) (a .first) pending.Nothing o (c .before .before .before .before .before .part .last .1 .1 .1 .1 .1 .0)) (c .before .begun2 .given .1) (c .before .before .before .before .before .part .ensures))
+line-returns-4 t c =
+    let c₁ = c .before .before .before .before .before .before in
+    let a = c₁ .before .before .before .args in
+    let s = now (a .text) in
+    let o = now (a .out) in
+    let p = c .before .before .before .before .before .part in
+    let o₁ = p .last .1 .1 .1 .1 .1 .0 in
+    laws.line-deep s (a .at) (a .depth) (a .first) o (a .waiting) o₁ _
+    (subst (PartRead s (a .at) (a .depth) (a .first) pending.Nothing o o₁) (c .before .begun2 .given .1) (p .ensures))
 
 line-same-length-5 : (t : ℕ) → line-lts.Need-same-length-5 (
   part-below t,
@@ -445,7 +595,21 @@ line-returns-5 : (t : ℕ) → line-lts.Need-returns-5 (
   line-below t,
   line.Post,
 ) (line-at t) line.Post
-line-returns-5 t c = let a = c .before .before .before .before .before .before .before .before .before .before .before .before .before .before .before .before .args in let s = now (a .text) in let o = now (a .out) in let w : PartAt s (a .at) (a .depth) (a .first) pending.Nothing o (c .before .before .before .before .before .before .before .before .before .before .before .before .part .last .1 .1 .1 .1 .1 .0) (c .before .before .before .before .before .before .before .before .begun3 .given .0 .0) (c .before .before .before .before .before .before .before .before .begun3 .given .0 .1 .0) = subst (PartRead s (a .at) (a .depth) (a .first) pending.Nothing o (c .before .before .before .before .before .before .before .before .before .before .before .before .part .last .1 .1 .1 .1 .1 .0)) (c .before .before .before .before .before .before .before .before .begun3 .given .1) (c .before .before .before .before .before .before .before .before .before .before .before .before .part .ensures) in let z = w .rows in laws.line-at s (a .at) (a .depth) (a .first) o (a .waiting) (c .before .before .before .before .before .before .before .before .before .before .before .before .part .last .1 .1 .1 .1 .1 .0) (c .before .before .before .before .before .settle .last .0) _ _ (c .before .before .before .before .before .settle .result) w (c .before .before .before .before .before .settle .ensures .0) (c .before .before .before .before .before .settle .ensures .1) (λ h. c .if2 .left)
+line-returns-5 t c =
+    let c₁ = c .before .before .before .before .before .before in
+    let c₂ = c₁ .before .before .before .before .before .before in
+    let a = c₂ .before .before .before .before .args in
+    let s = now (a .text) in
+    let o = now (a .out) in
+    let p = c₂ .part in
+    let o₁ = p .last .1 .1 .1 .1 .1 .0 in
+    let b = c₁ .before .before .begun3 .given in
+    let q = c .before .before .before .before .before .settle in
+    let read = PartRead s (a .at) (a .depth) (a .first) pending.Nothing o o₁ in
+    let w : PartAt s (a .at) (a .depth) (a .first) pending.Nothing o o₁ (b .0 .0) (b .0 .1 .0) = subst read (b .1) (p .ensures) in
+    let z = w .rows in
+    laws.line-at s (a .at) (a .depth) (a .first) o (a .waiting) o₁ (q .last .0) _ _ (q .result) w (q .ensures .0) (q .ensures .1)
+    (λ h. c .if2 .left)
 
 part-item-requires : (t : ℕ) → part-lts.Need-item-requires (
   item-below t,
@@ -495,7 +659,18 @@ part-settle-requires : (t : ℕ) → part-lts.Need-settle-requires (
   part-below t,
   part.Post,
 ) (part-at t) part.Post
-part-settle-requires t c κs = let a = c .before .before .before .before .before .before .before .before .before .before .args in let s = now (a .text) in let o = now (a .out) in let w : ItemAt s (a .at) (a .depth) (a .first) o (c .before .before .before .before .before .before .item .last .1 .1 .1 .1 .0) (c .before .before .begun3 .given .0 .0) (c .before .before .begun3 .given .0 .1 .0) = subst (ItemRead s (a .at) (a .depth) (a .first) o (c .before .before .before .before .before .before .item .last .1 .1 .1 .1 .0)) (c .before .before .begun3 .given .1) (c .before .before .before .before .before .before .item .ensures) in let z = w .rows in omega arith
+part-settle-requires t c κs =
+    let c₁ = c .before .before .before .before .before .before in
+    let a = c₁ .before .before .before .before .args in
+    let s = now (a .text) in
+    let o = now (a .out) in
+    let i = c₁ .item in
+    let o₁ = i .last .1 .1 .1 .1 .0 in
+    let b = c .before .before .begun3 .given in
+    let read = ItemRead s (a .at) (a .depth) (a .first) o o₁ in
+    let w : ItemAt s (a .at) (a .depth) (a .first) o o₁ (b .0 .0) (b .0 .1 .0) = subst read (b .1) (i .ensures) in
+    let z = w .rows in
+    omega arith
 
 part-same-length : (t : ℕ) → part-lts.Need-same-length (
   item-below t,
@@ -515,7 +690,21 @@ part-returns : (t : ℕ) → part-lts.Need-returns (
   part-below t,
   part.Post,
 ) (part-at t) part.Post
-part-returns t c = let a = c .before .before .before .before .before .before .before .before .before .before .before .before .before .before .args in let s = now (a .text) in let o = now (a .out) in let w : ItemAt s (a .at) (a .depth) (a .first) o (c .before .before .before .before .before .before .before .before .before .before .item .last .1 .1 .1 .1 .0) (c .before .before .before .before .before .before .begun3 .given .0 .0) (c .before .before .before .before .before .before .begun3 .given .0 .1 .0) = subst (ItemRead s (a .at) (a .depth) (a .first) o (c .before .before .before .before .before .before .before .before .before .before .item .last .1 .1 .1 .1 .0)) (c .before .before .before .before .before .before .begun3 .given .1) (c .before .before .before .before .before .before .before .before .before .before .item .ensures) in let z = w .rows in laws.part-at s (a .at) (a .depth) (a .first) o (a .waiting) (c .before .before .before .before .before .before .before .before .before .before .item .last .1 .1 .1 .1 .0) (c .before .before .before .settle .last .0) _ _ (c .before .before .before .settle .result) w (c .before .before .before .settle .ensures .0) (c .before .before .before .settle .ensures .1) (λ h. absurd (omega arith))
+part-returns t c =
+    let c₁ = c .before .before .before .before .before .before in
+    let c₂ = c₁ .before .before .before .before .before .before in
+    let a = c₂ .before .before .args in
+    let s = now (a .text) in
+    let o = now (a .out) in
+    let i = c₁ .before .before .before .before .item in
+    let o₁ = i .last .1 .1 .1 .1 .0 in
+    let b = c₁ .begun3 .given in
+    let q = c .before .before .before .settle in
+    let read = ItemRead s (a .at) (a .depth) (a .first) o o₁ in
+    let w : ItemAt s (a .at) (a .depth) (a .first) o o₁ (b .0 .0) (b .0 .1 .0) = subst read (b .1) (i .ensures) in
+    let z = w .rows in
+    laws.part-at s (a .at) (a .depth) (a .first) o (a .waiting) o₁ (q .last .0) _ _ (q .result) w (q .ensures .0) (q .ensures .1)
+    (λ h. absurd (omega arith))
 
 part-shared-slice-read-if2 : (t : ℕ) → part-lts.Need-shared-slice-read-if2 (
   item-below t,
@@ -545,7 +734,20 @@ part-part-requires : (t : ℕ) → part-lts.Need-part-requires (
   part-below t,
   part.Post,
 ) (part-at t) part.Post
-part-part-requires t c κs = let a = c .before .before .before .before .before .before .before .before .before .before .before .before .before .before .before .before .before .args in let s = now (a .text) in let o = now (a .out) in let w : ItemAt s (a .at) (a .depth) (a .first) o (c .before .before .before .before .before .before .before .before .before .before .before .before .before .item .last .1 .1 .1 .1 .0) (c .before .before .before .before .before .before .before .before .before .begun3 .given .0 .0) (c .before .before .before .before .before .before .before .before .before .begun3 .given .0 .1 .0) = subst (ItemRead s (a .at) (a .depth) (a .first) o (c .before .before .before .before .before .before .before .before .before .before .before .before .before .item .last .1 .1 .1 .1 .0)) (c .before .before .before .before .before .before .before .before .before .begun3 .given .1) (c .before .before .before .before .before .before .before .before .before .before .before .before .before .item .ensures) in let z = w .rows in let y = c .before .before .before .before .before .before .settle .ensures .1 in omega arith
+part-part-requires t c κs =
+    let c₁ = c .before .before .before .before .before .before in
+    let c₂ = c₁ .before .before .before .before .before .before in
+    let a = c₂ .before .before .before .before .before .args in
+    let s = now (a .text) in
+    let o = now (a .out) in
+    let i = c₂ .before .item in
+    let o₁ = i .last .1 .1 .1 .1 .0 in
+    let b = c₁ .before .before .before .begun3 .given in
+    let read = ItemRead s (a .at) (a .depth) (a .first) o o₁ in
+    let w : ItemAt s (a .at) (a .depth) (a .first) o o₁ (b .0 .0) (b .0 .1 .0) = subst read (b .1) (i .ensures) in
+    let z = w .rows in
+    let y = c₁ .settle .ensures .1 in
+    omega arith
 
 part-same-length-2 : (t : ℕ) → part-lts.Need-same-length-2 (
   item-below t,
@@ -565,7 +767,23 @@ part-returns-2 : (t : ℕ) → part-lts.Need-returns-2 (
   part-below t,
   part.Post,
 ) (part-at t) part.Post
-part-returns-2 t c = let a = c .before .before .before .before .before .before .before .before .before .before .before .before .before .before .before .before .before .before .before .before .args in let s = now (a .text) in let o = now (a .out) in let w : ItemAt s (a .at) (a .depth) (a .first) o (c .before .before .before .before .before .before .before .before .before .before .before .before .before .before .before .before .item .last .1 .1 .1 .1 .0) (c .before .before .before .before .before .before .before .before .before .before .before .before .begun3 .given .0 .0) (c .before .before .before .before .before .before .before .before .before .before .before .before .begun3 .given .0 .1 .0) = subst (ItemRead s (a .at) (a .depth) (a .first) o (c .before .before .before .before .before .before .before .before .before .before .before .before .before .before .before .before .item .last .1 .1 .1 .1 .0)) (c .before .before .before .before .before .before .before .before .before .before .before .before .begun3 .given .1) (c .before .before .before .before .before .before .before .before .before .before .before .before .before .before .before .before .item .ensures) in let z = w .rows in laws.part-joint s (a .at) (a .depth) (a .first) o (a .waiting) (c .before .before .before .before .before .before .before .before .before .before .before .before .before .before .before .before .item .last .1 .1 .1 .1 .0) (c .before .before .before .before .before .before .before .before .before .settle .last .0) _ _ (c .before .before .before .before .before .before .before .before .before .settle .result) w (c .before .before .before .before .before .before .before .before .before .settle .ensures .0) (c .before .before .before .before .before .before .before .before .before .settle .ensures .1) (omega arith) (omega arith) g.both (c .before .before .before .before .if2 .taken) (c .before .before .part .last .1 .1 .1 .1 .1 .0) (c .before .before .part .result) (c .before .before .part .ensures)
+part-returns-2 t c =
+    let c₁ = c .before .before .before .before .before .before in
+    let c₂ = c₁ .before .before .before .before .before .before in
+    let c₃ = c₂ .before .before .before .before .before .before in
+    let a = c₃ .before .before .args in
+    let s = now (a .text) in
+    let o = now (a .out) in
+    let i = c₂ .before .before .before .before .item in
+    let o₁ = i .last .1 .1 .1 .1 .0 in
+    let b = c₂ .begun3 .given in
+    let q = c₁ .before .before .before .settle in
+    let p = c .before .before .part in
+    let read = ItemRead s (a .at) (a .depth) (a .first) o o₁ in
+    let w : ItemAt s (a .at) (a .depth) (a .first) o o₁ (b .0 .0) (b .0 .1 .0) = subst read (b .1) (i .ensures) in
+    let z = w .rows in
+    laws.part-joint s (a .at) (a .depth) (a .first) o (a .waiting) o₁ (q .last .0) _ _ (q .result) w (q .ensures .0) (q .ensures .1)
+    (omega arith) (omega arith) g.both (c .before .before .before .before .if2 .taken) (p .last .1 .1 .1 .1 .1 .0) (p .result) (p .ensures)
 
 part-shared-slice-read-if3 : (t : ℕ) → part-lts.Need-shared-slice-read-if3 (
   item-below t,
@@ -595,7 +813,21 @@ part-part-requires-2 : (t : ℕ) → part-lts.Need-part-requires-2 (
   part-below t,
   part.Post,
 ) (part-at t) part.Post
-part-part-requires-2 t c κs = let a = c .before .before .before .before .before .before .before .before .before .before .before .before .before .before .before .before .before .before .before .args in let s = now (a .text) in let o = now (a .out) in let w : ItemAt s (a .at) (a .depth) (a .first) o (c .before .before .before .before .before .before .before .before .before .before .before .before .before .before .before .item .last .1 .1 .1 .1 .0) (c .before .before .before .before .before .before .before .before .before .before .before .begun3 .given .0 .0) (c .before .before .before .before .before .before .before .before .before .before .before .begun3 .given .0 .1 .0) = subst (ItemRead s (a .at) (a .depth) (a .first) o (c .before .before .before .before .before .before .before .before .before .before .before .before .before .before .before .item .last .1 .1 .1 .1 .0)) (c .before .before .before .before .before .before .before .before .before .before .before .begun3 .given .1) (c .before .before .before .before .before .before .before .before .before .before .before .before .before .before .before .item .ensures) in let z = w .rows in let y = c .before .before .before .before .before .before .before .before .settle .ensures .1 in omega arith
+part-part-requires-2 t c κs =
+    let c₁ = c .before .before .before .before .before .before in
+    let c₂ = c₁ .before .before .before .before .before .before in
+    let c₃ = c₂ .before .before .before .before .before .before in
+    let a = c₃ .before .args in
+    let s = now (a .text) in
+    let o = now (a .out) in
+    let i = c₂ .before .before .before .item in
+    let o₁ = i .last .1 .1 .1 .1 .0 in
+    let b = c₁ .before .before .before .before .before .begun3 .given in
+    let read = ItemRead s (a .at) (a .depth) (a .first) o o₁ in
+    let w : ItemAt s (a .at) (a .depth) (a .first) o o₁ (b .0 .0) (b .0 .1 .0) = subst read (b .1) (i .ensures) in
+    let z = w .rows in
+    let y = c₁ .before .before .settle .ensures .1 in
+    omega arith
 
 part-same-length-3 : (t : ℕ) → part-lts.Need-same-length-3 (
   item-below t,
@@ -615,7 +847,24 @@ part-returns-3 : (t : ℕ) → part-lts.Need-returns-3 (
   part-below t,
   part.Post,
 ) (part-at t) part.Post
-part-returns-3 t c = let a = c .before .before .before .before .before .before .before .before .before .before .before .before .before .before .before .before .before .before .before .before .before .before .args in let s = now (a .text) in let o = now (a .out) in let w : ItemAt s (a .at) (a .depth) (a .first) o (c .before .before .before .before .before .before .before .before .before .before .before .before .before .before .before .before .before .before .item .last .1 .1 .1 .1 .0) (c .before .before .before .before .before .before .before .before .before .before .before .before .before .before .begun3 .given .0 .0) (c .before .before .before .before .before .before .before .before .before .before .before .before .before .before .begun3 .given .0 .1 .0) = subst (ItemRead s (a .at) (a .depth) (a .first) o (c .before .before .before .before .before .before .before .before .before .before .before .before .before .before .before .before .before .before .item .last .1 .1 .1 .1 .0)) (c .before .before .before .before .before .before .before .before .before .before .before .before .before .before .begun3 .given .1) (c .before .before .before .before .before .before .before .before .before .before .before .before .before .before .before .before .before .before .item .ensures) in let z = w .rows in laws.part-joint s (a .at) (a .depth) (a .first) o (a .waiting) (c .before .before .before .before .before .before .before .before .before .before .before .before .before .before .before .before .before .before .item .last .1 .1 .1 .1 .0) (c .before .before .before .before .before .before .before .before .before .before .before .settle .last .0) _ _ (c .before .before .before .before .before .before .before .before .before .before .before .settle .result) w (c .before .before .before .before .before .before .before .before .before .before .before .settle .ensures .0) (c .before .before .before .before .before .before .before .before .before .before .before .settle .ensures .1) (omega arith) (omega arith) g.without (c .before .before .before .before .if3 .taken) (c .before .before .part2 .last .1 .1 .1 .1 .1 .0) (c .before .before .part2 .result) (c .before .before .part2 .ensures)
+part-returns-3 t c =
+    let c₁ = c .before .before .before .before .before .before in
+    let c₂ = c₁ .before .before .before .before .before .before in
+    let c₃ = c₂ .before .before .before .before .before .before in
+    let a = c₃ .before .before .before .before .args in
+    let s = now (a .text) in
+    let o = now (a .out) in
+    let i = c₃ .item in
+    let o₁ = i .last .1 .1 .1 .1 .0 in
+    let b = c₂ .before .before .begun3 .given in
+    let q = c₁ .before .before .before .before .before .settle in
+    let p = c .before .before .part2 in
+    let read = ItemRead s (a .at) (a .depth) (a .first) o o₁ in
+    let w : ItemAt s (a .at) (a .depth) (a .first) o o₁ (b .0 .0) (b .0 .1 .0) = subst read (b .1) (i .ensures) in
+    let z = w .rows in
+    laws.part-joint s (a .at) (a .depth) (a .first) o (a .waiting) o₁ (q .last .0) _ _ (q .result) w (q .ensures .0) (q .ensures .1)
+    (omega (arith, c₃ .before .before .before .before .pre)) (omega arith) g.without (c .before .before .before .before .if3 .taken)
+    (p .last .1 .1 .1 .1 .1 .0) (p .result) (p .ensures)
 
 part-same-length-4 : (t : ℕ) → part-lts.Need-same-length-4 (
   item-below t,
@@ -635,7 +884,15 @@ part-returns-4 : (t : ℕ) → part-lts.Need-returns-4 (
   part-below t,
   part.Post,
 ) (part-at t) part.Post
-part-returns-4 t c = let a = c .before .before .before .before .before .before .before .before .before .args in let s = now (a .text) in let o = now (a .out) in laws.part-broken s (a .at) (a .depth) (a .first) o (a .waiting) (c .before .before .before .before .before .item .last .1 .1 .1 .1 .0) _ (subst (ItemRead s (a .at) (a .depth) (a .first) o (c .before .before .before .before .before .item .last .1 .1 .1 .1 .0)) (c .before .begun .given .1) (c .before .before .before .before .before .item .ensures))
+part-returns-4 t c =
+    let c₁ = c .before .before .before .before .before .before in
+    let a = c₁ .before .before .before .args in
+    let s = now (a .text) in
+    let o = now (a .out) in
+    let i = c .before .before .before .before .before .item in
+    let o₁ = i .last .1 .1 .1 .1 .0 in
+    laws.part-broken s (a .at) (a .depth) (a .first) o (a .waiting) o₁ _
+    (subst (ItemRead s (a .at) (a .depth) (a .first) o o₁) (c .before .begun .given .1) (i .ensures))
 
 part-same-length-5 : (t : ℕ) → part-lts.Need-same-length-5 (
   item-below t,
@@ -655,7 +912,15 @@ part-returns-5 : (t : ℕ) → part-lts.Need-returns-5 (
   part-below t,
   part.Post,
 ) (part-at t) part.Post
-part-returns-5 t c = let a = c .before .before .before .before .before .before .before .before .before .args in let s = now (a .text) in let o = now (a .out) in laws.part-deep s (a .at) (a .depth) (a .first) o (a .waiting) (c .before .before .before .before .before .item .last .1 .1 .1 .1 .0) _ (subst (ItemRead s (a .at) (a .depth) (a .first) o (c .before .before .before .before .before .item .last .1 .1 .1 .1 .0)) (c .before .begun2 .given .1) (c .before .before .before .before .before .item .ensures))
+part-returns-5 t c =
+    let c₁ = c .before .before .before .before .before .before in
+    let a = c₁ .before .before .before .args in
+    let s = now (a .text) in
+    let o = now (a .out) in
+    let i = c .before .before .before .before .before .item in
+    let o₁ = i .last .1 .1 .1 .1 .0 in
+    laws.part-deep s (a .at) (a .depth) (a .first) o (a .waiting) o₁ _
+    (subst (ItemRead s (a .at) (a .depth) (a .first) o o₁) (c .before .begun2 .given .1) (i .ensures))
 
 part-same-length-6 : (t : ℕ) → part-lts.Need-same-length-6 (
   item-below t,
@@ -675,7 +940,22 @@ part-returns-6 : (t : ℕ) → part-lts.Need-returns-6 (
   part-below t,
   part.Post,
 ) (part-at t) part.Post
-part-returns-6 t c = let a = c .before .before .before .before .before .before .before .before .before .before .before .before .before .before .before .before .before .before .args in let s = now (a .text) in let o = now (a .out) in let w : ItemAt s (a .at) (a .depth) (a .first) o (c .before .before .before .before .before .before .before .before .before .before .before .before .before .before .item .last .1 .1 .1 .1 .0) (c .before .before .before .before .before .before .before .before .before .before .begun3 .given .0 .0) (c .before .before .before .before .before .before .before .before .before .before .begun3 .given .0 .1 .0) = subst (ItemRead s (a .at) (a .depth) (a .first) o (c .before .before .before .before .before .before .before .before .before .before .before .before .before .before .item .last .1 .1 .1 .1 .0)) (c .before .before .before .before .before .before .before .before .before .before .begun3 .given .1) (c .before .before .before .before .before .before .before .before .before .before .before .before .before .before .item .ensures) in let z = w .rows in laws.part-at s (a .at) (a .depth) (a .first) o (a .waiting) (c .before .before .before .before .before .before .before .before .before .before .before .before .before .before .item .last .1 .1 .1 .1 .0) (c .before .before .before .before .before .before .before .settle .last .0) _ _ (c .before .before .before .before .before .before .before .settle .result) w (c .before .before .before .before .before .before .before .settle .ensures .0) (c .before .before .before .before .before .before .before .settle .ensures .1) (λ h. (c .before .before .if2 .left, c .if3 .left))
+part-returns-6 t c =
+    let c₁ = c .before .before .before .before .before .before in
+    let c₂ = c₁ .before .before .before .before .before .before in
+    let c₃ = c₂ .before .before .before .before .before .before in
+    let a = c₃ .args in
+    let s = now (a .text) in
+    let o = now (a .out) in
+    let i = c₂ .before .before .item in
+    let o₁ = i .last .1 .1 .1 .1 .0 in
+    let b = c₁ .before .before .before .before .begun3 .given in
+    let q = c₁ .before .settle in
+    let read = ItemRead s (a .at) (a .depth) (a .first) o o₁ in
+    let w : ItemAt s (a .at) (a .depth) (a .first) o o₁ (b .0 .0) (b .0 .1 .0) = subst read (b .1) (i .ensures) in
+    let z = w .rows in
+    laws.part-at s (a .at) (a .depth) (a .first) o (a .waiting) o₁ (q .last .0) _ _ (q .result) w (q .ensures .0) (q .ensures .1)
+    (λ h. (c .before .before .if2 .left, c .if3 .left))
 
 pub +item+line+part-spec : {M : Type 1} → statement M
 +item+line+part-spec = close μ-item μ-line μ-part (λ t. item-lts.spec (

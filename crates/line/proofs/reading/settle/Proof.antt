@@ -39,28 +39,42 @@ add-result-3 c = search needs
 
 returns : tie.Need-returns
 unfolding stored
-returns c = let a = c .before .before .before .args in settled (now (a .out)) (a .rows) (a .waiting) _ (c .enum-told .given .1) refl (omega arith)
+returns c =
+    let a = c .before .before .before .args in
+    settled (now (a .out)) (a .rows) (a .waiting) _ (c .enum-told .given .1) refl (omega arith)
 
 same-length : tie.Need-same-length
 same-length c = search needs
 
 returns-2 : tie.Need-returns-2
 unfolding stored
-returns-2 c = let a = c .before .before .before .before .before .before .before .args in settled (now (a .out)) (a .rows) (a .waiting) _ (c .before .before .before .before .enum-told2 .given .1) (c .before .before .put .ensures) (omega arith)
+returns-2 c =
+    let c₁ = c .before .before .before .before .before .before in
+    let a = c₁ .before .args in
+    settled (now (a .out)) (a .rows) (a .waiting) _ (c .before .before .before .before .enum-told2 .given .1)
+    (c .before .before .put .ensures) (omega arith)
 
 same-length-2 : tie.Need-same-length-2
 same-length-2 c = search needs
 
 returns-3 : tie.Need-returns-3
 unfolding stored
-returns-3 c = let a = c .before .before .before .before .before .before .before .args in settled (now (a .out)) (a .rows) (a .waiting) _ (c .before .before .before .before .enum-told3 .given .1) (c .before .before .put2 .ensures) (omega arith)
+returns-3 c =
+    let c₁ = c .before .before .before .before .before .before in
+    let a = c₁ .before .args in
+    settled (now (a .out)) (a .rows) (a .waiting) _ (c .before .before .before .before .enum-told3 .given .1)
+    (c .before .before .put2 .ensures) (omega arith)
 
 same-length-3 : tie.Need-same-length-3
 same-length-3 c = search needs
 
 returns-4 : tie.Need-returns-4
 unfolding stored
-returns-4 c = let a = c .before .before .before .before .before .before .before .args in settled (now (a .out)) (a .rows) (a .waiting) _ (c .before .before .before .before .enum-told4 .given .1) (c .before .before .put3 .ensures) (omega arith)
+returns-4 c =
+    let c₁ = c .before .before .before .before .before .before in
+    let a = c₁ .before .args in
+    settled (now (a .out)) (a .rows) (a .waiting) _ (c .before .before .before .before .enum-told4 .given .1)
+    (c .before .before .put3 .ensures) (omega arith)
 
 pub settle-spec : {M : Type 1} → statement M
 settle-spec =

@@ -16,13 +16,17 @@ add-t12 : tie.Need-add-t12
 add-t12 c = search needs
 
 returns-3 : tie.Need-returns-3
-returns-3 c = let a = c .before .before .before .args in rw (eq-eqb (a .byte) 32 (c .before .before .if1 .left), ne-eqb (a .count) 0 (c .before .if2 .left), eq-eqb (a .count) 1 (c .if3 .taken))
+returns-3 c =
+    let a = c .before .before .before .args in
+    rw (eq-eqb (a .byte) 32 (c .before .before .if1 .left), ne-eqb (a .count) 0 (c .before .if2 .left), eq-eqb (a .count) 1 (c .if3 .taken))
 
 add-t15 : tie.Need-add-t15
 add-t15 c = search needs
 
 returns-4 : tie.Need-returns-4
-returns-4 c = let a = c .before .before .before .args in rw (eq-eqb (a .byte) 32 (c .before .before .if1 .left), ne-eqb (a .count) 0 (c .before .if2 .left), ne-eqb (a .count) 1 (c .if3 .left))
+returns-4 c =
+    let a = c .before .before .before .args in
+    rw (eq-eqb (a .byte) 32 (c .before .before .if1 .left), ne-eqb (a .count) 0 (c .before .if2 .left), ne-eqb (a .count) 1 (c .if3 .left))
 
 pub another-spec : {M : Type 1} → statement M
 another-spec = tie.close (tie.spec returns add-t9 returns-2 add-t12 returns-3 add-t15 returns-4)

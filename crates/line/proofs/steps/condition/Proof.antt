@@ -26,22 +26,36 @@ mul-t7 : tie.Need-mul-t7
 mul-t7 c = search needs
 
 add-t8 : tie.Need-add-t8
-add-t8 c = let a = c .before .before .args in let m = c .before .before .pre .0 in let l : a .last ≤ 65535 = subst (λ (w : Word). LastMost w (a .last)) (c .enum-told5 .given .1) (c .before .before .pre .1) in omega arith
+add-t8 c =
+    let a = c .before .before .args in
+    let m = c .before .before .pre .0 in
+    let l : a .last ≤ 65535 = subst (λ (w : Word). LastMost w (a .last)) (c .enum-told5 .given .1) (c .before .before .pre .1) in
+    omega arith
 
 returns : tie.Need-returns
-returns c = let a = c .before .before .args in sym (ap (λ (w : Word). conditionWords w (a .a) (a .b) (a .c) (a .last)) (c .enum-told .given .1))
+returns c =
+    let a = c .before .before .args in
+    sym (ap (λ (w : Word). conditionWords w (a .a) (a .b) (a .c) (a .last)) (c .enum-told .given .1))
 
 returns-2 : tie.Need-returns-2
-returns-2 c = let a = c .before .before .args in sym (ap (λ (w : Word). conditionWords w (a .a) (a .b) (a .c) (a .last)) (c .enum-told2 .given .1))
+returns-2 c =
+    let a = c .before .before .args in
+    sym (ap (λ (w : Word). conditionWords w (a .a) (a .b) (a .c) (a .last)) (c .enum-told2 .given .1))
 
 returns-3 : tie.Need-returns-3
-returns-3 c = let a = c .before .before .args in sym (ap (λ (w : Word). conditionWords w (a .a) (a .b) (a .c) (a .last)) (c .enum-told3 .given .1))
+returns-3 c =
+    let a = c .before .before .args in
+    sym (ap (λ (w : Word). conditionWords w (a .a) (a .b) (a .c) (a .last)) (c .enum-told3 .given .1))
 
 returns-4 : tie.Need-returns-4
-returns-4 c = let a = c .before .before .args in sym (ap (λ (w : Word). conditionWords w (a .a) (a .b) (a .c) (a .last)) (c .enum-told4 .given .1))
+returns-4 c =
+    let a = c .before .before .args in
+    sym (ap (λ (w : Word). conditionWords w (a .a) (a .b) (a .c) (a .last)) (c .enum-told4 .given .1))
 
 returns-5 : tie.Need-returns-5
-returns-5 c = let a = c .before .before .args in sym (ap (λ (w : Word). conditionWords w (a .a) (a .b) (a .c) (a .last)) (c .enum-told5 .given .1))
+returns-5 c =
+    let a = c .before .before .args in
+    sym (ap (λ (w : Word). conditionWords w (a .a) (a .b) (a .c) (a .last)) (c .enum-told5 .given .1))
 
 pub condition-spec : {M : Type 1} → statement M
 condition-spec =

@@ -24,28 +24,65 @@ enum-told : tie.Need-enum-told
 enum-told c = search needs
 
 returns-3 : tie.Need-returns-3
-returns-3 c = let a = c .before .before .before .before .before .before .args in let d : c .before .before .before .wide .result - 48 ≡ a .byte - 48 = ap (λ (n : ℕ). n - 48) (c .before .before .before .wide .ensures) in sym (ap (λ (x : Number). grownBy (a .most) x (a .byte)) (c .before .enum-told .given .1) ∙ grow-fresh-over (a .most) (a .byte) (omega arith) (omega arith) _ d (c .if3 .taken))
+returns-3 c =
+    let a = c .before .before .before .before .before .before .args in
+    let w = c .before .before .before .wide in
+    let d : w .result - 48 ≡ a .byte - 48 = ap (λ (n : ℕ). n - 48) (w .ensures) in
+    sym (ap (λ (x : Number). grownBy (a .most) x (a .byte)) (c .before .enum-told .given .1)
+    ∙ grow-fresh-over (a .most) (a .byte) (omega arith) (omega arith) _ d (c .if3 .taken))
 
 enum-known-number : tie.Need-enum-known-number
 enum-known-number c = search needs
 
 returns-4 : tie.Need-returns-4
-returns-4 c = let a = c .before .before .before .before .before .before .before .args in sym (ap (λ (x : Number). grownBy (a .most) x (a .byte)) (c .before .before .number .given .1) ∙ grow-zero (a .most) (a .byte) (omega arith) (omega arith) _ (c .if4 .taken))
+returns-4 c =
+    let c₁ = c .before .before .before .before .before .before in
+    let a = c₁ .before .args in
+    sym (ap (λ (x : Number). grownBy (a .most) x (a .byte)) (c .before .before .number .given .1)
+    ∙ grow-zero (a .most) (a .byte) (omega arith) (omega arith) _ (c .if4 .taken))
 
 mul-value : tie.Need-mul-value
-mul-value c = let a = c .before .before .before .before .before .before .before .args in let h : c .before .before .number .given .0 .0 ≤ 65536 = subst (NumberMost 65536) (c .before .before .number .given .1) (c .before .before .before .before .before .before .before .pre) in omega arith
+mul-value c =
+    let c₁ = c .before .before .before .before .before .before in
+    let a = c₁ .before .args in
+    let x = c .before .before .number .given in
+    let h : x .0 .0 ≤ 65536 = subst (NumberMost 65536) (x .1) (c₁ .before .pre) in
+    omega arith
 
 add-value : tie.Need-add-value
-add-value c = let a = c .before .before .before .before .before .before .before .args in let h : c .before .before .number .given .0 .0 ≤ 65536 = subst (NumberMost 65536) (c .before .before .number .given .1) (c .before .before .before .before .before .before .before .pre) in let e = c .before .before .before .before .wide .ensures in omega arith
+add-value c =
+    let c₁ = c .before .before .before .before .before .before in
+    let a = c₁ .before .args in
+    let x = c .before .before .number .given in
+    let h : x .0 .0 ≤ 65536 = subst (NumberMost 65536) (x .1) (c₁ .before .pre) in
+    let e = c .before .before .before .before .wide .ensures in
+    omega arith
 
 returns-5 : tie.Need-returns-5
-returns-5 c = let a = c .before .before .before .before .before .before .before .before .args in let d : c .before .before .before .before .before .wide .result - 48 ≡ a .byte - 48 = ap (λ (n : ℕ). n - 48) (c .before .before .before .before .before .wide .ensures) in sym (ap (λ (x : Number). grownBy (a .most) x (a .byte)) (c .before .before .before .number .given .1) ∙ grow-over (a .most) (a .byte) (omega arith) (omega arith) _ _ d (c .before .if4 .left) (c .if5 .taken))
+returns-5 c =
+    let c₁ = c .before .before .before .before .before .before in
+    let a = c₁ .before .before .args in
+    let w = c .before .before .before .before .before .wide in
+    let d : w .result - 48 ≡ a .byte - 48 = ap (λ (n : ℕ). n - 48) (w .ensures) in
+    sym (ap (λ (x : Number). grownBy (a .most) x (a .byte)) (c .before .before .before .number .given .1)
+    ∙ grow-over (a .most) (a .byte) (omega arith) (omega arith) _ _ d (c .before .if4 .left) (c .if5 .taken))
 
 returns-6 : tie.Need-returns-6
-returns-6 c = let a = c .before .before .before .before .before .before .args in let d : c .before .before .before .wide .result - 48 ≡ a .byte - 48 = ap (λ (n : ℕ). n - 48) (c .before .before .before .wide .ensures) in sym (ap (λ (x : Number). grownBy (a .most) x (a .byte)) (c .before .enum-told .given .1) ∙ grow-fresh (a .most) (a .byte) (omega arith) (omega arith) _ d (c .if3 .left))
+returns-6 c =
+    let a = c .before .before .before .before .before .before .args in
+    let w = c .before .before .before .wide in
+    let d : w .result - 48 ≡ a .byte - 48 = ap (λ (n : ℕ). n - 48) (w .ensures) in
+    sym (ap (λ (x : Number). grownBy (a .most) x (a .byte)) (c .before .enum-told .given .1)
+    ∙ grow-fresh (a .most) (a .byte) (omega arith) (omega arith) _ d (c .if3 .left))
 
 returns-7 : tie.Need-returns-7
-returns-7 c = let a = c .before .before .before .before .before .before .before .before .args in let d : c .before .before .before .before .before .wide .result - 48 ≡ a .byte - 48 = ap (λ (n : ℕ). n - 48) (c .before .before .before .before .before .wide .ensures) in sym (ap (λ (x : Number). grownBy (a .most) x (a .byte)) (c .before .before .before .number .given .1) ∙ grow-digits (a .most) (a .byte) (omega arith) (omega arith) _ _ d (c .before .if4 .left) (c .if5 .left))
+returns-7 c =
+    let c₁ = c .before .before .before .before .before .before in
+    let a = c₁ .before .before .args in
+    let w = c .before .before .before .before .before .wide in
+    let d : w .result - 48 ≡ a .byte - 48 = ap (λ (n : ℕ). n - 48) (w .ensures) in
+    sym (ap (λ (x : Number). grownBy (a .most) x (a .byte)) (c .before .before .before .number .given .1)
+    ∙ grow-digits (a .most) (a .byte) (omega arith) (omega arith) _ _ d (c .before .if4 .left) (c .if5 .left))
 
 pub grow-spec : {M : Type 1} → statement M
 grow-spec =

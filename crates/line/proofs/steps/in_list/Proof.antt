@@ -17,7 +17,9 @@ enum-known-grown : tie.Need-enum-known-grown
 enum-known-grown c = search needs
 
 returns : tie.Need-returns
-returns c = let a = c .before .before .before .before .args in sym (listing-grows (a .number) (a .byte) _ (sym (c .before .before .before .grow .ensures) ∙ c .before .grown .given .1))
+returns c =
+    let a = c .before .before .before .before .args in
+    sym (listing-grows (a .number) (a .byte) _ (sym (c .before .before .before .grow .ensures) ∙ c .before .grown .given .1))
 
 enum-told : tie.Need-enum-told
 enum-told c = search needs
@@ -32,16 +34,36 @@ voice-requires : tie.Need-voice-requires
 voice-requires c κs = search needs
 
 returns-2 : tie.Need-returns-2
-returns-2 c = let a = c .before .before .before .before .before .before .before .before .args in let e = c .before .before .before .number .given .1 in ap (λ (w : Words). Emits w (Listing Fresh)) (c .before .voice .ensures) ∙ sym (ap (λ (x : Number). stepListing x (a .byte)) e ∙ listing-space _ (a .byte) (ap (λ (x : Number). grownBy 65536 x (a .byte)) (sym (e)) ∙ sym (c .before .before .before .before .before .before .before .grow .ensures) ∙ c .before .before .before .before .before .enum-told .given .1) (c .if1 .taken))
+returns-2 c =
+    let c₁ = c .before .before .before .before .before .before in
+    let a = c₁ .before .before .args in
+    let e = c .before .before .before .number .given .1 in
+    let same = ap (λ (x : Number). grownBy 65536 x (a .byte)) (sym e) in
+    let not = same ∙ sym (c₁ .before .grow .ensures) ∙ c .before .before .before .before .before .enum-told .given .1 in
+    ap (λ (w : Words). Emits w (Listing Fresh)) (c .before .voice .ensures)
+    ∙ sym (ap (λ (x : Number). stepListing x (a .byte)) e ∙ listing-space _ (a .byte) not (c .if1 .taken))
 
 ending-requires : tie.Need-ending-requires
 ending-requires c κs = search needs
 
 returns-3 : tie.Need-returns-3
-returns-3 c = let a = c .before .before .before .before .before .args in let e = c .enum-told2 .given .1 in sym (ap (λ (x : Number). stepListing x (a .byte)) e ∙ listing-fresh (a .byte) (ap (λ (x : Number). grownBy 65536 x (a .byte)) (sym (e)) ∙ sym (c .before .before .before .before .grow .ensures) ∙ c .before .before .enum-told .given .1))
+returns-3 c =
+    let a = c .before .before .before .before .before .args in
+    let e = c .enum-told2 .given .1 in
+    let same = ap (λ (x : Number). grownBy 65536 x (a .byte)) (sym e) in
+    let not = same ∙ sym (c .before .before .before .before .grow .ensures) ∙ c .before .before .enum-told .given .1 in
+    sym (ap (λ (x : Number). stepListing x (a .byte)) e ∙ listing-fresh (a .byte) not)
 
 returns-4 : tie.Need-returns-4
-returns-4 c = let a = c .before .before .before .before .before .before .before .before .before .args in let e = c .before .before .before .before .number .given .1 in c .ending .ensures ∙ ap (λ (w : Words). endingState w (a .byte)) (c .before .before .voice .ensures) ∙ sym (ap (λ (x : Number). stepListing x (a .byte)) e ∙ listing-ends _ (a .byte) (ap (λ (x : Number). grownBy 65536 x (a .byte)) (sym (e)) ∙ sym (c .before .before .before .before .before .before .before .before .grow .ensures) ∙ c .before .before .before .before .before .before .enum-told .given .1) (c .before .if1 .left))
+returns-4 c =
+    let c₁ = c .before .before .before .before .before .before in
+    let a = c₁ .before .before .before .args in
+    let e = c .before .before .before .before .number .given .1 in
+    let same = ap (λ (x : Number). grownBy 65536 x (a .byte)) (sym e) in
+    let not = same ∙ sym (c₁ .before .before .grow .ensures) ∙ c₁ .enum-told .given .1 in
+    c .ending .ensures
+    ∙ ap (λ (w : Words). endingState w (a .byte)) (c .before .before .voice .ensures)
+    ∙ sym (ap (λ (x : Number). stepListing x (a .byte)) e ∙ listing-ends _ (a .byte) not (c .before .if1 .left))
 
 pub in-list-spec : {M : Type 1} → statement M
 in-list-spec =
