@@ -23,7 +23,9 @@ sizeOfLine s = sizeBy (reading s)
 abbrev pub readBy : Outcome → ℕ → Said ℕ
 readBy (broken q) room = refused 21 q
 readBy (deep q) room = refused 22 q
-readBy (whole l) room = cond (ltb 64 (length (lineRows l))) (refused 23 0) (cond (ltb room (4 * length (lineRows l))) (refused 16 0) (answered (4 * length (lineRows l))))
+readBy (whole l) room =
+    cond (ltb 64 (length (lineRows l))) (refused 23 0)
+    (cond (ltb room (4 * length (lineRows l))) (refused 16 0) (answered (4 * length (lineRows l))))
 
 -- 21 at byte 2,048 where the line is longer
 unfoldable pub readAnswer : List ℕ → ℕ → Said ℕ

@@ -26,20 +26,27 @@ use Rattle.line.specs.Inner.States.{wordsIn}
 use Rattle.line.specs.Inner.Store.{putWords, stored}
 
 -- four words stored behind pre
-set-four : (pre : List ℕ) (a b c d k x y z : ℕ) (r : List ℕ) → set (set (set (set (pre ++ (a ∷ b ∷ c ∷ d ∷ r)) (length pre) k) (suc (length pre)) x) (suc (suc (length pre))) y) (suc (suc (suc (length pre)))) z ≡ pre ++ (k ∷ x ∷ y ∷ z ∷ r)
+set-four : (pre : List ℕ) (a b c d k x y z : ℕ) (r : List ℕ)
+    → set (set (set (set (pre ++ (a ∷ b ∷ c ∷ d ∷ r)) (length pre) k) (suc (length pre)) x) (suc (suc (length pre))) y)
+    (suc (suc (suc (length pre)))) z
+    ≡ pre ++ (k ∷ x ∷ y ∷ z ∷ r)
 set-four [] a b c d k x y z r = refl
 set-four (p ∷ pre) a b c d k x y z r = ap (λ (l : List ℕ). p ∷ l) (set-four pre a b c d k x y z r)
 
-put-fits : (pre : List ℕ) (a b c d n : ℕ) (w : Words) (r : List ℕ) → length pre ≡ 4 * n → putWords (pre ++ (a ∷ b ∷ c ∷ d ∷ r)) n w ≡ pre ++ (w .kind ∷ w .a ∷ w .b ∷ w .c ∷ r)
+put-fits : (pre : List ℕ) (a b c d n : ℕ) (w : Words) (r : List ℕ) → length pre ≡ 4 * n
+    → putWords (pre ++ (a ∷ b ∷ c ∷ d ∷ r)) n w ≡ pre ++ (w .kind ∷ w .a ∷ w .b ∷ w .c ∷ r)
 unfolding putWords
 put-fits pre a b c d n w r e =
     let l = length-append pre (a ∷ b ∷ c ∷ d ∷ r) in
     let h : 4 * n + 4 ≤ length (pre ++ (a ∷ b ∷ c ∷ d ∷ r)) = omega arith in
-    ap (λ (t : Bool). cond t (set (set (set (set (pre ++ (a ∷ b ∷ c ∷ d ∷ r)) (4 * n) (w .kind)) (4 * n + 1) (w .a)) (4 * n + 2) (w .b)) (4 * n + 3) (w .c)) (pre ++ (a ∷ b ∷ c ∷ d ∷ r))) (le-leb (4 * n + 4) (length (pre ++ (a ∷ b ∷ c ∷ d ∷ r))) h)
+    let out = pre ++ (a ∷ b ∷ c ∷ d ∷ r) in
+    let put = set (set (set (set out (4 * n) (w .kind)) (4 * n + 1) (w .a)) (4 * n + 2) (w .b)) (4 * n + 3) (w .c) in
+    ap (λ (t : Bool). cond t put out) (le-leb (4 * n + 4) (length out) h)
     ∙ rw (add-one, add-two, add-three) (rw (← e) (set-four pre a b c d (w .kind) (w .a) (w .b) (w .c) r))
 
 -- rows that fit lie at their place, and the rest is as it was
-stored-plan : (rs : List Row) (pre rest : List ℕ) (n : ℕ) → length pre ≡ 4 * n → 4 * length rs ≤ length rest → stored (pre ++ rest) n rs ≡ pre ++ (planOf rs ++ drop (4 * length rs) rest)
+stored-plan : (rs : List Row) (pre rest : List ℕ) (n : ℕ) → length pre ≡ 4 * n → 4 * length rs ≤ length rest
+    → stored (pre ++ rest) n rs ≡ pre ++ (planOf rs ++ drop (4 * length rs) rest)
 unfolding stored joined
 stored-plan [] pre rest n e h = refl
 stored-plan (r ∷ rs) pre [] n e h = absurd (let z : ⊥ = omega arith in z)
@@ -51,7 +58,8 @@ stored-plan (r ∷ rs) pre (a ∷ b ∷ c ∷ d ∷ rest) n e h =
     let f = words-four (r .kind) in
     let l : length (pre ++ ws) ≡ 4 * (n + 1) = (let x = length-append pre ws in let y = ap length f in omega arith) in
     let q : 4 * suc (length rs) ≡ suc (suc (suc (suc (4 * length rs)))) = omega arith in
-    ap (λ (o : List ℕ). stored o (n + 1) rs) (put-fits pre a b c d n (wordsIn r) rest e ∙ ap (λ (x : List ℕ). pre ++ (x ++ rest)) (sym f) ∙ sym (append-assoc pre ws rest))
+    ap (λ (o : List ℕ). stored o (n + 1) rs)
+    (put-fits pre a b c d n (wordsIn r) rest e ∙ ap (λ (x : List ℕ). pre ++ (x ++ rest)) (sym f) ∙ sym (append-assoc pre ws rest))
     ∙ stored-plan rs (pre ++ ws) rest (n + 1) l (omega arith)
     ∙ append-assoc pre ws (planOf rs ++ drop (4 * length rs) rest)
     ∙ ap (λ (x : List ℕ). pre ++ x) (sym (append-assoc ws (planOf rs) (drop (4 * length rs) rest)))
@@ -126,7 +134,8 @@ module _ (s out : List ℕ) where
       line-of : (l : Line) × (reading s ≡ whole l) × (m ≡ length (lineRows l))
       line-of = go (reading s) refl w
         where
-          go : (o : Outcome) → reading s ≡ o → WholeRead s none none′ (At k m) o → (l : Line) × (reading s ≡ whole l) × (m ≡ length (lineRows l))
+          go : (o : Outcome) → reading s ≡ o → WholeRead s none none′ (At k m) o
+              → (l : Line) × (reading s ≡ whole l) × (m ≡ length (lineRows l))
           go (whole l) e x = (l, e, x .0)
           go (broken q) e x = absurd x
           go (deep q) e x = absurd x
@@ -143,17 +152,28 @@ module _ (s out : List ℕ) where
           let n = l .2 in
           let b : length (lineRows (l .0)) ≤ 64 = omega arith in
           let c : length out < 4 * length (lineRows (l .0)) = omega arith in
-          refuses 16 0 (answer-by (whole (l .0)) (l .1) ∙ rw (le-ltb 64 (length (lineRows (l .0))) b, lt-ltb (length out) (4 * length (lineRows (l .0))) c))
+          refuses 16 0
+          (answer-by (whole (l .0)) (l .1)
+          ∙ rw (le-ltb 64 (length (lineRows (l .0))) b, lt-ltb (length out) (4 * length (lineRows (l .0))) c))
 
-      pub answers : (out′ : List ℕ) (r : Reached) → m ≤ 64 → 4 * m ≤ length out → WholeRead s out out′ r (reading s) → Answers (answered (4 * m)) out′
+      -- few rows, and room for them
+      in-room : (l : Line) (m : ℕ) → length (lineRows l) ≤ 64 → 4 * length (lineRows l) ≤ length out
+          → answered (4 * length (lineRows l)) ≡ answered (4 * m) → readBy (whole l) (length out) ≡ answered (4 * m)
+      in-room l m b c e = rw (le-ltb 64 (length (lineRows l)) b, le-ltb (length out) (4 * length (lineRows l)) c) e
+
+      pub answers : (out′ : List ℕ) (r : Reached) → m ≤ 64 → 4 * m ≤ length out → WholeRead s out out′ r (reading s)
+          → Answers (answered (4 * m)) out′
       unfolding readOut laid wordsOfLine
       answers out′ r g f v =
           let l = line-of in
           let n = l .2 in
           let b : length (lineRows (l .0)) ≤ 64 = omega arith in
           let c : 4 * length (lineRows (l .0)) ≤ length out = omega arith in
-          let said : readAnswer s (length out) ≡ answered (4 * m) = answer-by (whole (l .0)) (l .1) ∙ rw (le-ltb 64 (length (lineRows (l .0))) b, le-ltb (length out) (4 * length (lineRows (l .0))) c) (ap (λ (x : ℕ). answered (4 * x)) (sym n)) in
-          (sym said, kept r (subst (WholeRead s out out′ r) (l .1) v) ∙ stored-laid (lineRows (l .0)) out c ∙ sym (ap₂ (λ (x : Said ℕ) (o : Outcome). laid x (wordsBy o) out) said (l .1)))
+          let same = ap (λ (x : ℕ). answered (4 * x)) (sym n) in
+          let by : readBy (whole (l .0)) (length out) ≡ answered (4 * m) = in-room (l .0) m b c same in
+          let said = answer-by (whole (l .0)) (l .1) ∙ by in
+          let laid-there = sym (ap₂ (λ (x : Said ℕ) (o : Outcome). laid x (wordsBy o) out) said (l .1)) in
+          (sym said, kept r (subst (WholeRead s out out′ r) (l .1) v) ∙ stored-laid (lineRows (l .0)) out c ∙ laid-there)
         where
           kept : (r : Reached) → WholeRead s out out′ r (whole (line-of .0)) → out′ ≡ stored out 0 (lineRows (line-of .0))
           kept (At a b) x = x .1

@@ -31,11 +31,14 @@ use Rattle.grammar.specs.declared.tokens.Word.the-variants as word
 use Rattle.grammar.specs.Grammar.{Figure, Line, Part, Item, arity, mostOf}
 use Rattle.grammar.specs.declared.tokens.Word.{Word}
 use Rattle.grammar.specs.Reading as reading
-use Rattle.grammar.specs.Reading.{Partial, listing, semicolon, lettered, counting, goes, closes, stuck, stepIn, Front, bare, eithers, Place, first, next, Config, ready, inside, after, start, lineOf, placed, shut, within, step, openIn, broken, deep, ended, continued, outcome, partialText}
+use Rattle.grammar.specs.Reading.{Partial, listing, semicolon, lettered, counting, goes, closes, stuck, stepIn, Front, bare, eithers, Place}
+use Rattle.grammar.specs.Reading.{first, next, Config, ready, inside, after, start, lineOf, placed, shut, within, step, openIn, broken}
+use Rattle.grammar.specs.Reading.{deep, ended, continued, outcome, partialText}
 use Rattle.grammar.specs.declared.tokens.Number.{Number}
 use Rattle.grammar.specs.declared.tokens.Number.the-variants.{Fresh as fresh, Digits as digits}
 use Rattle.line.specs.Inner.States.{NumberMost, StateMost, stepState, stateOf, wordsIn}
-use Rattle.line.specs.Inner.Reads.{from, FigureAt, FigureRead, ItemAt, ItemRead, Stored, frontOf, joins, partBefore, pendingRows, waits, frontRows, PartAt, PartRead, LineAt, LineRead, WholeRead}
+use Rattle.line.specs.Inner.Reads.{from, FigureAt, FigureRead, ItemAt, ItemRead, Stored, frontOf, joins, partBefore, pendingRows}
+use Rattle.line.specs.Inner.Reads.{waits, frontRows, PartAt, PartRead, LineAt, LineRead, WholeRead}
 use Rattle.grammar.proofs.Laws.Reading.{PartialFits, NextTold, stepIn-told, NumberFits}
 use Rattle.line.proofs.Laws.States.{step-follows, Follows}
 
@@ -88,13 +91,18 @@ state-most (counting f w ns x) h = (number-most (mostOf w (length ns)) x (h .las
 pub stored-append : (rs ss : List Row) (out : List ℕ) (n : ℕ) → stored out n (rs ++ ss) ≡ stored (stored out n rs) (n + length rs) ss
 unfolding stored
 stored-append [] ss out n = ap (λ (k : ℕ). stored out k ss) (let e : n ≡ n + 0 = omega arith in e)
-stored-append (r ∷ rs) ss out n = stored-append rs ss (putWords out n (wordsIn r)) (n + 1) ∙ ap (λ (k : ℕ). stored (stored (putWords out n (wordsIn r)) (n + 1) rs) k ss) (let e : n + 1 + length rs ≡ n + suc (length rs) = omega arith in e)
+stored-append (r ∷ rs) ss out n =
+    stored-append rs ss (putWords out n (wordsIn r)) (n + 1)
+    ∙ ap (λ (k : ℕ). stored (stored (putWords out n (wordsIn r)) (n + 1) rs) k ss)
+    (let e : n + 1 + length rs ≡ n + suc (length rs) = omega arith in e)
 
 pub put-length : (out : List ℕ) (n : ℕ) (w : Words) → length (putWords out n w) ≡ length out
 unfolding putWords
 put-length out n w = go (leb (4 * n + 4) (length out))
   where
-    go : (t : Bool) → length (cond t (set (set (set (set out (4 * n) (w .kind)) (4 * n + 1) (w .a)) (4 * n + 2) (w .b)) (4 * n + 3) (w .c)) out) ≡ length out
+    go : (t : Bool)
+        → length (cond t (set (set (set (set out (4 * n) (w .kind)) (4 * n + 1) (w .a)) (4 * n + 2) (w .b)) (4 * n + 3) (w .c)) out)
+        ≡ length out
     go true = simp length-set
     go false = refl
 
@@ -108,8 +116,10 @@ unfolding stored
 stored-one out n w r e = ap (putWords out n) (sym e)
 
 -- an operator behind its second side
-pub settled : (out : List ℕ) (n : ℕ) (o p : Pending) → o ≡ p → {out′ : List ℕ} {m : ℕ} → out′ ≡ stored out n (pendingRows p) → m ≡ n + length (pendingRows p) → (out′ ≡ stored out n (pendingRows o)) × (m ≡ n + length (pendingRows o))
-settled out n o p e x y = (x ∙ ap (λ (z : Pending). stored out n (pendingRows z)) (sym e), y ∙ ap (λ (z : Pending). n + length (pendingRows z)) (sym e))
+pub settled : (out : List ℕ) (n : ℕ) (o p : Pending) → o ≡ p → {out′ : List ℕ} {m : ℕ} → out′ ≡ stored out n (pendingRows p)
+    → m ≡ n + length (pendingRows p) → (out′ ≡ stored out n (pendingRows o)) × (m ≡ n + length (pendingRows o))
+settled out n o p e x y =
+    (x ∙ ap (λ (z : Pending). stored out n (pendingRows z)) (sym e), y ∙ ap (λ (z : Pending). n + length (pendingRows z)) (sym e))
 
 -- in a pattern
 pub record Within (s : List ℕ) (start n : ℕ) (out : List ℕ) (at : ℕ) (state : State) (rows : ℕ) (out′ : List ℕ) : Type 0 where
@@ -130,7 +140,17 @@ placed-open (next f q j) i ps = refl
 module _ (s : List ℕ) (start n : ℕ) (out : List ℕ) where
   pub within-first : start ≤ length s → n < start → Within s start n out start (Listing fresh) n out
   unfolding stored
-  within-first h l = record { read = listing [] fresh; is = refl; sound = record { numbers = λ i l. absurd (let z : ⊥ = omega arith in z); last = tt }; low = omega arith; high = h; few = omega arith; count = omega arith; kept = refl; steps = λ p ps l. refl }
+  within-first h l = record {
+    read = listing [] fresh;
+    is = refl;
+    sound = record { numbers = λ i l. absurd (let z : ⊥ = omega arith in z); last = tt };
+    low = omega arith;
+    high = h;
+    few = omega arith;
+    count = omega arith;
+    kept = refl;
+    steps = λ p ps l. refl;
+  }
 
   module _ (at : ℕ) (state : State) (rows : ℕ) (out′ : List ℕ) (w : Within s start n out at state rows out′) where
     pub within-length : length out′ ≡ length out
@@ -144,16 +164,22 @@ module _ (s : List ℕ) (start n : ℕ) (out : List ℕ) where
 
     module _ (h : at < length s) where
       follows : Follows (w .read) (stepIn (w .read) (getD s at 0)) (stepState state (getD s at 0))
-      follows = subst (λ (x : State). Follows (w .read) (stepIn (w .read) (getD s at 0)) (stepState x (getD s at 0))) (w .is) (step-follows (w .read) (getD s at 0) (w .sound))
+      follows =
+          subst (λ (x : State). Follows (w .read) (stepIn (w .read) (getD s at 0)) (stepState x (getD s at 0))) (w .is)
+          (step-follows (w .read) (getD s at 0) (w .sound))
 
-      within-is : (m : reading.Next) → stepIn (w .read) (getD s at 0) ≡ m → (p : Place) (ps : List Place) → step (inside (w .read) p ps) (getD s at 0) ≡ within m p ps
+      within-is : (m : reading.Next) → stepIn (w .read) (getD s at 0) ≡ m → (p : Place) (ps : List Place)
+          → step (inside (w .read) p ps) (getD s at 0) ≡ within m p ps
       unfolding step
       within-is m e p ps = ap (λ (x : reading.Next). within x p ps) e
 
       pub within-goes : (to : State) → stepState state (getD s at 0) ≡ Goes to → Within s start n out (at + 1) to rows out′
-      within-goes to e = go (stepIn (w .read) (getD s at 0)) refl (subst (Follows (w .read) (stepIn (w .read) (getD s at 0))) e follows) (stepIn-told (w .read) (getD s at 0) (w .sound))
+      within-goes to e =
+          go (stepIn (w .read) (getD s at 0)) refl (subst (Follows (w .read) (stepIn (w .read) (getD s at 0))) e follows)
+          (stepIn-told (w .read) (getD s at 0) (w .sound))
         where
-          go : (m : reading.Next) → stepIn (w .read) (getD s at 0) ≡ m → Follows (w .read) m (Goes to) → NextTold (partialText (w .read) ++ (getD s at 0 ∷ [])) m → Within s start n out (at + 1) to rows out′
+          go : (m : reading.Next) → stepIn (w .read) (getD s at 0) ≡ m → Follows (w .read) m (Goes to)
+              → NextTold (partialText (w .read) ++ (getD s at 0 ∷ [])) m → Within s start n out (at + 1) to rows out′
           go (goes f) q r t = record {
             read = f;
             is = r .state;
@@ -168,10 +194,15 @@ module _ (s : List ℕ) (start n : ℕ) (out : List ℕ) where
           go (closes f) q r t = absurd r
           go stuck q r t = absurd r
 
-      pub within-emits : (ws : Words) (to : State) → stepState state (getD s at 0) ≡ Emits ws to → Within s start n out (at + 1) to (rows + 1) (putWords out′ rows ws)
-      within-emits ws to e = go (stepIn (w .read) (getD s at 0)) refl (subst (Follows (w .read) (stepIn (w .read) (getD s at 0))) e follows) (stepIn-told (w .read) (getD s at 0) (w .sound))
+      pub within-emits : (ws : Words) (to : State) → stepState state (getD s at 0) ≡ Emits ws to
+          → Within s start n out (at + 1) to (rows + 1) (putWords out′ rows ws)
+      within-emits ws to e =
+          go (stepIn (w .read) (getD s at 0)) refl (subst (Follows (w .read) (stepIn (w .read) (getD s at 0))) e follows)
+          (stepIn-told (w .read) (getD s at 0) (w .sound))
         where
-          go : (m : reading.Next) → stepIn (w .read) (getD s at 0) ≡ m → Follows (w .read) m (Emits ws to) → NextTold (partialText (w .read) ++ (getD s at 0 ∷ [])) m → Within s start n out (at + 1) to (rows + 1) (putWords out′ rows ws)
+          go : (m : reading.Next) → stepIn (w .read) (getD s at 0) ≡ m → Follows (w .read) m (Emits ws to)
+              → NextTold (partialText (w .read) ++ (getD s at 0 ∷ [])) m
+              → Within s start n out (at + 1) to (rows + 1) (putWords out′ rows ws)
           go (goes f) q r t = record {
             read = f;
             is = r .state;
@@ -179,7 +210,11 @@ module _ (s : List ℕ) (start n : ℕ) (out : List ℕ) where
             low = let l = w .low in omega arith;
             high = omega arith;
             few = let l = w .few in omega arith;
-            count = let a = w .count in let b = ap length (r .rows) in let c = length-append (partialRows (w .read)) (r .row ∷ []) in omega arith;
+            count =
+                let a = w .count in
+                let b = ap length (r .rows) in
+                let c = length-append (partialRows (w .read)) (r .row ∷ []) in
+                omega arith;
             kept =
                 stored-one out′ rows ws (r .row) (r .words)
                 ∙ ap₂ (λ (x : List ℕ) (k : ℕ). stored x k (r .row ∷ [])) (w .kept) (w .count)
@@ -190,10 +225,14 @@ module _ (s : List ℕ) (start n : ℕ) (out : List ℕ) where
           go (closes f) q r t = absurd r
           go stuck q r t = absurd r
 
-      pub within-closes : (ws last : Words) → last ≡ record { kind = 6; a = 0; b = 0; c = 0 } → stepState state (getD s at 0) ≡ Closes ws → FigureRead s start n out (putWords (putWords out′ rows ws) (rows + 1) last) (At (at + 1) (rows + 2))
-      within-closes ws last e6 e = go (stepIn (w .read) (getD s at 0)) refl (subst (Follows (w .read) (stepIn (w .read) (getD s at 0))) e follows)
+      pub within-closes : (ws last : Words) → last ≡ record { kind = 6; a = 0; b = 0; c = 0 }
+          → stepState state (getD s at 0) ≡ Closes ws
+          → FigureRead s start n out (putWords (putWords out′ rows ws) (rows + 1) last) (At (at + 1) (rows + 2))
+      within-closes ws last e6 e =
+          go (stepIn (w .read) (getD s at 0)) refl (subst (Follows (w .read) (stepIn (w .read) (getD s at 0))) e follows)
         where
-          go : (m : reading.Next) → stepIn (w .read) (getD s at 0) ≡ m → Follows (w .read) m (Closes ws) → FigureAt s start n out (putWords (putWords out′ rows ws) (rows + 1) last) (at + 1) (rows + 2)
+          go : (m : reading.Next) → stepIn (w .read) (getD s at 0) ≡ m → Follows (w .read) m (Closes ws)
+              → FigureAt s start n out (putWords (putWords out′ rows ws) (rows + 1) last) (at + 1) (rows + 2)
           go (goes f) q r = absurd r
           go (closes f) q r = record {
             read = f;
@@ -201,7 +240,11 @@ module _ (s : List ℕ) (start n : ℕ) (out : List ℕ) where
               ahead = let l = w .low in omega arith;
               within = omega arith;
               few = let l = w .few in omega arith;
-              count = let a = w .count in let b = ap length (r .rows) in let c = length-append (partialRows (w .read)) (r .row ∷ record { kind = kind.End } ∷ []) in omega arith;
+              count =
+                  let a = w .count in
+                  let b = ap length (r .rows) in
+                  let c = length-append (partialRows (w .read)) (r .row ∷ record { kind = kind.End } ∷ []) in
+                  omega arith;
               is =
                   ap₂ (λ (x : List ℕ) (y : Words). putWords x (rows + 1) y) (stored-one out′ rows ws (r .row) (r .words)) e6
                   ∙ two
@@ -209,17 +252,27 @@ module _ (s : List ℕ) (start n : ℕ) (out : List ℕ) where
                   ∙ sym (stored-append (partialRows (w .read)) (r .row ∷ record { kind = kind.End } ∷ []) out n)
                   ∙ ap (stored out n) (sym (r .rows));
             };
-            goes = λ p ps l. w .steps p ps l ∙ from-goes s (inside (w .read) p ps) at (placed p (g.figure f) ps) h (within-is (closes f) q p ps) (rw (placed-open p (g.figure f) ps) l);
+            goes =
+                λ p ps l. w .steps p ps l
+                ∙ from-goes s (inside (w .read) p ps) at (placed p (g.figure f) ps) h (within-is (closes f) q p ps)
+                (rw (placed-open p (g.figure f) ps) l);
           }
             where
-              two : putWords (stored out′ rows (r .row ∷ [])) (rows + 1) (wordsIn (record { kind = kind.End })) ≡ stored out′ rows (r .row ∷ record { kind = kind.End } ∷ [])
-              two = sym (stored-append (r .row ∷ []) (record { kind = kind.End } ∷ []) out′ rows ∙ sym (stored-one (stored out′ rows (r .row ∷ [])) (rows + 1) (wordsIn (record { kind = kind.End })) (record { kind = kind.End }) refl))
+              two : putWords (stored out′ rows (r .row ∷ [])) (rows + 1) (wordsIn (record { kind = kind.End }))
+                  ≡ stored out′ rows (r .row ∷ record { kind = kind.End } ∷ [])
+              two =
+                  sym
+                  (stored-append (r .row ∷ []) (record { kind = kind.End } ∷ []) out′ rows
+                  ∙ sym
+                  (stored-one (stored out′ rows (r .row ∷ [])) (rows + 1) (wordsIn (record { kind = kind.End }))
+                  (record { kind = kind.End }) refl))
           go stuck q r = absurd r
 
       pub within-stuck : stepState state (getD s at 0) ≡ Stuck → FigureRead s start n out out′ (Broken at)
       within-stuck e = go (stepIn (w .read) (getD s at 0)) refl (subst (Follows (w .read) (stepIn (w .read) (getD s at 0))) e follows)
         where
-          go : (m : reading.Next) → stepIn (w .read) (getD s at 0) ≡ m → Follows (w .read) m Stuck → FigureRead s start n out out′ (Broken at)
+          go : (m : reading.Next) → stepIn (w .read) (getD s at 0) ≡ m → Follows (w .read) m Stuck
+              → FigureRead s start n out out′ (Broken at)
           go (goes f) q r = absurd r
           go (closes f) q r = absurd r
           go stuck q r = λ p ps l. w .steps p ps l ∙ from-none s (inside (w .read) p ps) at h (within-is stuck q p ps)
@@ -237,16 +290,19 @@ step-no-item : (p : Place) (ps : List Place) (b : ℕ) → b ≢ 91 → b ≢ 40
 unfolding step
 step-no-item p ps b e f = rw (ne-eqb b 40 f, ne-eqb b 91 e)
 
-step-joint : (f : Front) (q : Part) (ps : List Place) (b : ℕ) (j : g.Joint) → b ≡ g.jointByte j → step (after f q ps) b ≡ some (ready (next f q j) ps)
+step-joint : (f : Front) (q : Part) (ps : List Place) (b : ℕ) (j : g.Joint) → b ≡ g.jointByte j
+    → step (after f q ps) b ≡ some (ready (next f q j) ps)
 unfolding step
 step-joint f q ps b g.both e = ap (step (after f q ps)) e
 step-joint f q ps b g.without e = ap (step (after f q ps)) e
 
-step-either : (f : Front) (q : Part) (ps : List Place) (b : ℕ) → b ≡ 124 → step (after f q ps) b ≡ some (ready (first (eithers (lineOf f q))) ps)
+step-either : (f : Front) (q : Part) (ps : List Place) (b : ℕ) → b ≡ 124
+    → step (after f q ps) b ≡ some (ready (first (eithers (lineOf f q))) ps)
 unfolding step
 step-either f q ps b e = ap (step (after f q ps)) e
 
-step-shut : (f : Front) (q : Part) (p : Place) (ps : List Place) (b : ℕ) → b ≡ 41 → step (after f q (p ∷ ps)) b ≡ some (placed p (g.round (lineOf f q)) ps)
+step-shut : (f : Front) (q : Part) (p : Place) (ps : List Place) (b : ℕ) → b ≡ 41
+    → step (after f q (p ∷ ps)) b ≡ some (placed p (g.round (lineOf f q)) ps)
 unfolding step
 step-shut f q p ps b e = ap (step (after f q (p ∷ ps))) e
 
@@ -267,7 +323,8 @@ waitsFor g.both = pending.Both
 waitsFor g.without = pending.Without
 
 -- what an item at its place makes of the part, and a part of the line
-placed-part : (p : Place) (i : Item) (ps : List Place) → (q : Part) × (placed p i ps ≡ after (frontOf p) q ps) × (partRows q ≡ partBefore p ++ (itemRows i ++ pendingRows (joins p)))
+placed-part : (p : Place) (i : Item) (ps : List Place)
+    → (q : Part) × (placed p i ps ≡ after (frontOf p) q ps) × (partRows q ≡ partBefore p ++ (itemRows i ++ pendingRows (joins p)))
 unfolding lineRows
 placed-part (first f) i ps = (g.alone i, refl, sym (append-nil (itemRows i)))
 placed-part (next f q g.both) i ps = (g.join g.both q i, refl, refl)
@@ -279,7 +336,9 @@ line-part bare q = sym (append-nil (partRows q))
 line-part (eithers l) q = refl
 
 -- an operator stored behind what has been stored
-settled-rows : (s : List ℕ) (at n : ℕ) (out out₁ out₂ : List ℕ) (e m k : ℕ) (new : List Row) (o : Pending) → Stored s at n 0 out out₁ e m new → out₂ ≡ stored out₁ m (pendingRows o) → k ≡ m + length (pendingRows o) → Stored s at n (length (pendingRows o)) out out₂ e k (new ++ pendingRows o)
+settled-rows : (s : List ℕ) (at n : ℕ) (out out₁ out₂ : List ℕ) (e m k : ℕ) (new : List Row) (o : Pending)
+    → Stored s at n 0 out out₁ e m new → out₂ ≡ stored out₁ m (pendingRows o) → k ≡ m + length (pendingRows o)
+    → Stored s at n (length (pendingRows o)) out out₂ e k (new ++ pendingRows o)
 settled-rows s at n out out₁ out₂ e m k new o w x y = record {
   ahead = w .ahead;
   within = w .within;
@@ -289,7 +348,8 @@ settled-rows s at n out out₁ out₂ e m k new o w x y = record {
 }
 
 -- two stretches, with a byte between them
-then-rows : (s : List ℕ) (at n : ℕ) (out out₁ out₂ : List ℕ) (e m f k slack : ℕ) (a b : List Row) → Stored s at n slack out out₁ e m a → Stored s (e + 1) m 1 out₁ out₂ f k b → Stored s at n slack out out₂ f k (a ++ b)
+then-rows : (s : List ℕ) (at n : ℕ) (out out₁ out₂ : List ℕ) (e m f k slack : ℕ) (a b : List Row) → Stored s at n slack out out₁ e m a
+    → Stored s (e + 1) m 1 out₁ out₂ f k b → Stored s at n slack out out₂ f k (a ++ b)
 then-rows s at n out out₁ out₂ e m f k slack a b v w = record {
   ahead = let x = v .ahead in let y = w .ahead in omega arith;
   within = w .within;
@@ -307,13 +367,27 @@ module _ (s : List ℕ) (at d n : ℕ) (out : List ℕ) where
     unfolding lineRows
     item-figure e out′ (At k m) w = record {
       new = patternRows (patternOf (w .read));
-      rows = record { ahead = let a = w .rows .ahead in omega arith; within = w .rows .within; few = let a = w .rows .few in omega arith; count = w .rows .count; is = w .rows .is };
-      goes = λ p ps l. (g.figure (w .read), from-goes s (ready p ps) at (inside (listing [] fresh) p ps) h (step-figure p ps (getD s at 0) e) (omega arith) ∙ w .goes p ps (omega arith), item-rows (w .read));
+      rows = record {
+        ahead = let a = w .rows .ahead in omega arith;
+        within = w .rows .within;
+        few = let a = w .rows .few in omega arith;
+        count = w .rows .count;
+        is = w .rows .is;
+      };
+      goes =
+          λ p ps l. (
+            g.figure (w .read),
+            from-goes s (ready p ps) at (inside (listing [] fresh) p ps) h (step-figure p ps (getD s at 0) e) (omega arith)
+                ∙ w .goes p ps (omega arith),
+            item-rows (w .read),
+          );
     }
       where
         item-rows : (f : Figure) → itemRows (g.figure f) ≡ patternRows (patternOf f)
         item-rows f = refl
-    item-figure e out′ (Broken k) w = λ p ps l. from-goes s (ready p ps) at (inside (listing [] fresh) p ps) h (step-figure p ps (getD s at 0) e) (omega arith) ∙ w p ps (omega arith)
+    item-figure e out′ (Broken k) w =
+        λ p ps l. from-goes s (ready p ps) at (inside (listing [] fresh) p ps) h (step-figure p ps (getD s at 0) e) (omega arith)
+        ∙ w p ps (omega arith)
     item-figure e out′ (Deep k) w = absurd w
 
     pub item-none : getD s at 0 ≢ 91 → getD s at 0 ≢ 40 → ItemRead s at d n out out (Broken at)
@@ -327,7 +401,8 @@ module _ (s : List ℕ) (at d n : ℕ) (out : List ℕ) where
         opens-on : (p : Place) (ps : List Place) → length ps ≡ d → from s (ready p ps) at ≡ from s (ready (first bare) (p ∷ ps)) (at + 1)
         opens-on p ps l = from-goes s (ready p ps) at (ready (first bare) (p ∷ ps)) h (step-round p ps (getD s at 0) e) (omega arith)
 
-        pub item-broken : (k : ℕ) → LineRead s (at + 1) (d + 1) n pending.Nothing out out′ (Broken k) → ItemRead s at d n out out′ (Broken k)
+        pub item-broken : (k : ℕ) → LineRead s (at + 1) (d + 1) n pending.Nothing out out′ (Broken k)
+            → ItemRead s at d n out out′ (Broken k)
         item-broken k w = λ p ps l. opens-on p ps l ∙ w bare (p ∷ ps) (omega arith) refl
 
         pub item-too-deep : (k : ℕ) → LineRead s (at + 1) (d + 1) n pending.Nothing out out′ (Deep k) → ItemRead s at d n out out′ (Deep k)
@@ -335,23 +410,36 @@ module _ (s : List ℕ) (at d n : ℕ) (out : List ℕ) where
 
         module _ (k i : ℕ) (w : LineAt s (at + 1) (d + 1) n pending.Nothing out out′ k i) where
           pub item-open : length s ≤ k → ItemRead s at d n out out′ (Broken k)
-          item-open o p ps l = let x = w .goes bare (p ∷ ps) (omega arith) refl in opens-on p ps l ∙ x .2 ∙ from-end s (after (x .0) (x .1) (p ∷ ps)) k o
+          item-open o p ps l =
+              let x = w .goes bare (p ∷ ps) (omega arith) refl in
+              opens-on p ps l ∙ x .2 ∙ from-end s (after (x .0) (x .1) (p ∷ ps)) k o
 
           pub item-wrong : k < length s → getD s k 0 ≢ 41 → ItemRead s at d n out out′ (Broken k)
           item-wrong o f p ps l =
               let x = w .goes bare (p ∷ ps) (omega arith) refl in
               let z = w .ends o in
-              opens-on p ps l ∙ x .2 ∙ from-none s (after (x .0) (x .1) (p ∷ ps)) k o (step-no-more (x .0) (x .1) (p ∷ ps) (getD s k 0) (z .0) (z .1) (z .2) f)
+              opens-on p ps l
+              ∙ x .2
+              ∙ from-none s (after (x .0) (x .1) (p ∷ ps)) k o (step-no-more (x .0) (x .1) (p ∷ ps) (getD s k 0) (z .0) (z .1) (z .2) f)
 
           pub item-shut : k < length s → getD s k 0 ≡ 41 → ItemRead s at d n out out′ (At (k + 1) i)
           unfolding lineRows
           item-shut o f = record {
             new = w .new;
-            rows = record { ahead = let a = w .rows .ahead in omega arith; within = omega arith; few = let a = w .rows .few in omega arith; count = w .rows .count; is = w .rows .is };
+            rows = record {
+              ahead = let a = w .rows .ahead in omega arith;
+              within = omega arith;
+              few = let a = w .rows .few in omega arith;
+              count = w .rows .count;
+              is = w .rows .is;
+            };
             goes = λ p ps l.
                 let x = w .goes bare (p ∷ ps) (omega arith) refl in (
                   g.round (lineOf (x .0) (x .1)),
-                  opens-on p ps l ∙ x .2 ∙ from-goes s (after (x .0) (x .1) (p ∷ ps)) k (placed p (g.round (lineOf (x .0) (x .1))) ps) o (step-shut (x .0) (x .1) p ps (getD s k 0) f) (rw (placed-open p (g.round (lineOf (x .0) (x .1))) ps) (omega arith)),
+                  opens-on p ps l
+                      ∙ x .2
+                      ∙ from-goes s (after (x .0) (x .1) (p ∷ ps)) k (placed p (g.round (lineOf (x .0) (x .1))) ps) o
+                      (step-shut (x .0) (x .1) p ps (getD s k 0) f) (rw (placed-open p (g.round (lineOf (x .0) (x .1))) ps) (omega arith)),
                   round-rows (lineOf (x .0) (x .1)) ∙ x .3,
                 );
           }
@@ -360,12 +448,18 @@ module _ (s : List ℕ) (at d n : ℕ) (out : List ℕ) where
               round-rows l = refl
 
   -- parts: an item and the operator that waited for it
-  module _ (o : Pending) (out₁ out₂ : List ℕ) (e m k : ℕ) (w : ItemAt s at d n out out₁ e m) (x : out₂ ≡ stored out₁ m (pendingRows o)) (y : k ≡ m + length (pendingRows o)) where
-    part-so-far : (p : Place) (ps : List Place) → length ps ≡ d → joins p ≡ o → (q : Part) × (from s (ready p ps) at ≡ from s (after (frontOf p) q ps) e) × (partRows q ≡ partBefore p ++ (w .new ++ pendingRows o))
+  module _ (o : Pending) (out₁ out₂ : List ℕ) (e m k : ℕ) (w : ItemAt s at d n out out₁ e m) (x : out₂ ≡ stored out₁ m (pendingRows o))
+      (y : k ≡ m + length (pendingRows o)) where
+    part-so-far : (p : Place) (ps : List Place) → length ps ≡ d → joins p ≡ o
+        → (q : Part) × (from s (ready p ps) at ≡ from s (after (frontOf p) q ps) e)
+        × (partRows q ≡ partBefore p ++ (w .new ++ pendingRows o))
     part-so-far p ps l j =
         let i = w .goes p ps l in
-        let q = placed-part p (i .0) ps in
-        (q .0, i .1 ∙ ap (λ (c : Config). from s c e) (q .1), q .2 ∙ ap₂ (λ (a : List Row) (b : Pending). partBefore p ++ (a ++ pendingRows b)) (i .2) j)
+        let q = placed-part p (i .0) ps in (
+          q .0,
+          i .1 ∙ ap (λ (c : Config). from s c e) (q .1),
+          q .2 ∙ ap₂ (λ (a : List Row) (b : Pending). partBefore p ++ (a ++ pendingRows b)) (i .2) j,
+        )
 
     part-rows-so-far : Stored s at n (length (pendingRows o)) out out₂ e k (w .new ++ pendingRows o)
     part-rows-so-far = settled-rows s at n out out₁ out₂ e m k (w .new) o (w .rows) x y
@@ -381,25 +475,40 @@ module _ (s : List ℕ) (at d n : ℕ) (out : List ℕ) where
           go g.both f q = refl
           go g.without f q = refl
 
-      joins-on : (p : Place) (ps : List Place) (q : Part) → length ps ≡ d → from s (after (frontOf p) q ps) e ≡ from s (ready (next (frontOf p) q j) ps) (e + 1)
-      joins-on p ps q l = from-goes s (after (frontOf p) q ps) e (ready (next (frontOf p) q j) ps) h (step-joint (frontOf p) q ps (getD s e 0) j b) (omega arith)
+      joins-on : (p : Place) (ps : List Place) (q : Part) → length ps ≡ d
+          → from s (after (frontOf p) q ps) e ≡ from s (ready (next (frontOf p) q j) ps) (e + 1)
+      joins-on p ps q l =
+          from-goes s (after (frontOf p) q ps) e (ready (next (frontOf p) q j) ps) h (step-joint (frontOf p) q ps (getD s e 0) j b)
+          (omega arith)
 
       pub part-joint : (r : Reached) → PartRead s (e + 1) d k (waitsFor j) out₂ out′ r → PartRead s at d n o out out′ r
       part-joint (At f i) v = record {
         new = (w .new ++ pendingRows o) ++ v .new;
-        rows = then-rows s at n out out₂ out′ e k f i (length (pendingRows o)) (w .new ++ pendingRows o) (v .new) part-rows-so-far (one-slack j (v .rows));
+        rows =
+            then-rows s at n out out₂ out′ e k f i (length (pendingRows o)) (w .new ++ pendingRows o) (v .new) part-rows-so-far
+            (one-slack j (v .rows));
         ends = v .ends;
         goes = λ p ps l u.
             let a = part-so-far p ps l u in
-            let c = v .goes (next (frontOf p) (a .0) j) ps l (joins-next (frontOf p) (a .0)) in
-            (c .0, a .1 ∙ joins-on p ps (a .0) l ∙ c .1, c .2 ∙ ap (λ (z : List Row). z ++ v .new) (a .2) ∙ append-assoc (partBefore p) (w .new ++ pendingRows o) (v .new));
+            let c = v .goes (next (frontOf p) (a .0) j) ps l (joins-next (frontOf p) (a .0)) in (
+              c .0,
+              a .1 ∙ joins-on p ps (a .0) l ∙ c .1,
+              c .2 ∙ ap (λ (z : List Row). z ++ v .new) (a .2) ∙ append-assoc (partBefore p) (w .new ++ pendingRows o) (v .new),
+            );
       }
         where
-          one-slack : (j : g.Joint) → Stored s (e + 1) k (length (pendingRows (waitsFor j))) out₂ out′ f i (v .new) → Stored s (e + 1) k 1 out₂ out′ f i (v .new)
+          one-slack : (j : g.Joint) → Stored s (e + 1) k (length (pendingRows (waitsFor j))) out₂ out′ f i (v .new)
+              → Stored s (e + 1) k 1 out₂ out′ f i (v .new)
           one-slack g.both z = z
           one-slack g.without z = z
-      part-joint (Broken f) v = λ p ps l u. let a = part-so-far p ps l u in a .1 ∙ joins-on p ps (a .0) l ∙ v (next (frontOf p) (a .0) j) ps l (joins-next (frontOf p) (a .0))
-      part-joint (Deep f) v = λ p ps l u. let a = part-so-far p ps l u in a .1 ∙ joins-on p ps (a .0) l ∙ v (next (frontOf p) (a .0) j) ps l (joins-next (frontOf p) (a .0))
+      part-joint (Broken f) v =
+          λ p ps l u.
+          let a = part-so-far p ps l u in
+          a .1 ∙ joins-on p ps (a .0) l ∙ v (next (frontOf p) (a .0) j) ps l (joins-next (frontOf p) (a .0))
+      part-joint (Deep f) v =
+          λ p ps l u.
+          let a = part-so-far p ps l u in
+          a .1 ∙ joins-on p ps (a .0) l ∙ v (next (frontOf p) (a .0) j) ps l (joins-next (frontOf p) (a .0))
 
   pub part-broken : (o : Pending) (out′ : List ℕ) (k : ℕ) → ItemRead s at d n out out′ (Broken k) → PartRead s at d n o out out′ (Broken k)
   part-broken o out′ k w = λ p ps l u. w p ps l
@@ -408,8 +517,11 @@ module _ (s : List ℕ) (at d n : ℕ) (out : List ℕ) where
   part-deep o out′ k w = λ p ps l u. w p ps l
 
   -- lines: a part and the `|` that waited for it
-  module _ (o : Pending) (out₁ out₂ : List ℕ) (e m k : ℕ) (w : PartAt s at d n pending.Nothing out out₁ e m) (x : out₂ ≡ stored out₁ m (pendingRows o)) (y : k ≡ m + length (pendingRows o)) where
-    line-so-far : (f : Front) (ps : List Place) → length ps ≡ d → waits f ≡ o → (q : Part) × (from s (ready (first f) ps) at ≡ from s (after f q ps) e) × (lineRows (lineOf f q) ≡ frontRows f ++ (w .new ++ pendingRows o))
+  module _ (o : Pending) (out₁ out₂ : List ℕ) (e m k : ℕ) (w : PartAt s at d n pending.Nothing out out₁ e m)
+      (x : out₂ ≡ stored out₁ m (pendingRows o)) (y : k ≡ m + length (pendingRows o)) where
+    line-so-far : (f : Front) (ps : List Place) → length ps ≡ d → waits f ≡ o
+        → (q : Part) × (from s (ready (first f) ps) at ≡ from s (after f q ps) e)
+        × (lineRows (lineOf f q) ≡ frontRows f ++ (w .new ++ pendingRows o))
     line-so-far f ps l u =
         let q = w .goes (first f) ps l refl in
         (q .0, q .1, line-part f (q .0) ∙ ap₂ (λ (a : List Row) (b : Pending). frontRows f ++ (a ++ pendingRows b)) (q .2) u)
@@ -426,34 +538,47 @@ module _ (s : List ℕ) (at d n : ℕ) (out : List ℕ) where
     }
 
     module _ (few : d ≤ 8) (h : e < length s) (b : getD s e 0 ≡ 124) (out′ : List ℕ) where
-      either-on : (f : Front) (ps : List Place) (q : Part) → length ps ≡ d → from s (after f q ps) e ≡ from s (ready (first (eithers (lineOf f q))) ps) (e + 1)
-      either-on f ps q l = from-goes s (after f q ps) e (ready (first (eithers (lineOf f q))) ps) h (step-either f q ps (getD s e 0) b) (omega arith)
+      either-on : (f : Front) (ps : List Place) (q : Part) → length ps ≡ d
+          → from s (after f q ps) e ≡ from s (ready (first (eithers (lineOf f q))) ps) (e + 1)
+      either-on f ps q l =
+          from-goes s (after f q ps) e (ready (first (eithers (lineOf f q))) ps) h (step-either f q ps (getD s e 0) b) (omega arith)
 
       pub line-either : (r : Reached) → LineRead s (e + 1) d k pending.Either out₂ out′ r → LineRead s at d n o out out′ r
       line-either (At f i) v = record {
         new = (w .new ++ pendingRows o) ++ v .new;
-        rows = then-rows s at n out out₂ out′ e k f i (length (pendingRows o)) (w .new ++ pendingRows o) (v .new) line-rows-so-far (v .rows);
+        rows =
+            then-rows s at n out out₂ out′ e k f i (length (pendingRows o)) (w .new ++ pendingRows o) (v .new) line-rows-so-far (v .rows);
         ends = v .ends;
         goes = λ g′ ps l u.
             let a = line-so-far g′ ps l u in
-            let c = v .goes (eithers (lineOf g′ (a .0))) ps l refl in
-            (c .0, c .1, a .1 ∙ either-on g′ ps (a .0) l ∙ c .2, c .3 ∙ ap (λ (z : List Row). z ++ v .new) (a .2) ∙ append-assoc (frontRows g′) (w .new ++ pendingRows o) (v .new));
+            let c = v .goes (eithers (lineOf g′ (a .0))) ps l refl in (
+              c .0,
+              c .1,
+              a .1 ∙ either-on g′ ps (a .0) l ∙ c .2,
+              c .3 ∙ ap (λ (z : List Row). z ++ v .new) (a .2) ∙ append-assoc (frontRows g′) (w .new ++ pendingRows o) (v .new),
+            );
       }
-      line-either (Broken f) v = λ g′ ps l u. let a = line-so-far g′ ps l u in a .1 ∙ either-on g′ ps (a .0) l ∙ v (eithers (lineOf g′ (a .0))) ps l refl
-      line-either (Deep f) v = λ g′ ps l u. let a = line-so-far g′ ps l u in a .1 ∙ either-on g′ ps (a .0) l ∙ v (eithers (lineOf g′ (a .0))) ps l refl
+      line-either (Broken f) v =
+          λ g′ ps l u. let a = line-so-far g′ ps l u in a .1 ∙ either-on g′ ps (a .0) l ∙ v (eithers (lineOf g′ (a .0))) ps l refl
+      line-either (Deep f) v =
+          λ g′ ps l u. let a = line-so-far g′ ps l u in a .1 ∙ either-on g′ ps (a .0) l ∙ v (eithers (lineOf g′ (a .0))) ps l refl
 
-  pub line-broken : (o : Pending) (out′ : List ℕ) (k : ℕ) → PartRead s at d n pending.Nothing out out′ (Broken k) → LineRead s at d n o out out′ (Broken k)
+  pub line-broken : (o : Pending) (out′ : List ℕ) (k : ℕ) → PartRead s at d n pending.Nothing out out′ (Broken k)
+      → LineRead s at d n o out out′ (Broken k)
   line-broken o out′ k w = λ f ps l u. w (first f) ps l refl
 
-  pub line-deep : (o : Pending) (out′ : List ℕ) (k : ℕ) → PartRead s at d n pending.Nothing out out′ (Deep k) → LineRead s at d n o out out′ (Deep k)
+  pub line-deep : (o : Pending) (out′ : List ℕ) (k : ℕ) → PartRead s at d n pending.Nothing out out′ (Deep k)
+      → LineRead s at d n o out out′ (Deep k)
   line-deep o out′ k w = λ f ps l u. w (first f) ps l refl
 
 -- the whole text
 module _ (s out : List ℕ) where
-  pub whole-broken-off : (out′ : List ℕ) (k : ℕ) → LineRead s 0 0 0 pending.Nothing out out′ (Broken k) → WholeRead s out out′ (Broken k) (reading.reading s)
+  pub whole-broken-off : (out′ : List ℕ) (k : ℕ) → LineRead s 0 0 0 pending.Nothing out out′ (Broken k)
+      → WholeRead s out out′ (Broken k) (reading.reading s)
   whole-broken-off out′ k w = subst (WholeRead s out out′ (Broken k)) (sym (w bare [] refl refl)) refl
 
-  pub whole-deep : (out′ : List ℕ) (k : ℕ) → LineRead s 0 0 0 pending.Nothing out out′ (Deep k) → WholeRead s out out′ (Deep k) (reading.reading s)
+  pub whole-deep : (out′ : List ℕ) (k : ℕ) → LineRead s 0 0 0 pending.Nothing out out′ (Deep k)
+      → WholeRead s out out′ (Deep k) (reading.reading s)
   whole-deep out′ k w = subst (WholeRead s out out′ (Deep k)) (sym (w bare [] refl refl)) refl
 
   module _ (out′ : List ℕ) (k m : ℕ) (w : LineAt s 0 0 0 pending.Nothing out out′ k m) where
@@ -461,11 +586,13 @@ module _ (s out : List ℕ) where
     whole-broken h =
         let x = w .goes bare [] refl refl in
         let n = w .ends h in
-        subst (WholeRead s out out′ (Broken k)) (sym (x .2 ∙ from-none s (after (x .0) (x .1) []) k h (step-not-shut (x .0) (x .1) (getD s k 0) (n .0) (n .1) (n .2)))) refl
+        subst (WholeRead s out out′ (Broken k))
+        (sym (x .2 ∙ from-none s (after (x .0) (x .1) []) k h (step-not-shut (x .0) (x .1) (getD s k 0) (n .0) (n .1) (n .2)))) refl
 
     pub whole-at : length s ≤ k → WholeRead s out out′ (At k m) (reading.reading s)
     whole-at h =
         let x = w .goes bare [] refl refl in
         let c = w .rows .count in
         let e : w .new ≡ lineRows (lineOf (x .0) (x .1)) = sym (x .3) in
-        subst (WholeRead s out out′ (At k m)) (sym (x .2 ∙ from-end s (after (x .0) (x .1) []) k h)) (let l = ap length e in omega arith, w .rows .is ∙ ap (stored out 0) e)
+        subst (WholeRead s out out′ (At k m)) (sym (x .2 ∙ from-end s (after (x .0) (x .1) []) k h))
+        (let l = ap length e in omega arith, w .rows .is ∙ ap (stored out 0) e)

@@ -8,7 +8,7 @@ use native.Mathlib.Omega.{arith}
 use mathlib.Core.Path.{_≡_, refl, sym, ap, _∙_, subst}
 use mathlib.Core.Bool.{true, false}
 use mathlib.Core.Logic.{⊎-elim}
-use mathlib.Core.List.{List, [], _∷_, _++_, append-assoc}
+use mathlib.Core.List.{List, [], _∷_, _++_, append-assoc, append-nil}
 use mathlib.Core.Option.{none, some, Option·none-ne-some}
 use lib.Dec.{eqb}
 use lib.ListN.{length, getD, take, drop, length-append, take-append-drop}
@@ -23,7 +23,8 @@ use Rattle.grammar.specs.Reading.{Config, after, start, step, openIn, whole, sh
 use Rattle.grammar.proofs.Laws.Reading.{line-text, line-fits}
 use Rattle.grammar.proofs.Laws.Steps.{Steps, hop, steps-append, frontOf, lastOf}
 use Rattle.grammar.proofs.Laws.Balance.{one, Balanced, step-balanced, steps-balanced}
-use Rattle.grammar.proofs.Laws.Outcome.{Stopped, Opened, Wholly, Final, Stops, steps-prefix, steps-same, steps-open, from-start, text-steps, read-begins, begins-read}
+use Rattle.grammar.proofs.Laws.Outcome.{Stopped, Opened, Wholly, Final, Stops, steps-prefix, steps-same, steps-open, from-start, text-steps}
+use Rattle.grammar.proofs.Laws.Outcome.{read-begins, begins-read}
 
 -- a beginning of what can be read can be read
 pub steps-take : (n : ℕ) (a : List ℕ) (d : Config) (k : ℕ) → Steps n start a d → (x : Config) × Steps n start (take k a) x
@@ -48,13 +49,26 @@ no-step n a d b p e h =
 
 no-end : (n : ℕ) (s : List ℕ) (d : Config) → Steps n start s d → (Final d → ⊥) → LineText s → ⊥
 no-end n s d p f t =
-    let e : after (frontOf (t .line)) (lastOf (t .line)) [] ≡ d = steps-same (depth (t .line)) n start s (after (frontOf (t .line)) (lastOf (t .line)) []) d (text-steps s t) p in
+    let l = t .line in
+    let end = after (frontOf l) (lastOf l) [] in
+    let e : end ≡ d = steps-same (depth l) n start s end d (text-steps s t) p in
     f (subst Final e tt)
 
 line-begins : (s a r : List ℕ) → a ++ r ≡ s → LineText s → Begins a
 line-begins s a r e t = record { rest = r; whole = subst LineText (sym e) t }
 
+-- a byte behind which more brackets are open is `(`
+opens-byte : (c d : Config) (b : ℕ) → Balanced c b (some d) → length (openIn c) < length (openIn d) → eqb b 40 ≡ true
+opens-byte c d b h l = ⊎-elim (λ t. t) none (true-or (eqb b 40))
+  where
+    none : eqb b 40 ≡ false → eqb b 40 ≡ true
+    none t = let f : one (eqb b 40) ≡ 0 = ap one t in absurd (let z : ⊥ = omega arith in z)
+
 module _ (s : List ℕ) where
+  -- a beginning of the text, taken by its length
+  read-taken : (a r : List ℕ) (e : ℕ) → a ++ r ≡ s → e ≡ length a → take e s ≡ a
+  read-taken a r e t l = ap (take e) (sym t) ∙ take-at a r e (sym l)
+
   pub broken-breaks : (e : ℕ) → Stopped start 0 s e → Breaks s e
   broken-breaks e w = go (w .rest) (w .text) (w .stops)
     where
@@ -68,31 +82,38 @@ module _ (s : List ℕ) where
           let k = len in
           record {
             inside = omega arith;
-            begins = subst (λ (x : List ℕ). Begins (take e x)) t (subst Begins (sym (take-at (w .read) [] e (sym len))) (read-begins 8 (w .read) (w .there) (w .steps)));
+            begins =
+                subst (λ (x : List ℕ). Begins (take e x)) t
+                (subst Begins (sym (take-at (w .read) [] e (sym len))) (read-begins 8 (w .read) (w .there) (w .steps)));
             ends = λ q. absurd (let z : ⊥ = omega arith in z);
-            no-line = no-end 8 s (w .there) (subst (λ (x : List ℕ). Steps 8 start x (w .there)) (sym (append-nil (w .read)) ∙ t) (w .steps)) h;
+            no-line =
+                no-end 8 s (w .there) (subst (λ (x : List ℕ). Steps 8 start x (w .there)) (sym (append-nil (w .read)) ∙ t) (w .steps)) h;
           }
-        where
-          append-nil : (xs : List ℕ) → xs ++ [] ≡ xs
-          append-nil [] = refl
-          append-nil (x ∷ xs) = ap (λ (l : List ℕ). x ∷ l) (append-nil xs)
       go (b ∷ r) t h =
           let l : length (w .read ++ (b ∷ r)) ≡ length (w .read) + length (b ∷ r) = length-append (w .read) (b ∷ r) in
           let m = ap length t in
           let k = len in
-          let more : take (e + 1) s ≡ w .read ++ (b ∷ []) = ap (take (e + 1)) (sym t ∙ sym (append-assoc (w .read) (b ∷ []) r)) ∙ take-at (w .read ++ (b ∷ [])) r (e + 1) (let z = length-snoc (w .read) b in omega arith) in
+          let z = length-snoc (w .read) b in
+          let split : s ≡ (w .read ++ (b ∷ [])) ++ r = sym t ∙ sym (append-assoc (w .read) (b ∷ []) r) in
+          let more : take (e + 1) s ≡ w .read ++ (b ∷ []) = read-taken (w .read ++ (b ∷ [])) r (e + 1) (sym split) (omega arith) in
           record {
             inside = omega arith;
-            begins = subst (λ (x : List ℕ). Begins (take e x)) t (subst Begins (sym (take-at (w .read) (b ∷ r) e (sym len))) (read-begins 8 (w .read) (w .there) (w .steps)));
+            begins =
+                subst (λ (x : List ℕ). Begins (take e x)) t
+                (subst Begins (sym (take-at (w .read) (b ∷ r) e (sym len))) (read-begins 8 (w .read) (w .there) (w .steps)));
             ends = λ q x. no-step 8 (w .read) (w .there) b (w .steps) h (subst Begins more x);
-            no-line = λ x. no-step 8 (w .read) (w .there) b (w .steps) h (line-begins s (w .read ++ (b ∷ [])) r (append-assoc (w .read) (b ∷ []) r ∙ t) x);
+            no-line =
+                λ x. no-step 8 (w .read) (w .there) b (w .steps) h
+                (line-begins s (w .read ++ (b ∷ [])) r (append-assoc (w .read) (b ∷ []) r ∙ t) x);
           }
 
   -- where a beginning of length k is read, no bracket is too deep in it
   pub not-deep : (k : ℕ) (x : Config) → Steps 8 start (take k s) x → (q : ℕ) → q < k → Deep s q → ⊥
   not-deep k x p q l h =
       let y = steps-take 8 (take k s) x (q + 1) p in
-      let e : take (q + 1) (take k s) ≡ take q s ++ (40 ∷ []) = take-take (q + 1) k s (omega arith) ∙ ap (λ (n : ℕ). take n s) (add-one q) ∙ take-suc s q 0 (h .inside) ∙ ap (λ (b : ℕ). take q s ++ (b ∷ [])) (h .bracket) in
+      let next = ap (λ (n : ℕ). take n s) (add-one q) ∙ take-suc s q 0 (h .inside) in
+      let bracket = next ∙ ap (λ (b : ℕ). take q s ++ (b ∷ [])) (h .bracket) in
+      let e : take (q + 1) (take k s) ≡ take q s ++ (40 ∷ []) = take-take (q + 1) k s (omega arith) ∙ bracket in
       let z : Steps 8 start (take q s ++ (40 ∷ [])) (y .0) = subst (λ (t : List ℕ). Steps 8 start t (y .0)) e (y .1) in
       let few = steps-open 8 start (take q s ++ (40 ∷ [])) (y .0) (omega arith) z in
       let b = steps-balanced 8 start (take q s ++ (40 ∷ [])) (y .0) z in
@@ -105,30 +126,34 @@ module _ (s : List ℕ) where
   pub not-broken : (n k : ℕ) (x : Config) → Steps n start (take k s) x → k ≤ length s → (q : ℕ) → q < k → Breaks s q → ⊥
   not-broken n k x p m q l h =
       let y = steps-take n (take k s) x (q + 1) p in
-      h .ends (omega arith) (read-begins n (take (q + 1) s) (y .0) (subst (λ (t : List ℕ). Steps n start t (y .0)) (take-take (q + 1) k s (omega arith)) (y .1)))
-
-  read-taken : (a r : List ℕ) (e : ℕ) → a ++ r ≡ s → e ≡ length a → take e s ≡ a
-  read-taken a r e t l = ap (take e) (sym t) ∙ take-at a r e (sym l)
+      h .ends (omega arith)
+      (read-begins n (take (q + 1) s) (y .0) (subst (λ (t : List ℕ). Steps n start t (y .0)) (take-take (q + 1) k s (omega arith)) (y .1)))
 
   pub stopped-steps : (e : ℕ) (w : Stopped start 0 s e) → Steps 8 start (take e s) (w .there)
-  stopped-steps e w = subst (λ (x : List ℕ). Steps 8 start x (w .there)) (sym (read-taken (w .read) (w .rest) e (w .text) (let k = w .at in omega arith))) (w .steps)
+  stopped-steps e w =
+      subst (λ (x : List ℕ). Steps 8 start x (w .there)) (sym (read-taken (w .read) (w .rest) e (w .text) (let k = w .at in omega arith)))
+      (w .steps)
 
   -- a ninth bracket
   pub opened-deep : (e : ℕ) → Opened start 0 s e → Deep s e
   opened-deep e w =
       let len : e ≡ length (w .read) = let k = w .at in omega arith in
       let taken = read-taken (w .read) (w .byte ∷ w .rest) e (w .text) len in
-      let l : length (w .read ++ (w .byte ∷ w .rest)) ≡ length (w .read) + length (w .byte ∷ w .rest) = length-append (w .read) (w .byte ∷ w .rest) in
+      let l = length-append (w .read) (w .byte ∷ w .rest) in
       let m = ap length (w .text) in
-      let h : length (openIn (w .then)) + one (eqb (w .byte) 41) ≡ length (openIn (w .there)) + one (eqb (w .byte) 40) = subst (Balanced (w .there) (w .byte)) (w .goes) (step-balanced (w .there) (w .byte)) in
+      let balanced = Balanced (w .there) (w .byte) in
+      let h : balanced (some (w .then)) = subst balanced (w .goes) (step-balanced (w .there) (w .byte)) in
       let few = steps-open 8 start (w .read) (w .there) (omega arith) (w .steps) in
       let nine = w .ninth in
-      let is : eqb (w .byte) 40 ≡ true = ⊎-elim (λ t. t) (λ (t : eqb (w .byte) 40 ≡ false). absurd (let f : one (eqb (w .byte) 40) ≡ 0 = ap one t in let z : ⊥ = omega arith in z)) (true-or (eqb (w .byte) 40)) in
+      let is = opens-byte (w .there) (w .then) (w .byte) h (omega arith) in
       let b = steps-balanced 8 start (w .read) (w .there) (w .steps) in
       let up : one (eqb (w .byte) 40) ≡ 1 = ap one is in
       record {
         inside = omega arith;
-        bracket = ap (λ (x : List ℕ). getD x e 0) (sym (w .text)) ∙ getD-at (w .read) (w .byte) (w .rest) 0 e (sym len) ∙ eqb-true (w .byte) 40 is;
+        bracket =
+            ap (λ (x : List ℕ). getD x e 0) (sym (w .text))
+            ∙ getD-at (w .read) (w .byte) (w .rest) 0 e (sym len)
+            ∙ eqb-true (w .byte) 40 is;
         eight = rw taken (omega arith);
       }
 
@@ -137,7 +162,8 @@ module _ (s : List ℕ) where
   opened-steps e w =
       let len : e ≡ length (w .read) = let k = w .at in omega arith in
       subst (λ (x : List ℕ). Steps (length (openIn (w .then)) + 8) start x (w .then))
-      (sym (take-at (w .read ++ (w .byte ∷ [])) (w .rest) (e + 1) (let z = length-snoc (w .read) (w .byte) in omega arith)) ∙ ap (take (e + 1)) (append-assoc (w .read) (w .byte ∷ []) (w .rest) ∙ w .text))
+      (sym (take-at (w .read ++ (w .byte ∷ [])) (w .rest) (e + 1) (let z = length-snoc (w .read) (w .byte) in omega arith))
+      ∙ ap (take (e + 1)) (append-assoc (w .read) (w .byte ∷ []) (w .rest) ∙ w .text))
       (steps-append (length (openIn (w .then)) + 8) start (w .read) (w .there) (w .byte ∷ []) (w .then)
       (steps-more 8 (length (openIn (w .then)) + 8) start (w .read) (w .there) (omega arith) (w .steps))
       (hop (length (openIn (w .then)) + 8) (w .there) (w .byte) (w .then) (w .goes) (omega arith)))
@@ -145,5 +171,7 @@ module _ (s : List ℕ) where
   pub whole-line : (l : Line) → Wholly start s l → Fits l × (written l ≡ s)
   unfolding shown
   whole-line l w =
-      let r = from-start 8 s (after (w .front) (w .part) []) (w .steps) in
-      (subst Fits (w .line) (line-fits (w .front) (w .part) (r .1 .0) (r .1 .1)), ap written (sym (w .line)) ∙ line-text (w .front) (w .part) ∙ r .0)
+      let r = from-start 8 s (after (w .front) (w .part) []) (w .steps) in (
+        subst Fits (w .line) (line-fits (w .front) (w .part) (r .1 .0) (r .1 .1)),
+        ap written (sym (w .line)) ∙ line-text (w .front) (w .part) ∙ r .0,
+      )

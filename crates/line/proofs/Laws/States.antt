@@ -26,7 +26,8 @@ use Rattle.line.specs.declared.steps.Grown.the-variants.{Value, Not}
 use Rattle.grammar.specs.Grammar.{Condition, Figure, arity, mostOf}
 use Rattle.grammar.specs.Reading as reading
 use Rattle.grammar.specs.Reading.{grown, grows, stepIn}
-use Rattle.line.specs.Inner.States.{NumberMost, LastMost, grownBy, endingState, stepListing, stepCounting, stepState, stateOf, wordsIn, voiceWords, conditionWords, anotherState}
+use Rattle.line.specs.Inner.States.{NumberMost, LastMost, grownBy, endingState, stepListing, stepCounting, stepState, stateOf}
+use Rattle.line.specs.Inner.States.{wordsIn, voiceWords, conditionWords, anotherState}
 use Rattle.grammar.proofs.Laws.Reading.{PartialFits}
 
 module _ (most : ℕ) (b : ℕ) where
@@ -41,7 +42,9 @@ module _ (most : ℕ) (b : ℕ) where
   module _ (low : 48 ≤ b) (high : b ≤ 57) where
     pub grow-fresh-over : (d : ℕ) → d ≡ b - 48 → most < d → grownBy most Fresh b ≡ Not
     unfolding grows
-    grow-fresh-over d e h = let l : most < grown Fresh b = omega arith in rw (le-leb 48 b low, le-leb b 57 high, lt-leb (grown Fresh b) most l)
+    grow-fresh-over d e h =
+        let l : most < grown Fresh b = omega arith in
+        rw (le-leb 48 b low, le-leb b 57 high, lt-leb (grown Fresh b) most l)
 
     pub grow-fresh : (d : ℕ) → d ≡ b - 48 → d ≤ most → grownBy most Fresh b ≡ Value d
     unfolding grows
@@ -211,12 +214,14 @@ Follows f reading.stuck (Closes w) = ⊥
 Follows f reading.stuck Stuck = Unit
 
 -- two choices by one test
-both-ways : {A B : Type 0} (P : A → B → Type 0) (t : Bool) (x y : A) (u v : B) → (t ≡ true → P x u) → (t ≡ false → P y v) → P (cond t x y) (cond t u v)
+both-ways : {A B : Type 0} (P : A → B → Type 0) (t : Bool) (x y : A) (u v : B) → (t ≡ true → P x u) → (t ≡ false → P y v)
+    → P (cond t x y) (cond t u v)
 both-ways P true x y u v f g = f refl
 both-ways P false x y u v f g = g refl
 
 -- behind the last number of a list or of a condition
-ending-follows : (f : reading.Partial) (x : Figure) (r : Row) (w : Words) (b : ℕ) → wordsIn r ≡ w → openRows (patternOf x) ≡ partialRows f ++ (r ∷ []) → Follows f (reading.ending x b) (endingState w b)
+ending-follows : (f : reading.Partial) (x : Figure) (r : Row) (w : Words) (b : ℕ) → wordsIn r ≡ w
+    → openRows (patternOf x) ≡ partialRows f ++ (r ∷ []) → Follows f (reading.ending x b) (endingState w b)
 ending-follows f x r w b e h =
     both-ways (Follows f) (eqb b 59) _ _ _ _
     (λ t. record { state = refl; row = r; words = e; rows = h })
@@ -227,14 +232,17 @@ ending-follows f x r w b e h =
 lists-follow : (ns : List ℕ) (n : ℕ) → openRows (patternOf (reading.firstLists (reading.behind ns n))) ≡ map voice ns ++ (voice n ∷ [])
 lists-follow ns n = append-nil (map voice (reading.behind ns n)) ∙ map-append voice ns (n ∷ [])
 
-condition-follow : (f : Figure) (w : Word) (ns : List ℕ) → openRows (patternOf (reading.withCondition f w ns)) ≡ openRows (patternOf f) ++ (condition (predicateBy w ns) ∷ [])
+condition-follow : (f : Figure) (w : Word) (ns : List ℕ)
+    → openRows (patternOf (reading.withCondition f w ns)) ≡ openRows (patternOf f) ++ (condition (predicateBy w ns) ∷ [])
 condition-follow f w ns =
-    ap (λ (l : List Predicate). map voice (f .lists) ++ map condition l) (map-append predicateOf (f .conditions) (record { word = w; numbers = ns } ∷ []))
+    ap (λ (l : List Predicate). map voice (f .lists) ++ map condition l)
+    (map-append predicateOf (f .conditions) (record { word = w; numbers = ns } ∷ []))
     ∙ ap (λ (l : List Row). map voice (f .lists) ++ l) (map-append condition (map predicateOf (f .conditions)) (predicateBy w ns ∷ []))
     ∙ sym (append-assoc (map voice (f .lists)) (map condition (map predicateOf (f .conditions))) (condition (predicateBy w ns) ∷ []))
 
 -- the words of a condition from its numbers
-words-follow : (w : Word) (ns : List ℕ) (n : ℕ) → length ns + 1 ≡ arity w → wordsIn (condition (predicateBy w (reading.behind ns n))) ≡ conditionWords w (getD ns 0 0) (getD ns 1 0) (getD ns 2 0) n
+words-follow : (w : Word) (ns : List ℕ) (n : ℕ) → length ns + 1 ≡ arity w
+    → wordsIn (condition (predicateBy w (reading.behind ns n))) ≡ conditionWords w (getD ns 0 0) (getD ns 1 0) (getD ns 2 0) n
 words-follow word.Near (a ∷ b ∷ []) n e = refl
 words-follow word.Near [] n e = absurd (let z : ⊥ = omega arith in z)
 words-follow word.Near (a ∷ []) n e = absurd (let z : ⊥ = omega arith in z)
@@ -261,33 +269,45 @@ few word.Span = omega arith
 few word.Apart = omega arith
 
 another-follows : (f : Figure) (w : Word) (ns : List ℕ) (n b : ℕ) → length ns + 1 < arity w
-    → Follows (reading.counting f w ns (Digits n)) (cond (eqb b 32) (reading.goes (reading.counting f w (reading.behind ns n) Fresh)) reading.stuck) (anotherState w (length ns) (getD ns 0 0) (getD ns 1 0) (getD ns 2 0) n b)
-another-follows f w [] n b l = both-ways (Follows (reading.counting f w [] (Digits n))) (eqb b 32) _ _ _ _ (λ t. record { state = refl; rows = refl }) (λ t. tt)
-another-follows f w (x ∷ []) n b l = both-ways (Follows (reading.counting f w (x ∷ []) (Digits n))) (eqb b 32) _ _ _ _ (λ t. record { state = refl; rows = refl }) (λ t. tt)
+    → Follows (reading.counting f w ns (Digits n))
+    (cond (eqb b 32) (reading.goes (reading.counting f w (reading.behind ns n) Fresh)) reading.stuck)
+    (anotherState w (length ns) (getD ns 0 0) (getD ns 1 0) (getD ns 2 0) n b)
+another-follows f w [] n b l =
+    both-ways (Follows (reading.counting f w [] (Digits n))) (eqb b 32) _ _ _ _ (λ t. record { state = refl; rows = refl }) (λ t. tt)
+another-follows f w (x ∷ []) n b l =
+    both-ways (Follows (reading.counting f w (x ∷ []) (Digits n))) (eqb b 32) _ _ _ _ (λ t. record { state = refl; rows = refl }) (λ t. tt)
 another-follows f w (x ∷ y ∷ []) n b l =
-    both-ways (Follows (reading.counting f w (x ∷ y ∷ []) (Digits n))) (eqb b 32) _ _ _ _ (λ t. record { state = refl; rows = refl }) (λ t. tt)
+    both-ways (Follows (reading.counting f w (x ∷ y ∷ []) (Digits n))) (eqb b 32) _ _ _ _ (λ t. record { state = refl; rows = refl })
+    (λ t. tt)
 another-follows f w (x ∷ y ∷ z ∷ ns) n b l = absurd (let z : ⊥ = omega (arith, few w) in z)
 
 pub step-follows : (f : reading.Partial) (b : ℕ) → PartialFits f → Follows f (stepIn f b) (stepState (stateOf f) b)
 unfolding stepIn
-step-follows (reading.listing ns Fresh) b h = both-ways (Follows (reading.listing ns Fresh)) (grows 65536 Fresh b) _ _ _ _ (λ t. record { state = refl; rows = refl }) (λ t. tt)
+step-follows (reading.listing ns Fresh) b h =
+    both-ways (Follows (reading.listing ns Fresh)) (grows 65536 Fresh b) _ _ _ _ (λ t. record { state = refl; rows = refl }) (λ t. tt)
 step-follows (reading.listing ns (Digits n)) b h =
     both-ways (Follows (reading.listing ns (Digits n))) (grows 65536 (Digits n) b) _ _ _ _ (λ t. record { state = refl; rows = refl })
     (λ t. both-ways (Follows (reading.listing ns (Digits n))) (eqb b 32) _ _ _ _
     (λ u. record { state = refl; row = voice n; words = refl; rows = map-append voice ns (n ∷ []) })
-    (λ u. ending-follows (reading.listing ns (Digits n)) (reading.firstLists (reading.behind ns n)) (voice n) (voiceWords n) b refl (lists-follow ns n)))
+    (λ u. ending-follows (reading.listing ns (Digits n)) (reading.firstLists (reading.behind ns n)) (voice n) (voiceWords n) b refl
+    (lists-follow ns n)))
 step-follows (reading.semicolon f) b h =
     both-ways (Follows (reading.semicolon f)) (eqb b 110) _ _ _ _ (λ t. record { state = refl; rows = refl })
     (λ t. both-ways (Follows (reading.semicolon f)) (eqb b 98) _ _ _ _ (λ u. record { state = refl; rows = refl })
     (λ u. both-ways (Follows (reading.semicolon f)) (eqb b 116) _ _ _ _ (λ u. record { state = refl; rows = refl })
     (λ u. both-ways (Follows (reading.semicolon f)) (eqb b 115) _ _ _ _ (λ u. record { state = refl; rows = refl })
     (λ u. both-ways (Follows (reading.semicolon f)) (eqb b 97) _ _ _ _ (λ u. record { state = refl; rows = refl }) (λ u. tt)))))
-step-follows (reading.lettered f w) b h = both-ways (Follows (reading.lettered f w)) (eqb b 32) _ _ _ _ (λ t. record { state = refl; rows = refl }) (λ t. tt)
-step-follows (reading.counting f w ns Fresh) b h = both-ways (Follows (reading.counting f w ns Fresh)) (grows (mostOf w (length ns)) Fresh b) _ _ _ _ (λ t. record { state = refl; rows = refl }) (λ t. tt)
+step-follows (reading.lettered f w) b h =
+    both-ways (Follows (reading.lettered f w)) (eqb b 32) _ _ _ _ (λ t. record { state = refl; rows = refl }) (λ t. tt)
+step-follows (reading.counting f w ns Fresh) b h =
+    both-ways (Follows (reading.counting f w ns Fresh)) (grows (mostOf w (length ns)) Fresh b) _ _ _ _
+    (λ t. record { state = refl; rows = refl }) (λ t. tt)
 step-follows (reading.counting f w ns (Digits n)) b h =
-    both-ways (Follows (reading.counting f w ns (Digits n))) (grows (mostOf w (length ns)) (Digits n) b) _ _ _ _ (λ t. record { state = refl; rows = refl })
+    both-ways (Follows (reading.counting f w ns (Digits n))) (grows (mostOf w (length ns)) (Digits n) b) _ _ _ _
+    (λ t. record { state = refl; rows = refl })
     (λ t. both-ways (Follows (reading.counting f w ns (Digits n))) (ltb (length ns + 1) (arity w)) _ _ _ _
     (λ u. another-follows f w ns n b (ltb-true (length ns + 1) (arity w) u))
-    (λ u. ending-follows (reading.counting f w ns (Digits n)) (reading.withCondition f w (reading.behind ns n)) (condition (predicateBy w (reading.behind ns n))) _ b
+    (λ u. ending-follows (reading.counting f w ns (Digits n)) (reading.withCondition f w (reading.behind ns n))
+    (condition (predicateBy w (reading.behind ns n))) _ b
     (words-follow w ns n (let l = ltb-false (length ns + 1) (arity w) u in let r = h .room in omega arith))
     (condition-follow f w (reading.behind ns n))))

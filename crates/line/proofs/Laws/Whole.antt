@@ -80,7 +80,8 @@ read-answered s room n e = record {
   rows = ap rowsOf w ∙ line-back (r .line) (t .0);
   truth = λ v d. ap (λ (p : List ℕ). work v p .isTrue d) w ∙ line-truth v (r .line) d (t .0);
   back = subst (λ (p : List ℕ). (planText p ≡ s) ↔ ((t : List ℕ) → Spare (r .line) t → ⊥)) (sym w)
-      (subst (λ (x : List ℕ). (planText (planOf (lineRows (r .line))) ≡ x) ↔ ((t : List ℕ) → Spare (r .line) t → ⊥)) (t .1) (comes-back (r .line) (t .0)));
+      (subst (λ (x : List ℕ). (planText (planOf (lineRows (r .line))) ≡ x) ↔ ((t : List ℕ) → Spare (r .line) t → ⊥)) (t .1)
+      (comes-back (r .line) (t .0)));
 }
   where
     r : Line-read s n

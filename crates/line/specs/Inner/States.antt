@@ -45,7 +45,12 @@ grownBy most x b = cond (grows most x b) (Value (grown x b)) Not
 
 -- the words of a row
 abbrev pub wordsIn : Row → Words
-wordsIn r = record { kind = getD (wordsOf (r .kind)) 0 0; a = getD (wordsOf (r .kind)) 1 0; b = getD (wordsOf (r .kind)) 2 0; c = getD (wordsOf (r .kind)) 3 0 }
+wordsIn r = record {
+  kind = getD (wordsOf (r .kind)) 0 0;
+  a = getD (wordsOf (r .kind)) 1 0;
+  b = getD (wordsOf (r .kind)) 2 0;
+  c = getD (wordsOf (r .kind)) 3 0;
+}
 
 abbrev pub voiceWords : ℕ → Words
 voiceWords list = record { kind = 1; a = list; b = 0; c = 0 }
@@ -63,7 +68,9 @@ endingState ws b = cond (eqb b 59) (Emits ws Semicolon) (cond (eqb b 93) (Closes
 
 abbrev pub stepListing : Number → ℕ → Next
 stepListing Fresh b = cond (grows 65536 Fresh b) (Goes (Listing (Digits (grown Fresh b)))) Stuck
-stepListing (Digits n) b = cond (grows 65536 (Digits n) b) (Goes (Listing (Digits (grown (Digits n) b)))) (cond (eqb b 32) (Emits (voiceWords n) (Listing Fresh)) (endingState (voiceWords n) b))
+stepListing (Digits n) b =
+    cond (grows 65536 (Digits n) b) (Goes (Listing (Digits (grown (Digits n) b))))
+    (cond (eqb b 32) (Emits (voiceWords n) (Listing Fresh)) (endingState (voiceWords n) b))
 
 abbrev pub stepSemicolon : ℕ → Next
 stepSemicolon b =

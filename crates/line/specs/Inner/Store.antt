@@ -14,7 +14,9 @@ use Rattle.grammar.specs.Meaning.{patternOf}
 use Rattle.grammar.specs.Reading.{Partial, listing, semicolon, lettered, counting}
 
 unfoldable pub putWords : List ℕ → ℕ → Words → List ℕ
-putWords out n w = cond (leb (4 * n + 4) (length out)) (set (set (set (set out (4 * n) (w .kind)) (4 * n + 1) (w .a)) (4 * n + 2) (w .b)) (4 * n + 3) (w .c)) out
+putWords out n w =
+    cond (leb (4 * n + 4) (length out))
+    (set (set (set (set out (4 * n) (w .kind)) (4 * n + 1) (w .a)) (4 * n + 2) (w .b)) (4 * n + 3) (w .c)) out
 
 -- rows from row n on
 unfoldable pub stored : List ℕ → ℕ → List Row → List ℕ
@@ -24,7 +26,8 @@ stored out n (r ∷ rs) = stored (putWords out n (wordsIn r)) (n + 1) rs
 
 -- the rows of a pattern without END
 abbrev pub openRows : Pattern → List Row
-openRows f = map (λ (l : ℕ). record { kind = kind.Voice l }) (f .vars) ++ map (λ (c : Predicate). record { kind = kind.Condition c }) (f .predicates)
+openRows f =
+    map (λ (l : ℕ). record { kind = kind.Voice l }) (f .vars) ++ map (λ (c : Predicate). record { kind = kind.Condition c }) (f .predicates)
 
 -- the whole rows of a pattern so far
 abbrev pub partialRows : Partial → List Row
