@@ -1,6 +1,7 @@
 -- The laws of `specs/`. No contract cites these files.
 --     Cases       examples, computed
 --     Text        numbers as a line has them
+--     Limits      how many numbers a condition has, and how large
 --     Query       rows and trees: what a line says, and the line of a tree
 --     Words       the words of rows, and their truth
 --     Reading     what has been read is what the text says
@@ -14,6 +15,7 @@
 --     Bounds      the line of an accepted plan keeps to the limits
 pub mod Cases
 pub mod Text
+pub mod Limits
 pub mod Query
 pub mod Words
 pub mod Reading

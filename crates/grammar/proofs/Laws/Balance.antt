@@ -10,12 +10,12 @@ use lib.ListN.{length}
 use borrow.Author.Tests.{eqb-true, ne-eqb}
 use Rattle.seq.specs.Lists.{keep, consIf}
 use Rattle.grammar.specs.Grammar as g
-use Rattle.grammar.specs.Grammar.{Figure, Item, Line, arity, mostOf}
+use Rattle.grammar.specs.Grammar.{Figure, Line, arity, mostOf}
 use Rattle.grammar.specs.Reading.{Number, fresh, digits, grows, Partial, listing, semicolon, lettered, counting, Next, goes, closes}
-use Rattle.grammar.specs.Reading.{stuck, firstLists, withCondition, behind, ending, stepIn, Place, first, next, Config, ready, inside}
-use Rattle.grammar.specs.Reading.{after, lineOf, placed, shut, within, step, openIn}
+use Rattle.grammar.specs.Reading.{stuck, firstLists, withCondition, behind, ending, stepIn, Place, Config, ready, inside}
+use Rattle.grammar.specs.Reading.{after, lineOf, shut, within, step, openIn}
 use Rattle.grammar.proofs.Laws.Reading.{split, grows-tells}
-use Rattle.grammar.proofs.Laws.Steps.{Steps}
+use Rattle.grammar.proofs.Laws.Steps.{Steps, placed-open}
 
 -- a byte that opens or closes no bracket
 abbrev Plain : ℕ → Type 0
@@ -68,10 +68,6 @@ one t = cond t 1 0
 abbrev pub Balanced : Config → ℕ → Option Config → Type 0
 Balanced c b none = Unit
 Balanced c b (some d) = length (openIn d) + one (eqb b 41) ≡ length (openIn c) + one (eqb b 40)
-
-placed-open : (p : Place) (i : Item) (ps : List Place) → openIn (placed p i ps) ≡ ps
-placed-open (first f) i ps = refl
-placed-open (next f q j) i ps = refl
 
 inside-balanced : (f : Next) (p : Place) (ps : List Place) (b : ℕ) (x : Partial) → PlainNext b f
     → Balanced (inside x p ps) b (within f p ps)

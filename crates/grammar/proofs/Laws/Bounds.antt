@@ -33,13 +33,14 @@ use Rattle.seq.specs.Decimal.{decimal}
 use Rattle.grammar.specs.Text.{lead}
 use Rattle.grammar.specs.Grammar as g
 use Rattle.grammar.specs.Grammar.{Condition, Line, conditionText, openText, figureText, written, partText, itemText, ConditionFits}
-use Rattle.grammar.specs.Grammar.{FigureFits, Fits, PartFits, ItemFits, noCondition, arity, mostOf, Within}
+use Rattle.grammar.specs.Grammar.{FigureFits, Fits, PartFits, ItemFits, noCondition, mostOf, Within}
 use Rattle.grammar.specs.Brackets.{depth, partDepth, itemDepth}
 use Rattle.grammar.specs.Meaning.{operatorRow}
 use Rattle.grammar.specs.Query.{Query, leaf, node, queryRows, queryOf, conditionOf, figureOf, typed, planLine, planText}
 use Rattle.grammar.specs.Reading.{Config, after, start, openIn, whole, deep, outcome, reading, continued}
 use Rattle.grammar.specs.Words.{wordsBy, wordsOfLine}
 use Rattle.grammar.specs.Demands.{PlanLine}
+use Rattle.grammar.proofs.Laws.Limits.{few, most-small}
 use Rattle.grammar.proofs.Laws.Query.{voice, condition, end, typed-back, typed-rows, fewest as fewest-rounds}
 use Rattle.grammar.proofs.Laws.Brackets.{line-opens}
 use Rattle.grammar.proofs.Laws.Spare.{tight, none-spare, line-tree}
@@ -227,37 +228,11 @@ lead-length b (n ∷ ns) h =
     let e = length-append (b ∷ decimal n) (lead 32 ns) in
     omega arith
 
-small : (w : g.Word) (k : ℕ) → mostOf w k ≤ 65536
-small g.near zero = omega arith
-small g.near (suc zero) = omega arith
-small g.near (suc (suc zero)) = omega arith
-small g.near (suc (suc (suc k))) = omega arith
-small g.before zero = omega arith
-small g.before (suc zero) = omega arith
-small g.before (suc (suc k)) = omega arith
-small g.same zero = omega arith
-small g.same (suc zero) = omega arith
-small g.same (suc (suc k)) = omega arith
-small g.span zero = omega arith
-small g.span (suc k) = omega arith
-small g.apart zero = omega arith
-small g.apart (suc zero) = omega arith
-small g.apart (suc (suc zero)) = omega arith
-small g.apart (suc (suc (suc zero))) = omega arith
-small g.apart (suc (suc (suc (suc k)))) = omega arith
-
-few : (w : g.Word) → arity w ≤ 4
-few g.near = omega arith
-few g.before = omega arith
-few g.same = omega arith
-few g.span = omega arith
-few g.apart = omega arith
-
 condition-length : (c : Condition) → ConditionFits c → length (conditionText c) ≤ 26
 condition-length c h =
     let n = h .count in
     let a = few (c .word) in
-    let l = lead-length 32 (c .numbers) (λ i k. let m = h .within i k in let s = small (c .word) i in omega arith) in
+    let l = lead-length 32 (c .numbers) (λ i k. let m = h .within i k in let s = most-small (c .word) i in omega arith) in
     omega arith
 
 conditions-length : (cs : List Condition) → ((i : ℕ) → i < length cs → ConditionFits (getD cs i noCondition))

@@ -9,9 +9,11 @@ use mathlib.Core.Bool.{Bool}
 use mathlib.Core.Logic.{⊎-elim}
 use mathlib.Core.List.{List, [], _∷_, _++_, map}
 use lib.Dec.{eqb}
+use lib.ListN.{length, length-append}
 use borrow.Author.Tests.{ne-eqb}
 use Rattle.seq.specs.Lists.{keep, joined}
 use Rattle.seq.proofs.Laws.Tests.{below-or}
+use Rattle.seq.proofs.Laws.Keep.{keep-append}
 use Rattle.seq.specs.Decimal.{digit, decimalF, decimal}
 use Rattle.grammar.specs.Text.{lead}
 use Rattle.grammar.specs.Grammar as g
@@ -25,9 +27,8 @@ opens-cons : (b : ℕ) (s : List ℕ) → opens (b ∷ s) ≡ one (eqb b 40) + o
 opens-cons b s = keep-cons (λ x. eqb x 40) b s
 
 pub opens-append : (s r : List ℕ) → opens (s ++ r) ≡ opens s + opens r
-unfolding keep
-opens-append [] r = omega arith
-opens-append (b ∷ s) r = let e = opens-append s r in let x = opens-cons b (s ++ r) in let y = opens-cons b s in omega arith
+opens-append s r =
+    ap length (keep-append (λ b. eqb b 40) s r) ∙ length-append (keep (λ b. eqb b 40) s) (keep (λ b. eqb b 40) r)
 
 other : (b : ℕ) (s : List ℕ) → (b ≡ 40 → ⊥) → opens (b ∷ s) ≡ opens s
 other b s h = opens-cons b s ∙ ap (λ (t : Bool). one t + opens s) (ne-eqb b 40 h) ∙ (let z : 0 + opens s ≡ opens s = omega arith in z)

@@ -122,8 +122,8 @@ unfolding outcome
 letter-for-number = refl
 
 -- `[1 2;a 0 1 65535 65535]`: the limit of APART's least and most
-apart-at-limit : told (reading (91 ∷ 49 ∷ 32 ∷ 50 ∷ 59 ∷ 97 ∷ 32 ∷ 48 ∷ 32 ∷ 49 ∷ 32 ∷ 54 ∷ 53 ∷ 53 ∷ 51 ∷ 53 ∷ 32 ∷ 54 ∷ 53 ∷ 53 ∷ 51 ∷ 53 ∷ 93 ∷ []))
-    ≡ 0 ∷ []
+apart-at-limit : told (reading (91 ∷ 49 ∷ 32 ∷ 50 ∷ 59 ∷ 97 ∷ 32 ∷ 48 ∷ 32 ∷ 49 ∷ 32 ∷ 54 ∷ 53 ∷ 53 ∷ 51 ∷ 53 ∷ 32
+    ∷ 54 ∷ 53 ∷ 53 ∷ 51 ∷ 53 ∷ 93 ∷ [])) ≡ 0 ∷ []
 unfolding outcome
 apart-at-limit = refl
 

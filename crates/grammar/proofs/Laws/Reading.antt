@@ -3,14 +3,14 @@ use Prim.Native.Nat.{ℕ, zero, suc, _+_, _-_, _<_, _≤_}
 use native.Mathlib.Omega.{arith}
 use mathlib.Core.Path.{_≡_, refl, sym, ap, _∙_}
 use mathlib.Core.Bool.{Bool, true, false, cond, _&&_}
-use mathlib.Core.List.{List, [], _∷_, _++_, map, append-assoc, append-nil}
+use mathlib.Core.List.{List, [], _∷_, _++_, map, map-append, append-assoc, append-nil}
 use mathlib.Core.Option.{Option, none, some}
 use lib.Dec.{eqb, leb, ltb}
 use lib.ListN.{length}
 use borrow.Author.Tests.{ltb-true, ltb-false, leb-true, eqb-true}
 use Rattle.seq.specs.Lists.{joined}
 use Rattle.seq.proofs.Laws.Tests.{both}
-use Rattle.seq.proofs.Laws.Lists.{each-snoc, length-snoc}
+use Rattle.seq.proofs.Laws.Lists.{joined-append, each-snoc, length-snoc}
 use Rattle.seq.specs.Decimal.{digit, decimal}
 use Rattle.grammar.specs.Text.{lead, gapAfter}
 use Rattle.grammar.specs.Grammar as g
@@ -22,7 +22,8 @@ use Rattle.grammar.specs.Reading.{counting, Next, goes, closes, stuck, f
 use Rattle.grammar.specs.Reading.{eithers, Place, first, next, Config, ready, inside, after, lineOf, placed, shut, within, step}
 use Rattle.grammar.specs.Reading.{numberText, partialText, frontText, placeText, openedText, shown}
 use Rattle.seq.proofs.Laws.Decimal.{decimal-digit, decimal-grow}
-use Rattle.grammar.proofs.Laws.Text.{lead-behind}
+use Rattle.grammar.proofs.Laws.Text.{gap-32, lead-behind}
+use Rattle.grammar.proofs.Laws.Limits.{some-arity}
 
 -- a statement on either branch
 pub split : {A : Type 0} (P : A → Type 0) (t : Bool) (x y : A) → (t ≡ true → P x) → (t ≡ false → P y) → P (cond t x y)
@@ -124,10 +125,10 @@ open-lists ns = append-nil (lead 91 ns)
 map-snoc : (cs : List Condition) (c : Condition)
     → joined (map conditionText (cs ++ (c ∷ []))) ≡ joined (map conditionText cs) ++ conditionText c
 unfolding joined
-map-snoc [] c = append-nil (conditionText c)
-map-snoc (d ∷ cs) c =
-    ap (λ (l : List ℕ). conditionText d ++ l) (map-snoc cs c)
-    ∙ sym (append-assoc (conditionText d) (joined (map conditionText cs)) (conditionText c))
+map-snoc cs c =
+    ap joined (map-append conditionText cs (c ∷ []))
+    ∙ joined-append (map conditionText cs) (conditionText c ∷ [])
+    ∙ ap (λ (l : List ℕ). joined (map conditionText cs) ++ l) (append-nil (conditionText c))
 
 open-condition : (f : Figure) (w : Word) (ns : List ℕ) → openText (withCondition f w ns) ≡ openText f ++ (59 ∷ letterOf w ∷ lead 32 ns)
 unfolding openText
@@ -142,10 +143,6 @@ ending-told f b h =
     (λ e. (ap (λ (k : ℕ). openText f ++ (k ∷ [])) (sym (eqb-true b 59 e)), h))
     (λ n. split (NextTold (openText f ++ (b ∷ []))) (eqb b 93) _ _
     (λ e. (ap (λ (k : ℕ). openText f ++ (k ∷ [])) (sym (eqb-true b 93 e)), h)) (λ m. tt))
-
-gap-32 : (ns : List ℕ) → gapAfter 32 ns ≡ 32
-gap-32 [] = refl
-gap-32 (x ∷ xs) = refl
 
 gap-behind : (a : ℕ) (ns : List ℕ) (n : ℕ) → gapAfter a (behind ns n) ≡ 32
 gap-behind a [] n = refl
@@ -185,16 +182,9 @@ stepIn-told (lettered f w) b h =
     (λ e. (
       ap (λ (k : ℕ). openText f ++ (59 ∷ letterOf w ∷ k ∷ [])) (sym (eqb-true b 32 e))
           ∙ sym (append-assoc (openText f) (59 ∷ letterOf w ∷ []) (b ∷ [])),
-      record { of = h; room = some w; numbers = λ i l. absurd (let z : ⊥ = omega arith in z); last = tt },
+      record { of = h; room = some-arity w; numbers = λ i l. absurd (let z : ⊥ = omega arith in z); last = tt },
     ))
     (λ e. tt)
-  where
-    some : (w : Word) → 0 < arity w
-    some g.near = omega arith
-    some g.before = omega arith
-    some g.same = omega arith
-    some g.span = omega arith
-    some g.apart = omega arith
 stepIn-told (counting f w ns fresh) b h =
     let most = mostOf w (length ns) in
     split (NextTold ((openText f ++ (59 ∷ letterOf w ∷ numberText 32 ns fresh)) ++ (b ∷ []))) (grows most fresh b) _ _

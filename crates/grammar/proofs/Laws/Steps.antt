@@ -23,6 +23,7 @@ use Rattle.grammar.specs.Reading.{Number, fresh, digits, grown, grows, m
 use Rattle.grammar.specs.Reading.{counting, Next, goes, closes, firstLists, withCondition, behind, stepIn, Front, bare, eithers}
 use Rattle.grammar.specs.Reading.{Place, first, next, Config, ready, inside, after, lineOf, placed, within, step, openIn}
 use Rattle.seq.proofs.Laws.Decimal.{decimal-one, decimal-more}
+use Rattle.grammar.proofs.Laws.Limits.{some-arity}
 
 -- from c the text s leads to d, with never more than n brackets open
 unfoldable pub Steps : ℕ → Config → List ℕ → Config → Type 0
@@ -42,6 +43,11 @@ pub steps-append : (n : ℕ) (c : Config) (s : List ℕ) (d : Config) (r : List 
 unfolding Steps
 steps-append n c [] d r e p q = subst (λ (x : Config). Steps n x r e) (sym p) q
 steps-append n c (b ∷ s) d r e p q = (p .0, p .1, p .2, steps-append n (p .0) s d r e (p .3) q)
+
+-- an item at its place leaves the open brackets as they are
+pub placed-open : (p : Place) (i : Item) (ps : List Place) → openIn (placed p i ps) ≡ ps
+placed-open (first f) i ps = refl
+placed-open (next f q j) i ps = refl
 
 -- in a figure
 module _ (n : ℕ) (p : Place) (ps : List Place) (room : length ps ≤ n) where
@@ -269,17 +275,6 @@ module _ (n : ℕ) (p : Place) (ps : List Place) (room : length ps ≤ n) where
             steps-append n (inside x p ps) (conditionText c) (inside (a .at) p ps) (joined (map conditionText cs)) (inside (b .at) p ps)
             (a .steps) (b .steps);
       }
-    where
-      some-arity : (w : Word) → 1 ≤ arity w
-      some-arity g.near = omega arith
-      some-arity g.before = omega arith
-      some-arity g.same = omega arith
-      some-arity g.span = omega arith
-      some-arity g.apart = omega arith
-
-  placed-open : (q : Place) (i : Item) → openIn (placed q i ps) ≡ ps
-  placed-open (first f) i = refl
-  placed-open (next f q j) i = refl
 
   figure-steps : (f : Figure) → FigureFits f → Steps n (ready p ps) (figureText f) (placed p (g.figure f) ps)
   unfolding figureText openText step
@@ -290,7 +285,7 @@ module _ (n : ℕ) (p : Place) (ps : List Place) (room : length ps ≤ n) where
       (steps-append n (ready p ps) (lead 91 (f .lists)) (inside (a .at) p ps) (joined (map conditionText (f .conditions)))
       (inside (b .at) p ps) (a .steps) (b .steps))
       (hop n (inside (b .at) p ps) 93 (placed p (g.figure f) ps) (ap (λ (x : Next). within x p ps) (b .whole .end))
-      (rw (placed-open p (g.figure f)) room))
+      (rw (placed-open p (g.figure f) ps) room))
 
 -- a line, taken apart at its last part
 abbrev pub frontOf : Line → Front
@@ -356,4 +351,4 @@ mutual
       (steps-append n (ready (first bare) (p ∷ ps)) (written l) (after (frontOf l) (lastOf l) (p ∷ ps)) (41 ∷ []) (placed p (g.round l) ps)
       (line-steps l n (p ∷ ps) h (omega arith))
       (hop n (after (frontOf l) (lastOf l) (p ∷ ps)) 41 (placed p (g.round l) ps) (shut-step l p ps)
-      (rw (placed-open n p ps (omega arith) p (g.round l)) (omega arith))))
+      (rw (placed-open p (g.round l) ps) (omega arith))))

@@ -5,14 +5,15 @@ use mathlib.Core.List.{List, [], _∷_, _++_, append-assoc, append-nil}
 use Rattle.seq.specs.Decimal.{decimal}
 use Rattle.grammar.specs.Text.{lead, gapAfter}
 
+-- a space stands in front of each number behind a space
+pub gap-32 : (ns : List ℕ) → gapAfter 32 ns ≡ 32
+gap-32 [] = refl
+gap-32 (n ∷ ns) = refl
+
 -- one more number
 pub lead-behind : (b : ℕ) (ns : List ℕ) (n : ℕ) → lead b (ns ++ (n ∷ [])) ≡ lead b ns ++ (gapAfter b ns ∷ decimal n)
 unfolding lead
 lead-behind b [] n = append-nil (b ∷ decimal n)
 lead-behind b (m ∷ ns) n =
-    ap (λ (l : List ℕ). (b ∷ decimal m) ++ l) (lead-behind 32 ns n ∙ ap (λ (x : ℕ). lead 32 ns ++ (x ∷ decimal n)) (go ns))
+    ap (λ (l : List ℕ). (b ∷ decimal m) ++ l) (lead-behind 32 ns n ∙ ap (λ (x : ℕ). lead 32 ns ++ (x ∷ decimal n)) (gap-32 ns))
     ∙ sym (append-assoc (b ∷ decimal m) (lead 32 ns) (32 ∷ decimal n))
-  where
-    go : (xs : List ℕ) → gapAfter 32 xs ≡ 32
-    go [] = refl
-    go (x ∷ xs) = refl

@@ -9,6 +9,7 @@ use native.Mathlib.Omega.{arith}
 use mathlib.Core.Path.{_≡_, refl, ap, ap₂, _∙_}
 use mathlib.Core.List.{List, [], _∷_, _++_, map}
 use lib.ListN.{length, getD, length-append}
+use lib.Seq.{getD-append-add}
 use Rattle.seq.specs.Lists.{keep, joined}
 use Rattle.seq.specs.Numbers.{run}
 use Rattle.seq.proofs.Laws.Keep.{keep-ext}
@@ -100,13 +101,9 @@ here k q h =
     ∙ ap (λ (x : Kind). record { kind = x }) (kind-back k h)
 
 past : (ws q : List ℕ) (i m : ℕ) → length ws ≡ 4 → m ≡ 4 + i → getD (ws ++ q) m 0 ≡ getD q i 0
-past (a ∷ b ∷ c ∷ d ∷ []) q i m e f =
-    ap (λ (n : ℕ). getD (a ∷ b ∷ c ∷ d ∷ q) n 0) (f ∙ (let z : 4 + i ≡ suc (suc (suc (suc i))) = omega arith in z))
-past [] q i m e f = absurd (let z : ⊥ = omega arith in z)
-past (a ∷ []) q i m e f = absurd (let z : ⊥ = omega arith in z)
-past (a ∷ b ∷ []) q i m e f = absurd (let z : ⊥ = omega arith in z)
-past (a ∷ b ∷ c ∷ []) q i m e f = absurd (let z : ⊥ = omega arith in z)
-past (a ∷ b ∷ c ∷ d ∷ x ∷ ws) q i m e f = absurd (let z : ⊥ = omega arith in z)
+past ws q i m e f =
+    let z : m ≡ length ws + i = omega arith in
+    ap (λ (n : ℕ). getD (ws ++ q) n 0) z ∙ getD-append-add ws q i 0
 
 later : (k : Kind) (q : List ℕ) (j : ℕ) → rowAt (wordsOf k ++ q) (1 + j) ≡ rowAt q (0 + j)
 unfolding rowAt

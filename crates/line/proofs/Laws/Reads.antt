@@ -40,6 +40,7 @@ use Rattle.line.specs.Inner.States.{NumberMost, StateMost, stepState, st
 use Rattle.line.specs.Inner.Reads.{from, FigureAt, FigureRead, ItemAt, ItemRead, Stored, frontOf, joins, partBefore, pendingRows}
 use Rattle.line.specs.Inner.Reads.{waits, frontRows, PartAt, PartRead, LineAt, LineRead, WholeRead}
 use Rattle.grammar.proofs.Laws.Reading.{PartialFits, NextTold, stepIn-told, NumberFits}
+use Rattle.grammar.proofs.Laws.Steps.{placed-open}
 use Rattle.line.proofs.Laws.States.{step-follows, Follows}
 
 -- one byte of a text
@@ -132,10 +133,6 @@ pub record Within (s : List ℕ) (start n : ℕ) (out : List ℕ) (at : ℕ) (st
   pub count : rows ≡ n + length (partialRows read)
   pub kept : out′ ≡ stored out n (partialRows read)
   pub steps : (p : Place) (ps : List Place) → length ps ≤ 8 → from s (inside (listing [] fresh) p ps) start ≡ from s (inside read p ps) at
-
-placed-open : (p : Place) (i : Item) (ps : List Place) → openIn (placed p i ps) ≡ ps
-placed-open (first f) i ps = refl
-placed-open (next f q j) i ps = refl
 
 module _ (s : List ℕ) (start n : ℕ) (out : List ℕ) where
   pub within-first : start ≤ length s → n < start → Within s start n out start (Listing fresh) n out

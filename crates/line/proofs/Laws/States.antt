@@ -17,18 +17,19 @@ use Rattle.line.specs.declared.steps.Next.{Next}
 use Rattle.line.specs.declared.steps.Next.the-variants.{Goes, Emits, Closes, Stuck}
 use Rattle.line.specs.declared.steps.Words.{Words}
 use Rattle.plan.specs.declared.row.Predicate.{Predicate}
-use Rattle.plan.specs.declared.row.Kind.the-variants as kind
 use Rattle.plan.specs.declared.row.Row.{Row}
 use Rattle.plan.specs.Parts.{patternRows}
 use Rattle.grammar.specs.Meaning.{patternOf, predicateBy, predicateOf}
 use Rattle.line.specs.Inner.Store.{openRows, partialRows}
 use Rattle.line.specs.declared.steps.Grown.the-variants.{Value, Not}
-use Rattle.grammar.specs.Grammar.{Condition, Figure, arity, mostOf}
+use Rattle.grammar.specs.Grammar.{Figure, arity, mostOf}
 use Rattle.grammar.specs.Reading as reading
 use Rattle.grammar.specs.Reading.{grown, grows, stepIn}
 use Rattle.line.specs.Inner.States.{NumberMost, LastMost, grownBy, endingState, stepListing, stepCounting, stepState, stateOf}
 use Rattle.line.specs.Inner.States.{wordsIn, voiceWords, conditionWords, anotherState}
 use Rattle.grammar.proofs.Laws.Reading.{PartialFits}
+use Rattle.grammar.proofs.Laws.Query.{voice, condition, end}
+pub use Rattle.grammar.proofs.Laws.Limits.{few, most-small}
 
 module _ (most : ℕ) (b : ℕ) where
   pub grow-below : (x : Number) → b < 48 → grownBy most x b ≡ Not
@@ -134,18 +135,6 @@ most-gaps (suc (suc zero)) h l = refl
 most-gaps (suc (suc (suc zero))) h l = refl
 most-gaps (suc (suc (suc (suc k)))) h l = absurd (let z : ⊥ = omega arith in z)
 
--- every limit is at most 65,536
-pub most-small : (w : Word) (k : ℕ) → mostOf w k ≤ 65536
-most-small word.Near k = let e = most-near k in omega arith
-most-small word.Before k = let e = most-before k in omega arith
-most-small word.Same k = let e = most-same k in omega arith
-most-small word.Span k = let e = most-span k in omega arith
-most-small word.Apart zero = omega arith
-most-small word.Apart (suc zero) = omega arith
-most-small word.Apart (suc (suc zero)) = omega arith
-most-small word.Apart (suc (suc (suc zero))) = omega arith
-most-small word.Apart (suc (suc (suc (suc k)))) = omega arith
-
 pub number-small : (w : Word) (k : ℕ) (x : Number) → NumberMost (mostOf w k) x → NumberMost 65536 x
 number-small w k Fresh h = tt
 number-small w k (Digits n) h = let m = most-small w k in omega arith
@@ -175,15 +164,6 @@ module _ (w : Word) (k x y z b : ℕ) where
     counting-ends l = rw (grows-not (mostOf w k) (Digits n) b e, le-ltb (k + 1) (arity w) l)
 
 -- the states follow the reading
-abbrev voice : ℕ → Row
-voice l = record { kind = kind.Voice l }
-
-abbrev condition : Predicate → Row
-condition c = record { kind = kind.Condition c }
-
-abbrev end : Row
-end = record { kind = kind.End }
-
 pub record Going (f g : reading.Partial) (s : State) : Type 0 where
   pub state : stateOf g ≡ s
   pub rows : partialRows g ≡ partialRows f
@@ -260,13 +240,6 @@ words-follow word.Apart [] n e = absurd (let z : ⊥ = omega arith in z)
 words-follow word.Apart (a ∷ []) n e = absurd (let z : ⊥ = omega arith in z)
 words-follow word.Apart (a ∷ b ∷ []) n e = absurd (let z : ⊥ = omega arith in z)
 words-follow word.Apart (a ∷ b ∷ c ∷ d ∷ ns) n e = absurd (let z : ⊥ = omega arith in z)
-
-pub few : (w : Word) → arity w ≤ 4
-few word.Near = omega arith
-few word.Before = omega arith
-few word.Same = omega arith
-few word.Span = omega arith
-few word.Apart = omega arith
 
 another-follows : (f : Figure) (w : Word) (ns : List ℕ) (n b : ℕ) → length ns + 1 < arity w
     → Follows (reading.counting f w ns (Digits n))
