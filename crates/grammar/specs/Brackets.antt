@@ -1,5 +1,8 @@
--- The round brackets of a line: how deep they lie in one another, how many there are, and a text without one pair of them.
--- Assumes nothing.
+-- The round brackets of a line. Assumes nothing.
+--     depth              how deep they lie in one another
+--     rounds             how many pairs there are
+--     opens, closes      how many a text opens, and how many it closes
+--     Dropped, Spare     a text without one pair; a pair that could be dropped
 use Prim.Native.Nat.{ℕ, suc, _+_, max}
 use mathlib.Core.Path.{_≡_}
 use mathlib.Core.List.{List, _∷_, _++_}
@@ -37,10 +40,11 @@ unfoldable mutual
   itemRounds (figure f) = 0
   itemRounds (round l) = suc (rounds l)
 
--- how many a text opens, and how many it closes
+-- how many a text opens
 abbrev pub opens : List ℕ → ℕ
 opens s = length (keep (λ b. eqb b 40) s)
 
+-- how many it closes
 abbrev pub closes : List ℕ → ℕ
 closes s = length (keep (λ b. eqb b 41) s)
 

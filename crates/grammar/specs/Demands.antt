@@ -33,6 +33,7 @@ pub record Meant (v : List ℕ) (l : Line) : Type 0 where
   pub truth : (d : ℕ) → work v (planOf (lineRows l)) .isTrue d ≡ lineTrue (listsOf v) l d
   pub docs : (a b : ℕ) → docsIn (work v (planOf (lineRows l))) a b ≡ keep (lineTrue (listsOf v) l) (run (λ d. d) a (b - a))
 
+-- every line means what its rows say
 unfoldable pub Means : Type 0
 Means = (v : List ℕ) (l : Line) → Fits l → Meant v l
 
@@ -52,6 +53,7 @@ pub record PlanLine (v p : List ℕ) : Type 0 where
   -- any other line with these rows has a pair that could be dropped
   pub only : (l : Line) → Fits l → lineRows l ≡ rowsOf p → ((t : List ℕ) → Spare l t → ⊥) → l ≡ planLine p
 
+-- every accepted plan has such a line
 unfoldable pub PlanLines : Type 0
 PlanLines = (v p : List ℕ) → Accepted v p → PlanLine v p
 
@@ -64,15 +66,19 @@ abbrev pub sampleText : List ℕ
 sampleText =
     91 ∷ 49 ∷ 32 ∷ 50 ∷ 59 ∷ 98 ∷ 32 ∷ 48 ∷ 32 ∷ 49 ∷ 93 ∷ 124 ∷ 40 ∷ 91 ∷ 51 ∷ 93 ∷ 38 ∷ 91 ∷ 52 ∷ 93 ∷ 41 ∷ []
 
+-- its first figure
 abbrev pub sampleFirst : Figure
 sampleFirst = record { lists = 1 ∷ 2 ∷ []; conditions = record { word = before; numbers = 0 ∷ 1 ∷ [] } ∷ [] }
 
+-- a list alone
 abbrev pub sampleList : ℕ → Item
 sampleList n = figure (record { lists = n ∷ []; conditions = [] })
 
+-- the line with a second part
 abbrev pub sampleLine : Part → Line
 sampleLine p = either (one (alone (figure sampleFirst))) p
 
+-- its second part without brackets
 abbrev pub sampleBoth : Part
 sampleBoth = join both (alone (sampleList 3)) (sampleList 4)
 

@@ -51,6 +51,7 @@ pub record Figure : Type 0 where
 pub data Joint : Type 0 where
   both without : Joint
 
+-- its byte
 abbrev pub jointByte : Joint → ℕ
 jointByte both = 38
 jointByte without = 33
@@ -79,6 +80,7 @@ unfoldable pub openText : Figure → List ℕ
 unfolding joined lead
 openText f = lead 91 (f .lists) ++ joined (map conditionText (f .conditions))
 
+-- a whole figure
 unfoldable pub figureText : Figure → List ℕ
 unfolding openText
 figureText f = openText f ++ (93 ∷ [])
@@ -108,6 +110,7 @@ pub record ConditionFits (c : Condition) : Type 0 where
   pub count : length (c .numbers) ≡ arity (c .word)
   pub within : Within (mostOf (c .word)) (c .numbers)
 
+-- where a list of conditions has none
 abbrev pub noCondition : Condition
 noCondition = record { word = span; numbers = 1 ∷ [] }
 

@@ -1,4 +1,6 @@
--- What a line says: its rows, and the documents of which it is true, read on its own without rows. Assumes nothing.
+-- What a line says. Assumes nothing.
+--     lineRows      its rows
+--     lineTrue      the documents of which it is true, read on its own without rows
 use Prim.Native.Nat.{ℕ}
 use mathlib.Core.Bool.{Bool, not, _&&_, _||_}
 use mathlib.Core.List.{List, [], _∷_, _++_, map}
@@ -23,6 +25,7 @@ predicateBy same ns = Samepara (getD ns 0 0) (getD ns 1 0)
 predicateBy span ns = Window (getD ns 0 0)
 predicateBy apart ns = Proximity (getD ns 0 0) (getD ns 1 0) (getD ns 2 0) (getD ns 3 0)
 
+-- the predicate of a condition
 abbrev pub predicateOf : Condition → Predicate
 predicateOf c = predicateBy (c .word) (c .numbers)
 
@@ -30,10 +33,12 @@ predicateOf c = predicateBy (c .word) (c .numbers)
 abbrev pub patternOf : Figure → Pattern
 patternOf f = record { vars = f .lists; predicates = map predicateOf (f .conditions) }
 
+-- the operator of `&` and of `!`
 abbrev pub operatorOf : Joint → Operator
 operatorOf both = Both
 operatorOf without = FirstNotSecond
 
+-- the row of an operator
 abbrev pub operatorRow : Operator → List Row
 operatorRow o = record { kind = kind.Operator o } ∷ []
 

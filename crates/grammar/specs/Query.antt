@@ -1,4 +1,8 @@
 -- A plan as a tree, and the line of a tree with no bracket that could be dropped. Assumes nothing.
+--     Query, queryRows, queryHolds     a tree, its rows and its answer
+--     queryOf, lineQuery               the tree of rows, and of a line
+--     typed                            a tree as a line
+--     planLine, planText               the line of a plan, and its text
 use Prim.Native.Nat.{ℕ}
 use mathlib.Core.Bool.{Bool, not, _&&_, _||_}
 use mathlib.Core.List.{List, [], _∷_, _++_, map}
@@ -17,6 +21,7 @@ use Rattle.grammar.specs.Grammar.{near, before, same, span, apart, Condi
 use Rattle.grammar.specs.Grammar.{join, Item, figure, round, written}
 use Rattle.grammar.specs.Meaning.{patternOf, operatorOf, operatorRow}
 
+-- patterns under operators
 pub data Query : Type 0 where
   leaf : Pattern → Query
   node : Operator → Query → Query → Query
@@ -39,18 +44,20 @@ queryHolds found (node Both a b) = queryHolds found a && queryHolds found b
 queryHolds found (node Either a b) = queryHolds found a || queryHolds found b
 queryHolds found (node FirstNotSecond a b) = queryHolds found a && not (queryHolds found b)
 
--- the trees that rows stack, in the manner of `answersFrom`
+-- the trees that rows stack, in the manner of `answersFrom`: an operator takes the top two
 abbrev pub topTwo : Operator → List Query → List Query
 topTwo o [] = []
 topTwo o (second ∷ []) = []
 topTwo o (second ∷ (first ∷ rest)) = node o first second ∷ rest
 
+-- one more row
 abbrev pub queriesAfter : Pattern → List Query → Kind → List Query
 queriesAfter f qs (kind.Voice list) = qs
 queriesAfter f qs (kind.Condition c) = qs
 queriesAfter f qs kind.End = leaf f ∷ qs
 queriesAfter f qs (kind.Operator o) = topTwo o qs
 
+-- all rows, from an open pattern and stacked trees on
 unfoldable pub queriesFrom : Pattern → List Query → List Row → List Query
 queriesFrom f qs [] = qs
 queriesFrom f qs (r ∷ rows) = queriesFrom (openAfter f (r .kind)) (queriesAfter f qs (r .kind)) rows
@@ -82,6 +89,7 @@ conditionOf (Samepara a b) = record { word = same; numbers = a ∷ b ∷ [] }
 conditionOf (Window limit) = record { word = span; numbers = limit ∷ [] }
 conditionOf (Proximity a b least most) = record { word = apart; numbers = a ∷ b ∷ least ∷ most ∷ [] }
 
+-- a pattern as it is typed
 abbrev pub figureOf : Pattern → Figure
 figureOf f = record { lists = f .vars; conditions = map conditionOf (f .predicates) }
 
@@ -91,26 +99,31 @@ pub record Typed : Type 0 where
   pub part : Part
   pub item : Item
 
+-- a tree that is an item
 abbrev pub typedItem : Item → Typed
 typedItem i = record { line = one (alone i); part = alone i; item = i }
 
+-- one that is a part
 abbrev pub typedPart : Part → Typed
 typedPart p = record { line = one p; part = p; item = round (one p) }
 
+-- one that is a line
 abbrev pub typedLine : Line → Typed
 typedLine l = record { line = l; part = alone (round l); item = round l }
 
+-- a tree, typed
 unfoldable pub typed : Query → Typed
 typed (leaf f) = typedItem (figure (figureOf f))
 typed (node Both a b) = typedPart (join both (typed a .part) (typed b .item))
 typed (node Either a b) = typedLine (either (typed a .line) (typed b .part))
 typed (node FirstNotSecond a b) = typedPart (join without (typed a .part) (typed b .item))
 
--- the line of a plan, and its text
+-- the line of a plan
 unfoldable pub planLine : List ℕ → Line
 unfolding queryOf typed
 planLine p = typed (queryOf (rowsOf p)) .line
 
+-- and its text
 unfoldable pub planText : List ℕ → List ℕ
 unfolding planLine written
 planText p = written (planLine p)

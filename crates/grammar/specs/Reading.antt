@@ -1,5 +1,8 @@
--- Reading a text byte by byte. What has been read so far is data, `shown` is its text, and `step` reads one more byte or finds that no line
--- of the grammar has it there. Assumes nothing.
+-- Reading a text byte by byte: `step` reads one more byte, or finds that no line of the grammar has it there. Assumes nothing.
+--     Number, Partial, Config     what has been read so far: of a number, of a figure, of the text
+--     stepIn, step                one more byte of a figure, of the text
+--     outcome, reading            how the reading of a text ends
+--     shown                       the text of what has been read
 use Prim.Native.Nat.{ℕ, suc, _+_, _-_, _*_}
 use mathlib.Core.Bool.{Bool, true, cond, _&&_}
 use mathlib.Core.List.{List, [], _∷_, _++_}
@@ -12,6 +15,7 @@ use Rattle.grammar.specs.Text.{lead, gapAfter}
 use Rattle.grammar.specs.Grammar.{Word, near, before, same, span, apart, letterOf, arity, mostOf, Figure, Joint, both, without}
 use Rattle.grammar.specs.Grammar.{jointByte, Line, one, either, Part, alone, join, Item, figure, round, openText, written, partText}
 
+-- the value of a number so far
 abbrev pub valueOf : Number → ℕ
 valueOf fresh = 0
 valueOf (digits n) = n
@@ -21,9 +25,11 @@ abbrev pub mayGrow : Number → Bool
 mayGrow fresh = true
 mayGrow (digits n) = ltb 0 n
 
+-- a byte is a digit
 abbrev pub isDigit : ℕ → Bool
 isDigit b = leb 48 b && leb b 57
 
+-- the value with one more digit
 abbrev pub grown : Number → ℕ → ℕ
 grown x b = valueOf x * 10 + (b - 48)
 
@@ -38,17 +44,21 @@ pub data Partial : Type 0 where
   lettered : Figure → Word → Partial
   counting : Figure → Word → List ℕ → Number → Partial
 
+-- what the next byte of a figure makes: it goes on, it is closed, or no figure has it there
 pub data Next : Type 0 where
   goes : Partial → Next
   closes : Figure → Next
   stuck : Next
 
+-- a figure of list numbers alone
 abbrev pub firstLists : List ℕ → Figure
 firstLists ns = record { lists = ns; conditions = [] }
 
+-- a figure with one condition more
 abbrev pub withCondition : Figure → Word → List ℕ → Figure
 withCondition f w ns = record { lists = f .lists; conditions = f .conditions ++ (record { word = w; numbers = ns } ∷ []) }
 
+-- numbers with one more
 abbrev pub behind : List ℕ → ℕ → List ℕ
 behind ns n = ns ++ (n ∷ [])
 
@@ -91,6 +101,7 @@ pub data Config : Type 0 where
   inside : Partial → Place → List Place → Config
   after : Front → Part → List Place → Config
 
+-- nothing has been read
 abbrev pub start : Config
 start = ready (first bare) []
 
@@ -109,6 +120,7 @@ abbrev pub shut : Line → List Place → Option Config
 shut l [] = none
 shut l (p ∷ ps) = some (placed p (round l) ps)
 
+-- what the next byte of a figure makes of all that has been read
 abbrev pub within : Next → Place → List Place → Option Config
 within (goes f) p ps = some (inside f p ps)
 within (closes f) p ps = some (placed p (figure f) ps)
@@ -157,11 +169,12 @@ outcome c q (b ∷ s) = continued (step c b) q (λ x. outcome x (suc q) s)
 abbrev pub reading : List ℕ → Outcome
 reading s = outcome start 0 s
 
--- the text of what has been read
+-- the text of numbers, with the one that is being read
 abbrev pub numberText : ℕ → List ℕ → Number → List ℕ
 numberText b ns fresh = lead b ns ++ (gapAfter b ns ∷ [])
 numberText b ns (digits n) = lead b (behind ns n)
 
+-- the text of a figure so far
 unfoldable pub partialText : Partial → List ℕ
 unfolding openText
 partialText (listing ns x) = numberText 91 ns x
@@ -169,19 +182,23 @@ partialText (semicolon f) = openText f ++ (59 ∷ [])
 partialText (lettered f w) = openText f ++ (59 ∷ letterOf w ∷ [])
 partialText (counting f w ns x) = openText f ++ (59 ∷ letterOf w ∷ numberText 32 ns x)
 
+-- of what stands in front of a part
 abbrev pub frontText : Front → List ℕ
 frontText bare = []
 frontText (eithers l) = written l ++ (124 ∷ [])
 
+-- of what stands in front of an item
 abbrev pub placeText : Place → List ℕ
 placeText (first f) = frontText f
 placeText (next f p j) = frontText f ++ (partText p ++ (jointByte j ∷ []))
 
+-- of all that stands in front of open brackets
 unfoldable pub openedText : List Place → List ℕ
 unfolding written
 openedText [] = []
 openedText (p ∷ ps) = openedText ps ++ (placeText p ++ (40 ∷ []))
 
+-- of all that has been read
 unfoldable pub shown : Config → List ℕ
 unfolding openedText partialText
 shown (ready p ps) = openedText ps ++ placeText p

@@ -1,4 +1,6 @@
 -- Numbers as a line has them: in base ten, with one byte in front of each. Assumes nothing.
+--     lead          the text of numbers
+--     gapAfter      the byte in front of the next one
 use Prim.Native.Nat.{ℕ}
 use mathlib.Core.List.{List, [], _∷_, _++_}
 use Rattle.seq.specs.Decimal.{decimal}

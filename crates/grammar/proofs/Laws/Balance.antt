@@ -1,4 +1,8 @@
--- The open brackets of what has been read are those that its text opens and does not close.
+-- The open brackets of what has been read are those that its text opens and does not close. No contract cites this file.
+--     one, keep-cons                    a byte counted, or not
+--     Balanced, step-balanced           one more byte
+--     steps-balanced                    a text, byte by byte
+-- Assumes nothing.
 use Prim.Native.Nat.{ℕ, suc, _+_}
 use native.Mathlib.Omega.{arith}
 use mathlib.Core.Path.{_≡_, refl, sym, ap, _∙_, subst}
@@ -61,10 +65,11 @@ stepIn-plain (counting f w ns (digits n)) b =
     (λ _. split (PlainNext b) (eqb b 32) _ _ (λ e. plain-is b 32 e (refl, refl)) (λ _. tt))
     (λ _. ending-plain (withCondition f w (behind ns n)) b))
 
--- one more byte
+-- 1 for a byte that counts, else 0
 abbrev pub one : Bool → ℕ
 one t = cond t 1 0
 
+-- behind a byte so many more brackets are open as it opens, and so many fewer as it closes
 abbrev pub Balanced : Config → ℕ → Option Config → Type 0
 Balanced c b none = Unit
 Balanced c b (some d) = length (openIn d) + one (eqb b 41) ≡ length (openIn c) + one (eqb b 40)
@@ -91,6 +96,7 @@ module _ (f : Line) (x : Config) (b : ℕ) where
 plain-balanced : (n b k : ℕ) → eqb b k ≡ true → Plain k → n + one (eqb b 41) ≡ n + one (eqb b 40)
 plain-balanced n b k e h = let w = plain-is b k e h in ap (λ (t : Bool). n + one t) (w .1) ∙ sym (ap (λ (t : Bool). n + one t) (w .0))
 
+-- so it is with every byte that can be read
 pub step-balanced : (c : Config) (b : ℕ) → Balanced c b (step c b)
 unfolding step
 step-balanced (ready p ps) b =
@@ -110,6 +116,7 @@ step-balanced (after f q ps) b =
     (λ _. split (Balanced (after f q ps) b) (eqb b 41) _ _ (λ e. shut-balanced (lineOf f q) (after f q ps) b ps refl (eqb-true b 41 e))
     (λ _. tt))))
 
+-- how many bytes pass a test, with one more in front
 pub keep-cons : (test : ℕ → Bool) (b : ℕ) (s : List ℕ) → length (keep test (b ∷ s)) ≡ one (test b) + length (keep test s)
 unfolding keep
 keep-cons test b s = go (test b)

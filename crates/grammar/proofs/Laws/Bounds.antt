@@ -1,4 +1,10 @@
--- The line of an accepted plan keeps to every limit, so that it is read as the plan.
+-- The line of an accepted plan keeps to every limit, so that it is read as the plan. No contract cites this file.
+--     typed-fits        its numbers are as small as the grammar asks
+--     shallow           its brackets lie less deep than it has patterns
+--     typed-length      it has at most 26 bytes a row
+--     line-read         the text of a line that is not too deep is read as that line
+--     plan-line, accepted-line     all that `PlanLine` says
+-- Assumes nothing.
 use Prim.Native.Nat.{ℕ, zero, suc, _+_, _*_, _<_, _≤_}
 use native.Mathlib.Omega.{arith}
 use mathlib.Core.Path.{_≡_, refl, sym, ap, ap₂, _∙_, subst}
@@ -87,6 +93,7 @@ patterns-leave (node o a b) rest =
     ∙ ap (λ (l : List Pattern). leaves a ++ l) (patterns-leave b (operatorRow o ++ rest))
     ∙ sym (append-assoc (leaves a) (leaves b) (patternsFrom noRow rest))
 
+-- the patterns of rows are those of their tree
 patterns-are : (q : Query) → patternsOf (queryRows q) ≡ leaves q
 unfolding patternsFrom
 patterns-are q = ap (patternsFrom noRow) (sym (append-nil (queryRows q))) ∙ patterns-leave q [] ∙ append-nil (leaves q)
@@ -108,12 +115,9 @@ made t (node o a b) h = (
       (h (length (leaves a) + i) (let e = length-append (leaves a) (leaves b) in omega arith))),
 )
 
+-- a predicate of a well made pattern keeps to its word's limits
 condition-fits : (n : ℕ) (c : Predicate) → namesBelow n c ≡ true → n ≤ 8 → InRange (kind.Condition c) → ConditionFits (conditionOf c)
-condition-fits n (Distance a b limit) e l r =
-    let w = both (ltb a n) (ltb b n) e in
-    let x = ltb-true a n (w .0) in
-    let y = ltb-true b n (w .1) in
-    record { count = refl; within = three }
+condition-fits n (Distance a b limit) e l r = record { count = refl; within = three }
   where
     x : a < n
     x = ltb-true a n (both (ltb a n) (ltb b n) e .0)
@@ -152,6 +156,7 @@ condition-fits n (Proximity a b least most) e l r = record { count = refl; withi
     four (suc (suc (suc zero))) h = r .1
     four (suc (suc (suc (suc i)))) h = absurd (let z : ⊥ = omega arith in z)
 
+-- and so does the pattern
 figure-fits : (t : ℕ) (f : Pattern) → t ≤ 65536 → WellMade t f → FigureFits (figureOf f)
 figure-fits t f l h = record {
   some-list = h .some-vars;
@@ -264,6 +269,7 @@ record Short (q : Query) : Type 0 where
   part : length (partText (typed q .part)) ≤ 26 * length (queryRows q)
   item : length (itemText (typed q .item)) ≤ 26 * length (queryRows q)
 
+-- the rows of two trees and their operator
 node-rows : (o : Operator) (a b : Query) → length (queryRows (node o a b)) ≡ length (queryRows a) + length (queryRows b) + 1
 unfolding queryRows
 node-rows o a b =
@@ -311,6 +317,7 @@ steps-outcome (b ∷ s) r c d q p =
     ∙ steps-outcome s r (p .0) d (suc q) (p .3)
     ∙ ap (λ (k : ℕ). outcome d k r) (let e : suc q + length s ≡ q + suc (length s) = omega arith in e)
 
+-- the text of a line that is not too deep is read as that line
 pub line-read : (l : Line) → Fits l → depth l ≤ 8 → reading (written l) ≡ whole l
 unfolding outcome
 line-read l h k =
@@ -336,6 +343,7 @@ module _ (v p : List ℕ) (ok : Accepted v p) (few-lists : listCount v ≤ 1024)
   unfolding sizes
   eight = subst (λ (fs : List Pattern). length fs ≤ 8) patterns (w .most-patterns)
 
+  -- the line of an accepted plan, over a volume with few lists
   pub plan-line : PlanLine v p
   unfolding planText planLine wordsOfLine
   plan-line =

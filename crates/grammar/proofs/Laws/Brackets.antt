@@ -26,6 +26,7 @@ use Rattle.seq.proofs.Laws.Decimal.{decimal-one, decimal-more}
 opens-cons : (b : ℕ) (s : List ℕ) → opens (b ∷ s) ≡ one (eqb b 40) + opens s
 opens-cons b s = keep-cons (λ x. eqb x 40) b s
 
+-- two texts, one behind the other
 pub opens-append : (s r : List ℕ) → opens (s ++ r) ≡ opens s + opens r
 opens-append s r =
     ap length (keep-append (λ b. eqb b 40) s r) ∙ length-append (keep (λ b. eqb b 40) s) (keep (λ b. eqb b 40) r)
@@ -33,9 +34,11 @@ opens-append s r =
 other : (b : ℕ) (s : List ℕ) → (b ≡ 40 → ⊥) → opens (b ∷ s) ≡ opens s
 other b s h = opens-cons b s ∙ ap (λ (t : Bool). one t + opens s) (ne-eqb b 40 h) ∙ (let z : 0 + opens s ≡ opens s = omega arith in z)
 
+-- `(` opens one
 pub opens-open : (s : List ℕ) → opens (40 ∷ s) ≡ suc (opens s)
 opens-open s = opens-cons 40 s ∙ (let z : 1 + opens s ≡ suc (opens s) = omega arith in z)
 
+-- `)` opens none
 pub opens-close : (s : List ℕ) → opens (41 ∷ s) ≡ opens s
 opens-close s = other 41 s (λ e. omega arith)
 
@@ -101,6 +104,7 @@ joint-other g.without e = omega arith
 mutual
   unfolding written rounds
 
+  -- the text of a line opens as many as the line has
   pub line-opens : (l : Line) → opens (written l) ≡ rounds l
   line-opens (g.one p) = part-opens p
   line-opens (g.either l p) =

@@ -1,4 +1,11 @@
--- How a reading ends, in terms of the grammar.
+-- How a reading ends, in terms of the grammar. No contract cites this file.
+--     steps-told, from-start            what is read is the text
+--     steps-prefix, steps-same, steps-open     a way has one beginning of each length, one end, and never too many open brackets
+--     Stopped, Opened, Wholly           the three ends of a reading: no byte fits, a ninth bracket, a line
+--     outcome-told                      a reading ends in one of them
+--     text-steps, read-begins, begins-read     what can be read is what lines begin with
+--     unambiguous                       a text has one tree
+-- Assumes nothing.
 use Prim.Native.Nat.{ℕ, suc, _+_, _<_, _≤_}
 use native.Mathlib.Omega.{arith}
 use mathlib.Core.Path.{_≡_, refl, sym, ap, _∙_, subst}
@@ -24,11 +31,13 @@ steps-told n c (b ∷ s) d p h =
     let r = steps-told n (p .0) s d (p .3) (t .1) in
     (r .0 ∙ ap (λ (l : List ℕ). l ++ s) (t .0) ∙ append-assoc (shown c) (b ∷ []) s, r .1)
 
+-- a way is one through each beginning of its text
 pub steps-prefix : (n : ℕ) (c : Config) (a r : List ℕ) (e : Config) → Steps n c (a ++ r) e → (d : Config) × Steps n c a d × Steps n d r e
 unfolding Steps
 steps-prefix n c [] r e p = (c, refl, p)
 steps-prefix n c (b ∷ a) r e p = let q = steps-prefix n (p .0) a r e (p .3) in (q .0, (p .0, p .1, p .2, q .1), q .2)
 
+-- a text leads to one place
 pub steps-same : (m n : ℕ) (c : Config) (a : List ℕ) (d e : Config) → Steps m c a d → Steps n c a e → d ≡ e
 unfolding Steps
 steps-same m n c [] d e p q = sym p ∙ q
@@ -36,6 +45,7 @@ steps-same m n c (b ∷ a) d e p q =
     let s : p .0 ≡ q .0 = let x = p .1 in let y = q .1 in cc in
     steps-same m n (q .0) a d e (subst (λ (z : Config). Steps m z a d) s (p .3)) (q .3)
 
+-- never more than n brackets are open
 pub steps-open : (n : ℕ) (c : Config) (a : List ℕ) (d : Config) → length (openIn c) ≤ n → Steps n c a d → length (openIn d) ≤ n
 unfolding Steps
 steps-open n c [] d h p = subst (λ (x : Config). length (openIn x) ≤ n) p h
@@ -53,6 +63,7 @@ abbrev pub Stops : Config → List ℕ → Type 0
 Stops d [] = Final d → ⊥
 Stops d (b ∷ r) = step d b ≡ none
 
+-- the reading of s from byte q on stops at byte e
 pub record Stopped (c : Config) (q : ℕ) (s : List ℕ) (e : ℕ) : Type 0 where
   pub read : List ℕ
   pub rest : List ℕ
@@ -62,6 +73,7 @@ pub record Stopped (c : Config) (q : ℕ) (s : List ℕ) (e : ℕ) : Type 0 wher
   pub steps : Steps 8 c read there
   pub stops : Stops there rest
 
+-- it meets a ninth bracket at byte e
 pub record Opened (c : Config) (q : ℕ) (s : List ℕ) (e : ℕ) : Type 0 where
   pub read : List ℕ
   pub byte : ℕ
@@ -74,17 +86,20 @@ pub record Opened (c : Config) (q : ℕ) (s : List ℕ) (e : ℕ) : Type 0 where
   pub goes : step there byte ≡ some then
   pub ninth : 8 < length (openIn then)
 
+-- it comes to the end of line l
 pub record Wholly (c : Config) (s : List ℕ) (l : Line) : Type 0 where
   pub front : Front
   pub part : Part
   pub line : lineOf front part ≡ l
   pub steps : Steps 8 c s (after front part [])
 
+-- what each outcome says
 abbrev pub OutcomeTold : Config → ℕ → List ℕ → Outcome → Type 0
 OutcomeTold c q s (whole l) = Wholly c s l
 OutcomeTold c q s (broken e) = Stopped c q s e
 OutcomeTold c q s (deep e) = Opened c q s e
 
+-- the same with one byte in front
 later : (c : Config) (q b : ℕ) (s : List ℕ) (x : Config) (o : Outcome) → step c b ≡ some x → length (openIn x) ≤ 8
     → OutcomeTold x (suc q) s o → OutcomeTold c q (b ∷ s) o
 unfolding Steps
@@ -134,6 +149,7 @@ at-end (after f p (x ∷ ps)) q = record {
   stops = λ z. z;
 }
 
+-- and so the reading ends
 pub outcome-told : (s : List ℕ) (c : Config) (q : ℕ) → OutcomeTold c q s (outcome c q s)
 unfolding outcome Steps
 outcome-told [] c q = at-end c q
@@ -158,6 +174,7 @@ outcome-told (b ∷ s) c q = go (step c b) refl (λ x. outcome-told s x (suc q))
         })
         (λ t. later c q b s x (outcome x (suc q) s) e (ltb-false 8 (length (openIn x)) t) (r x))
 
+-- where nothing has been read
 start-sound : Sound start
 unfolding PlacesFit
 start-sound = (tt, tt)

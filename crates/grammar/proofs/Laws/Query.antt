@@ -1,4 +1,10 @@
--- The laws of `specs/Query.antt` and of `specs/Meaning.antt`.
+-- The laws of `specs/Query.antt` and of `specs/Meaning.antt`. No contract cites this file.
+--     line-rows, line-holds             a line says what its tree says
+--     query-read, query-alone, rows-tree     the rows of a tree stack it, so they determine it
+--     meaning                           a document is true of a line's rows exactly if it is true of the line read on its own
+--     typed-back, typed-rows            a tree that is typed is that tree
+--     line-fewest, fewest               of all lines with a tree the typed one has the fewest round brackets
+-- Assumes nothing.
 use Prim.Native.Nat.{ℕ, suc, _+_, _≤_}
 use native.Mathlib.Omega.{arith}
 use mathlib.Core.Path.{_≡_, refl, sym, ap, ap₂, _∙_, subst}
@@ -39,7 +45,7 @@ mutual
   item-rows (g.figure f) = refl
   item-rows (g.round l) = line-rows l
 
--- and so is its truth
+-- the answer of `&` and of `!`
 node-holds : (h : Pattern → Bool) (j : Joint) (a b : Query)
     → joinedBy j (queryHolds h a) (queryHolds h b) ≡ queryHolds h (node (operatorOf j) a b)
 unfolding queryHolds
@@ -47,6 +53,7 @@ node-holds h g.both a b = refl
 node-holds h g.without a b = refl
 
 module _ (h : Pattern → Bool) where
+  -- the truth of a line is that of its tree
   mutual
     unfolding lineHolds lineQuery queryHolds
 
@@ -91,7 +98,7 @@ module _ (h : Pattern → Bool) where
       ap (λ (l : List Bool). answersFrom h (openAfter f (r .kind)) l rows) (after-map f qs (r .kind))
       ∙ answers-map rows (openAfter f (r .kind)) (queriesAfter f qs (r .kind))
 
--- the rows of a pattern stack it
+-- the rows of a variable, of a predicate, and END
 abbrev pub voice : ℕ → Row
 voice list = record { kind = kind.Voice list }
 
@@ -101,6 +108,7 @@ condition c = record { kind = kind.Condition c }
 abbrev pub end : Row
 end = record { kind = kind.End }
 
+-- the rows of a pattern stack it
 voices-read : (ls vs : List ℕ) (cs : List Predicate) (qs : List Query) (rest : List Row)
     → queriesFrom (record { vars = vs; predicates = cs }) qs (map voice ls ++ rest)
     ≡ queriesFrom (record { vars = vs ++ ls; predicates = cs }) qs rest
@@ -142,6 +150,7 @@ query-read (node o a b) qs rest =
     ∙ query-read a qs (queryRows b ++ (operatorRow o ++ rest))
     ∙ query-read b (a ∷ qs) (operatorRow o ++ rest)
 
+-- the rows of a tree alone
 pub query-alone : (q : Query) → queriesFrom noRow [] (queryRows q) ≡ q ∷ []
 unfolding queriesFrom
 query-alone q = ap (queriesFrom noRow []) (sym (append-nil (queryRows q))) ∙ query-read q [] []
@@ -150,7 +159,7 @@ query-alone q = ap (queriesFrom noRow []) (sym (append-nil (queryRows q))) ∙ q
 pub rows-tree : (a b : Query) → queryRows a ≡ queryRows b → a ≡ b
 rows-tree a b e = let z : a ∷ [] ≡ b ∷ [] = sym (query-alone a) ∙ ap (queriesFrom noRow []) e ∙ query-alone b in cc
 
--- THE MEANING: a document is true of a line's rows exactly if it is true of the line read on its own
+-- a document is true of a line's rows exactly if it is true of the line read on its own
 pub meaning : (lists : List (List ℕ)) (l : Line) (d : ℕ) → matching lists (lineRows l) d ≡ lineTrue lists l d
 unfolding matching answer lineTrue
 meaning lists l d =
@@ -160,7 +169,7 @@ meaning lists l d =
     (answers-map h (queryRows (lineQuery l)) noRow [] ∙ ap (map (queryHolds h)) (query-alone (lineQuery l)))
     ∙ sym (line-holds h l)
 
--- a typed tree is that tree
+-- a predicate that is typed is that predicate
 condition-back : (c : Predicate) → predicateOf (conditionOf c) ≡ c
 condition-back (Distance a b limit) = refl
 condition-back (Ordered a b) = refl
@@ -175,11 +184,13 @@ conditions-back (c ∷ cs) = ap₂ (λ (x : Predicate) (y : List Predicate). x �
 figure-back : (f : Pattern) → patternOf (figureOf f) ≡ f
 figure-back f = ap (λ (cs : List Predicate). record { vars = f .vars; predicates = cs }) (conditions-back (f .predicates))
 
+-- a typed tree is that tree, as a line, as a part and as an item
 pub record TypedBack (q : Query) : Type 0 where
   pub line : lineQuery (typed q .line) ≡ q
   pub part : partQuery (typed q .part) ≡ q
   pub item : itemQuery (typed q .item) ≡ q
 
+-- so it is for each tree
 pub typed-back : (q : Query) → TypedBack q
 unfolding typed lineQuery
 typed-back (leaf f) = let e = ap leaf (figure-back f) in record { line = e; part = e; item = e }
@@ -191,10 +202,11 @@ typed-back (node FirstNotSecond a b) =
     let e = ap₂ (node FirstNotSecond) (typed-back a .part) (typed-back b .item) in
     record { line = e; part = e; item = e }
 
+-- the rows of a typed tree are its rows
 pub typed-rows : (q : Query) → lineRows (typed q .line) ≡ queryRows q
 typed-rows q = line-rows (typed q .line) ∙ ap queryRows (typed-back q .line)
 
--- FEWEST BRACKETS: of all lines with a tree the typed one has the fewest round brackets
+-- a tree as a part has no fewer brackets than as a line, as an item one more than as a line at most
 record Ranked (q : Query) : Type 0 where
   line-part : rounds (typed q .line) ≤ partRounds (typed q .part)
   part-item : partRounds (typed q .part) ≤ itemRounds (typed q .item)
@@ -213,6 +225,7 @@ unfolding typed rounds
 join-fewest g.both a b = refl
 join-fewest g.without a b = refl
 
+-- of all lines with a tree the typed one has the fewest round brackets
 mutual
   unfolding rounds lineQuery typed
 
@@ -232,6 +245,7 @@ mutual
   item-fewest (g.figure f) = omega arith
   item-fewest (g.round l) = let r = ranked (lineQuery l) in let h = line-fewest l in omega (arith, r .item-line)
 
+-- of all lines with the rows of a tree the typed one has the fewest
 pub fewest : (q : Query) (l : Line) → lineRows l ≡ queryRows q → rounds (typed q .line) ≤ rounds l
 fewest q l e =
     let t : lineQuery l ≡ q = rows-tree (lineQuery l) q (sym (line-rows l) ∙ e) in

@@ -1,4 +1,10 @@
--- What has been read is what the text says: the laws of `step` and `shown`.
+-- What has been read is what the text says, and keeps to the grammar's limits: the laws of `step` and `shown`. No contract cites this file.
+--     split                    a statement on a choice, by its test
+--     Grows, grows-tells       a number grows by a digit
+--     PartialFits, NextTold, stepIn-told     one more byte of a figure
+--     Sound, StepTold, step-told             one more byte of a line
+--     line-text, line-fits     a line whose last part is taken apart
+-- Assumes nothing.
 use Prim.Native.Nat.{ℕ, zero, suc, _+_, _-_, _<_, _≤_}
 use native.Mathlib.Omega.{arith}
 use mathlib.Core.Path.{_≡_, refl, sym, ap, _∙_}
@@ -37,6 +43,7 @@ pub record Grows (most : ℕ) (x : Number) (b : ℕ) : Type 0 where
   pub may : mayGrow x ≡ true
   pub small : grown x b ≤ most
 
+-- a number that grows does so by a digit, with no zero in front and within the limit
 pub grows-tells : (most : ℕ) (x : Number) (b : ℕ) → grows most x b ≡ true → Grows most x b
 unfolding grows
 grows-tells most x b e =
@@ -45,6 +52,7 @@ grows-tells most x b e =
     let m = both (mayGrow x) (leb (grown x b) most) (d .1) in
     record { low = leb-true 48 b (r .0); high = leb-true b 57 (r .1); may = m .0; small = leb-true (grown x b) most (m .1) }
 
+-- the text of a number that has grown
 grow-text : (a : ℕ) (ns : List ℕ) (most : ℕ) (x : Number) (b : ℕ) → Grows most x b
     → numberText a ns (digits (grown x b)) ≡ numberText a ns x ++ (b ∷ [])
 grow-text a ns most fresh b w =
@@ -87,13 +95,14 @@ pub record Counted (f : Figure) (w : Word) (ns : List ℕ) (x : Number) : Type 0
   pub numbers : Within (mostOf w) ns
   pub last : NumberFits (mostOf w (length ns)) x
 
+-- a figure so far keeps to the limits
 abbrev pub PartialFits : Partial → Type 0
 PartialFits (listing ns x) = Listed ns x
 PartialFits (semicolon f) = FigureFits f
 PartialFits (lettered f w) = FigureFits f
 PartialFits (counting f w ns x) = Counted f w ns x
 
--- the next byte of a figure
+-- what the next byte of a figure makes: its text, and the limits
 abbrev pub NextTold : List ℕ → Next → Type 0
 NextTold s (goes f) = (partialText f ≡ s) × PartialFits f
 NextTold s (closes f) = (figureText f ≡ s) × FigureFits f
@@ -118,6 +127,7 @@ condition-fits f w ns n h e = record {
       });
 }
 
+-- the text of a figure without conditions
 open-lists : (ns : List ℕ) → openText (firstLists ns) ≡ lead 91 ns
 unfolding openText joined
 open-lists ns = append-nil (lead 91 ns)
@@ -130,6 +140,7 @@ map-snoc cs c =
     ∙ joined-append (map conditionText cs) (conditionText c ∷ [])
     ∙ ap (λ (l : List ℕ). joined (map conditionText cs) ++ l) (append-nil (conditionText c))
 
+-- the text of a figure with one condition more
 open-condition : (f : Figure) (w : Word) (ns : List ℕ) → openText (withCondition f w ns) ≡ openText f ++ (59 ∷ letterOf w ∷ lead 32 ns)
 unfolding openText
 open-condition f w ns =
@@ -144,10 +155,12 @@ ending-told f b h =
     (λ n. split (NextTold (openText f ++ (b ∷ []))) (eqb b 93) _ _
     (λ e. (ap (λ (k : ℕ). openText f ++ (k ∷ [])) (sym (eqb-true b 93 e)), h)) (λ m. tt))
 
+-- behind a number stands a space
 gap-behind : (a : ℕ) (ns : List ℕ) (n : ℕ) → gapAfter a (behind ns n) ≡ 32
 gap-behind a [] n = refl
 gap-behind a (x ∷ xs) n = refl
 
+-- one more byte of a figure: its text has the byte behind it, and the limits are kept
 pub stepIn-told : (f : Partial) (b : ℕ) → PartialFits f → NextTold (partialText f ++ (b ∷ [])) (stepIn f b)
 unfolding stepIn partialText
 stepIn-told (listing ns fresh) b h =
@@ -217,6 +230,7 @@ stepIn-told (counting f w ns (digits n)) b h =
     (λ q. tt))
     (λ m. rw (open-condition f w (behind ns n)) at (ending-told (withCondition f w (behind ns n)) b (condition-fits f w ns n h m))))
 
+-- what stands in front keeps to the limits
 abbrev pub FrontFits : Front → Type 0
 FrontFits bare = Unit
 FrontFits (eithers l) = Fits l
@@ -225,6 +239,7 @@ abbrev pub PlaceFits : Place → Type 0
 PlaceFits (first f) = FrontFits f
 PlaceFits (next f p j) = FrontFits f × PartFits p
 
+-- and so do the places of open brackets
 unfoldable pub PlacesFit : List Place → Type 0
 PlacesFit [] = Unit
 PlacesFit (p ∷ ps) = PlaceFits p × PlacesFit ps
@@ -235,15 +250,18 @@ Sound (ready p ps) = PlaceFits p × PlacesFit ps
 Sound (inside f p ps) = PartialFits f × PlaceFits p × PlacesFit ps
 Sound (after f p ps) = FrontFits f × PartFits p × PlacesFit ps
 
+-- what one more byte makes: its text, and the limits
 abbrev pub StepTold : List ℕ → Option Config → Type 0
 StepTold s none = Unit
 StepTold s (some c) = (shown c ≡ s) × Sound c
 
+-- the text of a line by its last part
 pub line-text : (f : Front) (p : Part) → written (lineOf f p) ≡ frontText f ++ partText p
 unfolding written
 line-text bare p = refl
 line-text (eithers l) p = sym (append-assoc (written l) (124 ∷ []) (partText p))
 
+-- its limits by its last part
 pub line-fits : (f : Front) (p : Part) → FrontFits f → PartFits p → Fits (lineOf f p)
 unfolding Fits
 line-fits bare p h k = k

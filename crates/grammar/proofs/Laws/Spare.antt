@@ -311,6 +311,7 @@ less-spare l w = record {
   rows = line-rows (w .less) ∙ ap queryRows (w .tree) ∙ sym (line-rows l);
 }
 
+-- a line without a pair that could be dropped is that of its tree
 pub tight : (l : Line) → Fits l → ((t : List ℕ) → Spare l t → ⊥) → l ≡ typed (lineQuery l) .line
 tight l h none = ⊎-elim (λ e. e) (λ (w : LessLine l). absurd (none (written (w .less)) (less-spare l w))) (line-tight l h)
 
@@ -332,6 +333,7 @@ pub line-tree : (l : Line) → queryOf (lineRows l) ≡ lineQuery l
 unfolding queryOf
 line-tree l = ap (λ (qs : List Query). getD qs 0 (leaf noRow)) (ap (queriesFrom noRow []) (line-rows l) ∙ query-alone (lineQuery l))
 
+-- the line of a line's rows is that of its tree
 plan-of-line : (l : Line) → Fits l → planLine (planOf (lineRows l)) ≡ typed (lineQuery l) .line
 unfolding planLine
 plan-of-line l h = ap (λ (q : Query). typed q .line) (ap queryOf (line-back l h) ∙ line-tree l)

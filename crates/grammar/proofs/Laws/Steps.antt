@@ -1,4 +1,9 @@
--- A line's text leads from the start to that line: the reading of `written`.
+-- A line's text leads from the start to that line: the reading of `written`. No contract cites this file.
+--     Steps, stay, hop, steps-append     a text leads from one place of a reading to another, with few brackets open
+--     more-numbers, lists-led, condition-led, figure-steps     through numbers, and through a figure
+--     frontOf, lastOf, line-again        a line, taken apart at its last part
+--     line-steps, part-steps, item-steps     through lines, parts and items
+-- Assumes nothing.
 use Prim.Native.Nat.{ℕ, zero, suc, _+_, _/_, _%_, _<_, _≤_}
 use native.Mathlib.Omega.{arith}
 use mathlib.Core.Path.{_≡_, refl, sym, ap, _∙_, subst}
@@ -30,14 +35,17 @@ unfoldable pub Steps : ℕ → Config → List ℕ → Config → Type 0
 Steps n c [] d = c ≡ d
 Steps n c (b ∷ s) d = (x : Config) × (step c b ≡ some x) × (length (openIn x) ≤ n) × Steps n x s d
 
+-- no byte
 pub stay : (n : ℕ) (c : Config) → Steps n c [] c
 unfolding Steps
 stay n c = refl
 
+-- one byte
 pub hop : (n : ℕ) (c : Config) (b : ℕ) (d : Config) → step c b ≡ some d → length (openIn d) ≤ n → Steps n c (b ∷ []) d
 unfolding Steps
 hop n c b d e h = (d, e, h, refl)
 
+-- two texts, one behind the other
 pub steps-append : (n : ℕ) (c : Config) (s : List ℕ) (d : Config) (r : List ℕ) (e : Config) → Steps n c s d → Steps n d r e
     → Steps n c (s ++ r) e
 unfolding Steps
@@ -58,6 +66,7 @@ module _ (n : ℕ) (p : Place) (ps : List Place) (room : length ps ≤ n) where
   unfolding step
   goes-on f b h e = hop n (inside f p ps) b (inside h p ps) (ap (λ (x : Next). within x p ps) e) room
 
+-- a digit that a number may grow by
 grows-true : (most : ℕ) (x : Number) (b : ℕ) → 48 ≤ b → b ≤ 57 → mayGrow x ≡ true → grown x b ≤ most → grows most x b ≡ true
 unfolding grows
 grows-true most x b l h m s =
@@ -68,6 +77,7 @@ grows-true most x b l h m s =
 module _ (n : ℕ) (p : Place) (ps : List Place) (room : length ps ≤ n) (H : List ℕ → Number → Partial) (most : ℕ → ℕ) (total : ℕ)
     (grow : (ns : List ℕ) (x : Number) (b : ℕ) → grows (most (length ns)) x b ≡ true → stepIn (H ns x) b ≡ goes (H ns (digits (grown x b))))
     (gap : (ns : List ℕ) (k : ℕ) → length ns + 1 < total → stepIn (H ns (digits k)) 32 ≡ goes (H (behind ns k) fresh)) where
+  -- through the digits of a number
   number-steps : (f k : ℕ) (ns : List ℕ) → k < f → k ≤ most (length ns)
       → Steps n (inside (H ns fresh) p ps) (decimalF f k) (inside (H ns (digits k)) p ps)
   number-steps zero k ns l h = absurd (let z : ⊥ = omega arith in z)
@@ -92,11 +102,12 @@ module _ (n : ℕ) (p : Place) (ps : List Place) (room : length ps ≤ n) (H : L
       ∙ ap (λ (m : ℕ). goes (H ns (digits m))) e))))
       (below-or k 10)
 
+  -- through a whole number
   one-number : (k : ℕ) (ns : List ℕ) → k ≤ most (length ns) → Steps n (inside (H ns fresh) p ps) (decimal k) (inside (H ns (digits k)) p ps)
   unfolding decimal
   one-number k ns h = number-steps (suc k) k ns (omega arith) h
 
-  -- all numbers that are left: before the last one afterAll `front`
+  -- all numbers that are left: those of `front`, and then the last one
   record Numbers (ns : List ℕ) (k : ℕ) (rest : List ℕ) : Type 0 where
     front : List ℕ
     last : ℕ
@@ -111,6 +122,7 @@ module _ (n : ℕ) (p : Place) (ps : List Place) (room : length ps ≤ n) (H : L
       let next : length ns + 1 + suc i ≡ length (behind ns k) + 1 + i = omega arith in
       subst (λ (j : ℕ). getD rest i 0 ≤ most j) next (w (suc i) (omega arith))
 
+  -- through the numbers that are left
   more-numbers : (rest : List ℕ) (ns : List ℕ) (k : ℕ) → length ns + 1 + length rest ≤ total
       → Within (λ i. most (length ns + 1 + i)) rest
       → Numbers ns k rest
@@ -140,6 +152,7 @@ record Whole (x : Partial) (f : Figure) : Type 0 where
   more : stepIn x 59 ≡ goes (semicolon f)
   end : stepIn x 93 ≡ closes f
 
+-- a text leads to where a figure may end
 record Led (n : ℕ) (c : Config) (s : List ℕ) (p : Place) (ps : List Place) (f : Figure) : Type 0 where
   at : Partial
   whole : Whole at f
@@ -252,6 +265,7 @@ module _ (n : ℕ) (p : Place) (ps : List Place) (room : length ps ≤ n) where
             (r .steps));
       }
 
+  -- all conditions
   conditions-led : (cs : List Condition) (x : Partial) (f : Figure) → Whole x f
       → ((i : ℕ) → i < length cs → ConditionFits (getD cs i noCondition))
       → Led n (inside x p ps) (joined (map conditionText cs)) p ps (record { lists = f .lists; conditions = f .conditions ++ cs })
@@ -276,6 +290,7 @@ module _ (n : ℕ) (p : Place) (ps : List Place) (room : length ps ≤ n) where
             (a .steps) (b .steps);
       }
 
+  -- through a figure
   figure-steps : (f : Figure) → FigureFits f → Steps n (ready p ps) (figureText f) (placed p (g.figure f) ps)
   unfolding figureText openText step
   figure-steps f h =
@@ -296,6 +311,7 @@ abbrev pub lastOf : Line → Part
 lastOf (g.one q) = q
 lastOf (g.either l q) = q
 
+-- put together again
 pub line-again : (l : Line) → lineOf (frontOf l) (lastOf l) ≡ l
 line-again (g.one q) = refl
 line-again (g.either l q) = refl
@@ -319,6 +335,7 @@ open-step : (p : Place) (ps : List Place) → step (ready p ps) 40 ≡ some (rea
 unfolding step
 open-step p ps = refl
 
+-- through lines, parts and items
 mutual
   unfolding written Fits depth
 

@@ -1,4 +1,7 @@
--- The laws of `specs/Text.antt`. No contract cites this file. Assumes nothing.
+-- The laws of `specs/Text.antt`. No contract cites this file.
+--     gap-32          numbers behind a space
+--     lead-behind     one more number
+-- Assumes nothing.
 use Prim.Native.Nat.{ℕ}
 use mathlib.Core.Path.{_≡_, refl, sym, ap, _∙_}
 use mathlib.Core.List.{List, [], _∷_, _++_, append-assoc, append-nil}

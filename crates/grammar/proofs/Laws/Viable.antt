@@ -1,4 +1,8 @@
--- Whatever has been read, some line of the grammar begins with it.
+-- Whatever has been read, some line of the grammar begins with it. No contract cites this file.
+--     begins-back      what a longer text begins with
+--     begins-after, begins-counting     open brackets can be closed, and numbers that are wanting can be 0
+--     begins-shown     whatever has been read, some line begins with it
+-- Assumes nothing.
 use Prim.Native.Nat.{ℕ, zero, suc, _+_, _<_, _≤_}
 use native.Mathlib.Omega.{arith}
 use mathlib.Core.Path.{_≡_, refl, sym, ap, _∙_, subst}
@@ -16,6 +20,7 @@ use Rattle.grammar.specs.Reading.{withCondition, behind, stepIn, Front, 
 use Rattle.grammar.specs.Reading.{placed, within, step, frontText, shown}
 use Rattle.grammar.proofs.Laws.Reading.{Sound, StepTold, step-told, line-text, line-fits}
 
+-- a beginning of what a line begins with
 pub begins-back : (s k : List ℕ) → Begins (s ++ k) → Begins s
 begins-back s k h = record { rest = k ++ (h .rest); whole = rw append-assoc at (h .whole) }
 
@@ -42,10 +47,12 @@ begins-after (p ∷ ps) f q h = via (after f q (p ∷ ps)) 41 (placed p (g.round
     go (first x) r s = r x (g.alone (g.round (lineOf f q))) s
     go (next x y j) r s = r x (g.join j y (g.round (lineOf f q))) s
 
+-- behind an item at its place
 begins-placed : (p : Place) (i : Item) (ps : List Place) → Sound (placed p i ps) → Begins (shown (placed p i ps))
 begins-placed (first f) i ps h = begins-after ps f (g.alone i) h
 begins-placed (next f q j) i ps h = begins-after ps f (g.join j q i) h
 
+-- a figure that may end here
 begins-closed : (f : Partial) (x : Figure) (p : Place) (ps : List Place) → stepIn f 93 ≡ closes x → Sound (inside f p ps)
     → Begins (shown (inside f p ps))
 unfolding step

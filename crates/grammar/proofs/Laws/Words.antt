@@ -46,6 +46,7 @@ words-four (kind.Operator Both) = refl
 words-four (kind.Operator Either) = refl
 words-four (kind.Operator FirstNotSecond) = refl
 
+-- rows have four words each
 pub plan-length : (rs : List Row) → length (planOf rs) ≡ 4 * length rs
 unfolding joined
 plan-length [] = refl

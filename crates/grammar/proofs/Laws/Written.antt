@@ -1,4 +1,7 @@
--- The line of an accepted plan: it says the plan, keeps to the grammar's limits, and is read as the plan.
+-- The tree of an accepted plan: the plan is its rows. No contract cites this file.
+--     Stacked, row-stacked, all-stacked     the trees that rows stack have these rows
+--     plan-tree                             a plan that passes every test is the rows of its tree
+-- Assumes nothing.
 use Prim.Native.Nat.{ℕ, _+_, _≤_}
 use native.Mathlib.Omega.{arith}
 use mathlib.Core.Path.{_≡_, refl, sym, ap, _∙_}
@@ -25,10 +28,11 @@ use Rattle.grammar.specs.Meaning.{operatorRow}
 use Rattle.grammar.specs.Query.{Query, leaf, queryRows, stackRows, topTwo, queriesAfter, queriesFrom, queryOf}
 use Rattle.grammar.proofs.Laws.Query.{voice, condition, end}
 
--- the rows of a pattern without END, and the pattern left open behind rows
+-- the rows of a pattern without END
 abbrev openRows : Pattern → List Row
 openRows f = map voice (f .vars) ++ map condition (f .predicates)
 
+-- the pattern that rows leave open
 unfoldable openFrom : Pattern → List Row → Pattern
 openFrom f [] = f
 openFrom f (r ∷ rows) = openFrom (openAfter f (r .kind)) rows
@@ -40,6 +44,7 @@ record Stacked (s : State) (f : Pattern) (qs : List Query) : Type 0 where
   unbegun : s .begun ≡ false → f .predicates ≡ []
   stack : length qs ≡ s .answers
 
+-- one more row
 record Row-stacked (s : State) (f : Pattern) (qs : List Query) (k : Kind) : Type 0 where
   next : Stacked (after s k) (openAfter f k) (queriesAfter f qs k)
   rows : stackRows (queriesAfter f qs k) ++ openRows (openAfter f k) ≡ (stackRows qs ++ openRows f) ++ (record { kind = k } ∷ [])
@@ -104,6 +109,7 @@ row-stacked t s f qs (kind.Operator o) p h =
     let e = takes-two o in
     operator-stacked o s f qs (w .0) (omega arith) h
 
+-- all rows of a plan
 record All-stacked (s : State) (f : Pattern) (qs : List Query) (rs : List Row) : Type 0 where
   last : Stacked (afterAll s rs) (openFrom f rs) (queriesFrom f qs rs)
   rows : stackRows (queriesFrom f qs rs) ++ openRows (openFrom f rs) ≡ (stackRows qs ++ openRows f) ++ rs
@@ -121,6 +127,7 @@ all-stacked t (r ∷ rs) s f qs p h =
 
 -- a plan that passes every test is the rows of its tree
 module _ (t : ℕ) (p : List ℕ) (ok : Passed t p) where
+  -- the plan is the rows of its tree
   pub plan-tree : queryRows (queryOf (rowsOf p)) ≡ rowsOf p
   unfolding queryOf stateAt stackRows
   plan-tree = go (queriesFrom noRow [] (rowsOf p)) refl (w .last .stack ∙ ok .single) (w .rows)
