@@ -1,4 +1,5 @@
 -- Document 02's number and values for each answer of reading a line. Assumes nothing.
+--     saidRead      the number of words, or a refusal
 use Prim.Native.Nat.{ℕ}
 use Rattle.seq.specs.Refusals.{Said, refused, answered}
 use Rattle.line.specs.declared.answers.Read.{Read}

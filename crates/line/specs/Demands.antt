@@ -49,6 +49,7 @@ pub record Answered (s : List ℕ) (n : ℕ) : Type 0 where
   -- the line of these rows is the text as it was typed exactly if no pair of its round brackets could be dropped
   pub back : (planText (wordsOfLine s) ≡ s) ↔ ((t : List ℕ) → Spare line t → ⊥)
 
+-- every answer says so
 unfoldable pub Reads : Type 0
 Reads = (s : List ℕ) (room n : ℕ) → readAnswer s room ≡ answered n → Answered s n
 

@@ -1,4 +1,7 @@
--- Reading a line as the rows of a plan: the answer, and the lent words afterwards. Assumes nothing.
+-- Reading a line as the rows of a plan. Assumes nothing.
+--     sizeOfLine     how many words there are
+--     readAnswer     the answer
+--     readOut        the lent words afterwards
 use Prim.Native.Nat.{ℕ, _*_}
 use mathlib.Core.Bool.{cond}
 use mathlib.Core.List.{List}
@@ -9,12 +12,13 @@ use Rattle.grammar.specs.Meaning.{lineRows}
 use Rattle.grammar.specs.Reading.{Outcome, whole, broken, deep, reading, outcome}
 use Rattle.grammar.specs.Words.{wordsOfLine}
 
--- how many words there are
+-- how many words there are, by how the reading ends
 abbrev pub sizeBy : Outcome → ℕ
 sizeBy (whole l) = 4 * length (lineRows l)
 sizeBy (broken q) = 0
 sizeBy (deep q) = 0
 
+-- how many words there are
 unfoldable pub sizeOfLine : List ℕ → ℕ
 unfolding outcome
 sizeOfLine s = sizeBy (reading s)

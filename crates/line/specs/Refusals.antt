@@ -1,4 +1,7 @@
 -- The refusals of reading a line as relations, which know no reader: one line for each number. Assumes nothing.
+--     Breaks, Deep     a text breaks the grammar at a byte; a bracket there is too deep
+--     ReadApplies      a refusal applies
+--     readStages       the order in which they are told
 use Prim.Native.Nat.{ℕ, _+_, _*_, _<_, _≤_}
 use mathlib.Core.Path.{_≡_}
 use mathlib.Core.List.{List, [], _∷_}

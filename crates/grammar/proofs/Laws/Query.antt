@@ -22,7 +22,7 @@ use Rattle.plan.specs.Patterns.{Pattern, noRow, openAfter, answersAfter, answer
 use Rattle.plan.specs.Parts.{patternRows}
 use Rattle.fulltext.specs.Documents.{found, matching}
 use Rattle.grammar.specs.Grammar as g
-use Rattle.grammar.specs.Grammar.{Condition, Joint, Line, Part, Item}
+use Rattle.grammar.specs.Grammar.{Joint, Line, Part, Item}
 use Rattle.grammar.specs.Meaning.{predicateOf, patternOf, operatorOf, operatorRow, lineRows, partRows, itemRows, joinedBy, lineHolds}
 use Rattle.grammar.specs.Meaning.{partHolds, itemHolds, lineTrue}
 use Rattle.grammar.specs.Query.{Query, leaf, node, queryRows, queryHolds, topTwo, queriesAfter, queriesFrom, lineQuery, partQuery}

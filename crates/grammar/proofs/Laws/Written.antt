@@ -17,13 +17,12 @@ use Rattle.plan.specs.declared.row.Row.{Row}
 use Rattle.plan.specs.declared.state.State.{State}
 use Rattle.plan.specs.Rows.{rowsOf}
 use Rattle.plan.specs.State.{initial, after, afterAll, stateAt, takes}
-use Rattle.plan.specs.Patterns.{Pattern, noRow, openAfter, closed}
+use Rattle.plan.specs.Patterns.{Pattern, noRow, openAfter}
 use Rattle.plan.specs.Parts.{patternRows}
 use Rattle.plan.proofs.Laws.State.{condition-stands, operator-stands, takes-two}
 use Rattle.plan.proofs.Laws.Patterns.{Passes, PassAll}
 use Rattle.plan.proofs.Laws.Passed.{Passed}
 use Rattle.plan.proofs.Laws.Given.{all-pass}
-use Rattle.grammar.specs.Grammar.{Condition}
 use Rattle.grammar.specs.Meaning.{operatorRow}
 use Rattle.grammar.specs.Query.{Query, leaf, queryRows, stackRows, topTwo, queriesAfter, queriesFrom, queryOf}
 use Rattle.grammar.proofs.Laws.Query.{voice, condition, end}

@@ -13,6 +13,7 @@ use Rattle.line.specs.declared.answers.Read.the-variants as read
 use Rattle.line.specs.Answers.{saidRead}
 use Rattle.line.specs.Demands.{OneToOne}
 
+-- the answer with a number and values
 abbrev heardRead : Said ℕ → Read
 heardRead (refused n q) = cond (eqb n 21) (read.Broken q) (cond (eqb n 22) (read.Deep q) (cond (eqb n 23) read.TooMany read.Short))
 heardRead (answered n) = read.Words n
@@ -24,6 +25,7 @@ heard-read (read.Deep q) = refl
 heard-read read.TooMany = refl
 heard-read read.Short = refl
 
+-- no two answers are told alike
 pub one-to-one : OneToOne
 unfolding OneToOne
 one-to-one = alike saidRead heardRead heard-read

@@ -1,4 +1,9 @@
--- The call that reads a line: a law for each way through it.
+-- The call that reads a line: a law for each way through it. No contract cites this file.
+--     stored-laid                        rows that fit lie at the front of the buffer, and the rest is as it was
+--     place-broken, place-deep           a refusal's place lies in the text, or at its end
+--     too-long, refuses-broken, refuses-deep, too-many, too-short     the refusals
+--     answers                            the answer, and the buffer afterwards
+-- Assumes nothing.
 use Prim.Native.Nat.{ℕ, suc, _+_, _*_, _<_, _≤_}
 use native.Mathlib.Numerals.{add-one, add-two, add-three}
 use native.Mathlib.Omega.{arith}
@@ -33,6 +38,7 @@ set-four : (pre : List ℕ) (a b c d k x y z : ℕ) (r : List ℕ)
 set-four [] a b c d k x y z r = refl
 set-four (p ∷ pre) a b c d k x y z r = ap (λ (l : List ℕ). p ∷ l) (set-four pre a b c d k x y z r)
 
+-- a row that is stored over four words
 put-fits : (pre : List ℕ) (a b c d n : ℕ) (w : Words) (r : List ℕ) → length pre ≡ 4 * n
     → putWords (pre ++ (a ∷ b ∷ c ∷ d ∷ r)) n w ≡ pre ++ (w .kind ∷ w .a ∷ w .b ∷ w .c ∷ r)
 unfolding putWords
@@ -65,6 +71,7 @@ stored-plan (r ∷ rs) pre (a ∷ b ∷ c ∷ d ∷ rest) n e h =
     ∙ ap (λ (x : List ℕ). pre ++ x) (sym (append-assoc ws (planOf rs) (drop (4 * length rs) rest)))
     ∙ ap (λ (m : ℕ). pre ++ ((ws ++ planOf rs) ++ drop m (a ∷ b ∷ c ∷ d ∷ rest))) (sym q)
 
+-- rows that fit lie at the front of the buffer
 pub stored-laid : (rs : List Row) (out : List ℕ) → 4 * length rs ≤ length out → stored out 0 rs ≡ planOf rs ++ drop (length (planOf rs)) out
 stored-laid rs out h = stored-plan rs [] out 0 refl h ∙ ap (λ (n : ℕ). planOf rs ++ drop n out) (sym (plan-length rs))
 
@@ -79,6 +86,7 @@ deep-inside s q w =
     let m = length-append (w .read) (w .byte ∷ w .rest) in
     omega arith
 
+-- the byte that breaks the grammar lies in the text, or is its end
 pub place-broken : (s none none′ : List ℕ) (q : ℕ) → WholeRead s none none′ (Broken q) (reading s) → q ≤ length s
 place-broken s none none′ q w = go (reading s) (outcome-told s start 0) w
   where
@@ -87,6 +95,7 @@ place-broken s none none′ q w = go (reading s) (outcome-told s start 0) w
     go (broken k) t x = let h = broken-inside s k t in omega arith
     go (deep k) t x = absurd x
 
+-- the bracket that is too deep lies in the text
 pub place-deep : (s none none′ : List ℕ) (q : ℕ) → WholeRead s none none′ (Deep q) (reading s) → q ≤ length s
 place-deep s none none′ q w = go (reading s) (outcome-told s start 0) w
   where
@@ -104,15 +113,18 @@ module _ (s out : List ℕ) where
   unfolding readOut laid
   refuses n q e = (sym e, sym (ap (λ (x : Said ℕ). laid x (wordsOfLine s) out) e))
 
+  -- a text that is too long
   pub too-long : 2048 < length s → Answers (refused 21 2048) out
   unfolding readAnswer
   too-long h = refuses 21 2048 (rw (lt-ltb 2048 (length s) h))
 
   module _ (h : length s ≤ 2048) where
+    -- the answer by how the reading ends
     answer-by : (o : Outcome) → reading s ≡ o → readAnswer s (length out) ≡ readBy o (length out)
     unfolding readAnswer
     answer-by o e = rw (le-ltb 2048 (length s) h) (ap (λ (x : Outcome). readBy x (length out)) e)
 
+    -- a text that breaks the grammar
     pub refuses-broken : (none none′ : List ℕ) (q : ℕ) → WholeRead s none none′ (Broken q) (reading s) → Answers (refused 21 q) out
     refuses-broken none none′ q w = go (reading s) refl w
       where
@@ -121,6 +133,7 @@ module _ (s out : List ℕ) where
         go (broken k) e x = refuses 21 q (answer-by (broken k) e ∙ ap (λ (n : ℕ). refused 21 n) (sym x))
         go (deep k) e x = absurd x
 
+    -- one with a bracket that is too deep
     pub refuses-deep : (none none′ : List ℕ) (q : ℕ) → WholeRead s none none′ (Deep q) (reading s) → Answers (refused 22 q) out
     refuses-deep none none′ q w = go (reading s) refl w
       where
@@ -140,12 +153,14 @@ module _ (s out : List ℕ) where
           go (broken q) e x = absurd x
           go (deep q) e x = absurd x
 
+      -- a line with too many rows
       pub too-many : 64 < m → Answers (refused 23 0) out
       too-many g =
           let l = line-of in
           let b : 64 < length (lineRows (l .0)) = subst (λ (n : ℕ). 64 < n) (l .2) g in
           refuses 23 0 (answer-by (whole (l .0)) (l .1) ∙ rw (lt-ltb 64 (length (lineRows (l .0))) b))
 
+      -- a buffer that is too short for the rows
       pub too-short : m ≤ 64 → length out < 4 * m → Answers (refused 16 0) out
       too-short g f =
           let l = line-of in
@@ -161,6 +176,7 @@ module _ (s out : List ℕ) where
           → answered (4 * length (lineRows l)) ≡ answered (4 * m) → readBy (whole l) (length out) ≡ answered (4 * m)
       in-room l m b c e = rw (le-ltb 64 (length (lineRows l)) b, le-ltb (length out) (4 * length (lineRows l)) c) e
 
+      -- a line with few rows, and room for them
       pub answers : (out′ : List ℕ) (r : Reached) → m ≤ 64 → 4 * m ≤ length out → WholeRead s out out′ r (reading s)
           → Answers (answered (4 * m)) out′
       unfolding readOut laid wordsOfLine

@@ -1,4 +1,8 @@
--- Reading a line answers the first refusal that applies.
+-- Reading a line answers the first refusal that applies. No contract cites this file.
+--     of-read, in-first                  what applies, and what applies in the first stage
+--     of-broken, of-deep, of-whole       the answer is sound, by how the reading ends
+--     read-sound, read-first             it is the first refusal that applies
+-- Assumes nothing.
 use Prim.Native.Nat.{ℕ, _+_, _*_, _<_, _≤_}
 use native.Mathlib.Omega.{arith}
 use mathlib.Core.Path.{_≡_, refl, sym, ap, _∙_, subst}
@@ -25,27 +29,35 @@ use Rattle.grammar.proofs.Laws.Outcome.{Stopped, Opened, Wholly, OutcomeTold, o
 use Rattle.line.proofs.Laws.Refusals.{broken-breaks, not-deep, not-broken, stopped-steps, opened-deep, opened-steps, whole-line}
 
 module _ (s : List ℕ) (room : ℕ) where
+  -- the stage of a number
   abbrev Stage : ℕ → ℕ
   Stage n = stageIn readStages n
 
+  -- 21 at byte 2,048
   abbrev Long : ℕ → ℕ → Type 0
   Long m q = (m ≡ 21) × ((q ≡ 2048) × (2048 < length s))
 
+  -- 21 where the grammar breaks
   abbrev Broken : ℕ → ℕ → Type 0
   Broken m q = (m ≡ 21) × ((length s ≤ 2048) × Breaks s q)
 
+  -- 22
   abbrev Deeper : ℕ → ℕ → Type 0
   Deeper m q = (m ≡ 22) × ((length s ≤ 2048) × Deep s q)
 
+  -- 23
   abbrev Many : Type 0
   Many = (l : Line) × Fits l × (written l ≡ s) × (64 < length (lineRows l))
 
+  -- 16
   abbrev Short : Type 0
   Short = (l : Line) × Fits l × (written l ≡ s) × (room < 4 * length (lineRows l))
 
+  -- one of them
   abbrev OfRead : ℕ → ℕ → Type 0
   OfRead m q = Long m q ⊎ (Broken m q ⊎ (Deeper m q ⊎ (((m ≡ 23) × ((q ≡ 0) × Many)) ⊎ ((m ≡ 16) × ((q ≡ 0) × Short)))))
 
+  -- whatever applies is one of them
   of-read : (m q : ℕ) → ReadApplies s room m q → OfRead m q
   of-read m q (tooLong h) = inl (refl, (refl, h))
   of-read m q (breaks e l h) = inr (inl (refl, (l, h)))
@@ -57,6 +69,7 @@ module _ (s : List ℕ) (room : ℕ) where
   abbrev InFirst : ℕ → ℕ → Type 0
   InFirst m q = Long m q ⊎ (Broken m q ⊎ Deeper m q)
 
+  -- of the first stage
   in-first : (m q : ℕ) → ReadApplies s room m q → Stage m ≡ 0 → InFirst m q
   unfolding stageIn elem
   in-first m q a e =
@@ -69,9 +82,11 @@ module _ (s : List ℕ) (room : ℕ) where
   abbrev IsSound : Said ℕ → Type 0
   IsSound said = r.Sound Stage (ReadApplies s room) (sizeOfLine s) said
 
+  -- a first refusal is a sound answer
   told : (n p : ℕ) → First Stage (ReadApplies s room) n p → IsSound (refused n p)
   told n p f = rung Stage (ReadApplies s room) (sizeOfLine s) true n p (refused n p) (λ t. f) (λ t. absurd (true≢false t))
 
+  -- a refusal of the first stage is first where none of that stage comes before it
   first-stage : (n p : ℕ) → Stage n ≡ 0 → ReadApplies s room n p → ((m q : ℕ) → InFirst m q → ((q < p) ⊎ ((q ≡ p) × (m < n))) → ⊥)
       → First Stage (ReadApplies s room) n p
   first-stage n p e a none =
@@ -86,9 +101,11 @@ module _ (s : List ℕ) (room : ℕ) where
   at-22 = refl
 
   module _ (fits : length s ≤ 2048) where
+    -- the text is not too long
     not-long : (m q : ℕ) → Long m q → ⊥
     not-long m q y = let z : 2048 < length s = y .1 .1 in omega arith
 
+    -- a reading that stops
     of-broken : (e : ℕ) → Stopped start 0 s e → IsSound (refused 21 e)
     of-broken e w =
         let b = broken-breaks s e w in
@@ -102,6 +119,7 @@ module _ (s : List ℕ) (room : ℕ) where
         (λ (y : Deeper m q). ⊎-elim (λ (k : q < e). not-deep s e (w .there) read q k (y .1 .1))
         (λ (k : (q ≡ e) × (m < 21)). let z : m ≡ 22 = y .0 in let t : m < 21 = k .1 in omega arith) lower)) x))
 
+    -- a reading that meets a ninth bracket
     of-deep : (e : ℕ) → Opened start 0 s e → IsSound (refused 22 e)
     of-deep e w =
         let d = opened-deep s e w in
@@ -125,6 +143,7 @@ module _ (s : List ℕ) (room : ℕ) where
                 ap (take e) (sym (w .text))
                 ∙ take-at (w .read) (w .byte ∷ w .rest) e (let l = w .at in let z : length (w .read) ≡ e = omega arith in z)
 
+    -- a reading that comes to the end of a line
     of-whole : (l : Line) → Wholly start s l → sizeOfLine s ≡ 4 * length (lineRows l)
         → IsSound
         (cond (ltb 64 (length (lineRows l))) (refused 23 0)
@@ -195,11 +214,13 @@ module _ (s : List ℕ) (room : ℕ) where
             (⊎-elim (λ x. let z : 3 ≤ 1 = rw (x .0) at h in omega arith) (λ x. let z : 3 ≤ 2 = rw (x .0) at h in omega arith))))
             (of-read m q a)
 
+    -- by how the reading ends
     of-outcome : (o : Outcome) → OutcomeTold start 0 s o → sizeOfLine s ≡ sizeBy o → IsSound (readBy o room)
     of-outcome (whole l) w e = of-whole l w e
     of-outcome (broken q) w e = of-broken q w
     of-outcome (deep q) w e = of-deep q w
 
+  -- the answer is sound
   pub read-sound : IsSound (readAnswer s room)
   unfolding readAnswer sizeOfLine
   read-sound =
@@ -216,5 +237,6 @@ module _ (s : List ℕ) (room : ℕ) where
       (λ (y : Deeper m q). let z : length s ≤ 2048 = y .1 .0 in omega arith)) x))
       (λ t. of-outcome (ltb-false 2048 (length s) t) (reading s) (outcome-told s start 0) refl)
 
+  -- reading answers the first refusal that applies
   pub read-first : FirstRefusal Stage (ReadApplies s room) (sizeOfLine s) (readAnswer s room)
   read-first = first-refusal Stage (ReadApplies s room) (sizeOfLine s) (readAnswer s room) read-sound

@@ -1,4 +1,11 @@
--- A law for each way through the readers.
+-- A law for each way through the readers of `src/figure.rt` and `src/reading.rt`. No contract cites this file.
+--     from-goes, from-none, from-deep, from-end     the reading of a text, by what its next byte does
+--     stored-append, stored-length, stored-one      rows are stored one behind the other
+--     settled                  an operator is stored behind its second side
+--     Within, within-first, within-goes, within-emits     in a pattern: the invariant of its reader, and a byte that goes on
+--     within-end, within-closes, within-stuck       how the reading of a pattern ends
+--     item-.., part-.., line-.., whole-..           the readers of items, parts, lines and of the whole text
+-- Assumes nothing.
 use Prim.Native.Nat.{ℕ, suc, _+_, _*_, _<_, _≤_}
 use native.Mathlib.Numerals.{add-one}
 use native.Mathlib.Omega.{arith}
@@ -13,14 +20,12 @@ use lib.Seq.{drop-cons}
 use borrow.Author.Tests.{lt-ltb, le-ltb, ne-eqb}
 use Rattle.line.specs.declared.steps.State.{State}
 use Rattle.line.specs.declared.steps.State.the-variants.{Listing}
-use Rattle.line.specs.declared.steps.Next.{Next}
 use Rattle.line.specs.declared.steps.Next.the-variants.{Goes, Emits, Closes, Stuck}
 use Rattle.line.specs.declared.steps.Words.{Words}
 use Rattle.line.specs.declared.reading.Pending.{Pending}
 use Rattle.line.specs.declared.reading.Pending.the-variants as pending
 use Rattle.plan.specs.declared.row.Kind.the-variants as kind
 use Rattle.plan.specs.declared.row.Row.{Row}
-use Rattle.plan.specs.declared.row.Operator.the-variants.{Both, Either}
 use Rattle.plan.specs.Parts.{patternRows}
 use Rattle.grammar.specs.Meaning.{patternOf, lineRows, partRows, itemRows}
 use Rattle.line.specs.Inner.Store.{putWords, stored, partialRows}
@@ -49,20 +54,24 @@ module _ (s : List ℕ) (c : Config) (q : ℕ) where
   unfolding outcome
   here h = ap (outcome c q) (drop-cons s q 0 h)
 
+  -- a byte that can be read
   pub from-goes : (d : Config) → q < length s → step c (getD s q 0) ≡ some d → length (openIn d) ≤ 8 → from s c q ≡ from s d (q + 1)
   from-goes d h e l =
       here h ∙ ap (λ (o : Option Config). continued o q (λ x. outcome x (suc q) (drop (suc q) s))) e
       ∙ ap (λ (t : Bool). cond t (deep q) (outcome d (suc q) (drop (suc q) s))) (le-ltb 8 (length (openIn d)) l)
       ∙ ap (λ (k : ℕ). from s d k) (sym (add-one q))
 
+  -- a byte that no line has there
   pub from-none : q < length s → step c (getD s q 0) ≡ none → from s c q ≡ broken q
   from-none h e = here h ∙ ap (λ (o : Option Config). continued o q (λ x. outcome x (suc q) (drop (suc q) s))) e
 
+  -- a ninth bracket
   pub from-deep : (d : Config) → q < length s → step c (getD s q 0) ≡ some d → 8 < length (openIn d) → from s c q ≡ deep q
   from-deep d h e l =
       here h ∙ ap (λ (o : Option Config). continued o q (λ x. outcome x (suc q) (drop (suc q) s))) e
       ∙ ap (λ (t : Bool). cond t (deep q) (outcome d (suc q) (drop (suc q) s))) (lt-ltb 8 (length (openIn d)) l)
 
+  -- the end of the text
   pub from-end : length s ≤ q → from s c q ≡ ended c q
   unfolding outcome
   from-end h = ap (outcome c q) (drop-of-length-le s h)
@@ -82,6 +91,7 @@ third word.Before (a ∷ b ∷ c ∷ ns) l h = absurd (let z : ⊥ = omega arith
 third word.Same (a ∷ b ∷ c ∷ ns) l h = absurd (let z : ⊥ = omega arith in z)
 third word.Span (a ∷ b ∷ c ∷ ns) l h = absurd (let z : ⊥ = omega arith in z)
 
+-- a pattern so far keeps its state in the limits
 pub state-most : (f : Partial) → PartialFits f → StateMost (stateOf f)
 state-most (listing ns x) h = number-most 65536 x (h .last)
 state-most (semicolon f) h = tt
@@ -97,6 +107,7 @@ stored-append (r ∷ rs) ss out n =
     ∙ ap (λ (k : ℕ). stored (stored (putWords out n (wordsIn r)) (n + 1) rs) k ss)
     (let e : n + 1 + length rs ≡ n + suc (length rs) = omega arith in e)
 
+-- a row that is stored leaves the length
 pub put-length : (out : List ℕ) (n : ℕ) (w : Words) → length (putWords out n w) ≡ length out
 unfolding putWords
 put-length out n w = go (leb (4 * n + 4) (length out))
@@ -107,22 +118,24 @@ put-length out n w = go (leb (4 * n + 4) (length out))
     go true = simp length-set
     go false = refl
 
+-- and so do rows
 pub stored-length : (rs : List Row) (out : List ℕ) (n : ℕ) → length (stored out n rs) ≡ length out
 unfolding stored
 stored-length [] out n = refl
 stored-length (r ∷ rs) out n = stored-length rs (putWords out n (wordsIn r)) (n + 1) ∙ put-length out n (wordsIn r)
 
+-- one row
 pub stored-one : (out : List ℕ) (n : ℕ) (w : Words) (r : Row) → wordsIn r ≡ w → putWords out n w ≡ stored out n (r ∷ [])
 unfolding stored
 stored-one out n w r e = ap (putWords out n) (sym e)
 
--- an operator behind its second side
+-- an operator is stored behind its second side
 pub settled : (out : List ℕ) (n : ℕ) (o p : Pending) → o ≡ p → {out′ : List ℕ} {m : ℕ} → out′ ≡ stored out n (pendingRows p)
     → m ≡ n + length (pendingRows p) → (out′ ≡ stored out n (pendingRows o)) × (m ≡ n + length (pendingRows o))
 settled out n o p e x y =
     (x ∙ ap (λ (z : Pending). stored out n (pendingRows z)) (sym e), y ∙ ap (λ (z : Pending). n + length (pendingRows z)) (sym e))
 
--- in a pattern
+-- the pattern from byte `start` on has been read to byte `at`: its state, and the rows that are stored
 pub record Within (s : List ℕ) (start n : ℕ) (out : List ℕ) (at : ℕ) (state : State) (rows : ℕ) (out′ : List ℕ) : Type 0 where
   pub read : Partial
   pub is : stateOf read ≡ state
@@ -135,6 +148,7 @@ pub record Within (s : List ℕ) (start n : ℕ) (out : List ℕ) (at : ℕ) (st
   pub steps : (p : Place) (ps : List Place) → length ps ≤ 8 → from s (inside (listing [] fresh) p ps) start ≡ from s (inside read p ps) at
 
 module _ (s : List ℕ) (start n : ℕ) (out : List ℕ) where
+  -- nothing has been read of it
   pub within-first : start ≤ length s → n < start → Within s start n out start (Listing fresh) n out
   unfolding stored
   within-first h l = record {
@@ -150,16 +164,20 @@ module _ (s : List ℕ) (start n : ℕ) (out : List ℕ) where
   }
 
   module _ (at : ℕ) (state : State) (rows : ℕ) (out′ : List ℕ) (w : Within s start n out at state rows out′) where
+    -- the buffer keeps its length
     pub within-length : length out′ ≡ length out
     within-length = ap length (w .kept) ∙ stored-length (partialRows (w .read)) out n
 
+    -- the state keeps to the limits
     pub within-most : StateMost state
     within-most = subst StateMost (w .is) (state-most (w .read) (w .sound))
 
+    -- the text ends in a pattern
     pub within-end : length s ≤ at → FigureRead s start n out out′ (Broken at)
     within-end h p ps l = w .steps p ps l ∙ from-end s (inside (w .read) p ps) at h
 
     module _ (h : at < length s) where
+      -- the state follows the reading
       follows : Follows (w .read) (stepIn (w .read) (getD s at 0)) (stepState state (getD s at 0))
       follows =
           subst (λ (x : State). Follows (w .read) (stepIn (w .read) (getD s at 0)) (stepState x (getD s at 0))) (w .is)
@@ -170,6 +188,7 @@ module _ (s : List ℕ) (start n : ℕ) (out : List ℕ) where
       unfolding step
       within-is m e p ps = ap (λ (x : reading.Next). within x p ps) e
 
+      -- a byte inside a row
       pub within-goes : (to : State) → stepState state (getD s at 0) ≡ Goes to → Within s start n out (at + 1) to rows out′
       within-goes to e =
           go (stepIn (w .read) (getD s at 0)) refl (subst (Follows (w .read) (stepIn (w .read) (getD s at 0))) e follows)
@@ -191,6 +210,7 @@ module _ (s : List ℕ) (start n : ℕ) (out : List ℕ) where
           go (closes f) q r t = absurd r
           go stuck q r t = absurd r
 
+      -- a byte behind a row
       pub within-emits : (ws : Words) (to : State) → stepState state (getD s at 0) ≡ Emits ws to
           → Within s start n out (at + 1) to (rows + 1) (putWords out′ rows ws)
       within-emits ws to e =
@@ -222,6 +242,7 @@ module _ (s : List ℕ) (start n : ℕ) (out : List ℕ) where
           go (closes f) q r t = absurd r
           go stuck q r t = absurd r
 
+      -- `]`: the last row, and END
       pub within-closes : (ws last : Words) → last ≡ record { kind = 6; a = 0; b = 0; c = 0 }
           → stepState state (getD s at 0) ≡ Closes ws
           → FigureRead s start n out (putWords (putWords out′ rows ws) (rows + 1) last) (At (at + 1) (rows + 2))
@@ -265,6 +286,7 @@ module _ (s : List ℕ) (start n : ℕ) (out : List ℕ) where
                   (record { kind = kind.End }) refl))
           go stuck q r = absurd r
 
+      -- a byte that no line has there
       pub within-stuck : stepState state (getD s at 0) ≡ Stuck → FigureRead s start n out out′ (Broken at)
       within-stuck e = go (stepIn (w .read) (getD s at 0)) refl (subst (Follows (w .read) (stepIn (w .read) (getD s at 0))) e follows)
         where
@@ -315,6 +337,7 @@ step-not-shut f q b x y z = rw (ne-eqb b 124 z, ne-eqb b 38 x, ne-eqb b 33 y) (g
     go true = refl
     go false = refl
 
+-- the operator of `&` and of `!` waits
 abbrev pub waitsFor : g.Joint → Pending
 waitsFor g.both = pending.Both
 waitsFor g.without = pending.Without
@@ -356,10 +379,12 @@ then-rows s at n out out₁ out₂ e m f k slack a b v w = record {
 }
 
 module _ (s : List ℕ) (at d n : ℕ) (out : List ℕ) where
+  -- no item at the end of the text
   pub item-out : length s ≤ at → ItemRead s at d n out out (Broken at)
   item-out h p ps l = from-end s (ready p ps) at h
 
   module _ (h : at < length s) (few : d ≤ 8) where
+    -- `[`: a pattern
     pub item-figure : getD s at 0 ≡ 91 → (out′ : List ℕ) (r : Reached) → FigureRead s (at + 1) n out out′ r → ItemRead s at d n out out′ r
     unfolding lineRows
     item-figure e out′ (At k m) w = record {
@@ -387,10 +412,12 @@ module _ (s : List ℕ) (at d n : ℕ) (out : List ℕ) where
         ∙ w p ps (omega arith)
     item-figure e out′ (Deep k) w = absurd w
 
+    -- a byte that begins no item
     pub item-none : getD s at 0 ≢ 91 → getD s at 0 ≢ 40 → ItemRead s at d n out out (Broken at)
     item-none e f p ps l = from-none s (ready p ps) at h (step-no-item p ps (getD s at 0) e f)
 
     module _ (e : getD s at 0 ≡ 40) where
+      -- a ninth bracket
       pub item-deep : 8 ≤ d → ItemRead s at d n out out (Deep at)
       item-deep m p ps l = from-deep s (ready p ps) at (ready (first bare) (p ∷ ps)) h (step-round p ps (getD s at 0) e) (omega arith)
 
@@ -398,19 +425,23 @@ module _ (s : List ℕ) (at d n : ℕ) (out : List ℕ) where
         opens-on : (p : Place) (ps : List Place) → length ps ≡ d → from s (ready p ps) at ≡ from s (ready (first bare) (p ∷ ps)) (at + 1)
         opens-on p ps l = from-goes s (ready p ps) at (ready (first bare) (p ∷ ps)) h (step-round p ps (getD s at 0) e) (omega arith)
 
+        -- `(`: the line inside breaks the grammar
         pub item-broken : (k : ℕ) → LineRead s (at + 1) (d + 1) n pending.Nothing out out′ (Broken k)
             → ItemRead s at d n out out′ (Broken k)
         item-broken k w = λ p ps l. opens-on p ps l ∙ w bare (p ∷ ps) (omega arith) refl
 
+        -- a bracket inside it is too deep
         pub item-too-deep : (k : ℕ) → LineRead s (at + 1) (d + 1) n pending.Nothing out out′ (Deep k) → ItemRead s at d n out out′ (Deep k)
         item-too-deep k w = λ p ps l. opens-on p ps l ∙ w bare (p ∷ ps) (omega arith) refl
 
         module _ (k i : ℕ) (w : LineAt s (at + 1) (d + 1) n pending.Nothing out out′ k i) where
+          -- it is not closed: the text ends
           pub item-open : length s ≤ k → ItemRead s at d n out out′ (Broken k)
           item-open o p ps l =
               let x = w .goes bare (p ∷ ps) (omega arith) refl in
               opens-on p ps l ∙ x .2 ∙ from-end s (after (x .0) (x .1) (p ∷ ps)) k o
 
+          -- it is not closed: another byte stands there
           pub item-wrong : k < length s → getD s k 0 ≢ 41 → ItemRead s at d n out out′ (Broken k)
           item-wrong o f p ps l =
               let x = w .goes bare (p ∷ ps) (omega arith) refl in
@@ -419,6 +450,7 @@ module _ (s : List ℕ) (at d n : ℕ) (out : List ℕ) where
               ∙ x .2
               ∙ from-none s (after (x .0) (x .1) (p ∷ ps)) k o (step-no-more (x .0) (x .1) (p ∷ ps) (getD s k 0) (z .0) (z .1) (z .2) f)
 
+          -- it is closed
           pub item-shut : k < length s → getD s k 0 ≡ 41 → ItemRead s at d n out out′ (At (k + 1) i)
           unfolding lineRows
           item-shut o f = record {
@@ -461,6 +493,7 @@ module _ (s : List ℕ) (at d n : ℕ) (out : List ℕ) where
     part-rows-so-far : Stored s at n (length (pendingRows o)) out out₂ e k (w .new ++ pendingRows o)
     part-rows-so-far = settled-rows s at n out out₁ out₂ e m k (w .new) o (w .rows) x y
 
+    -- no `&` and no `!` follows
     pub part-at : (e < length s → (getD s e 0 ≢ 38) × (getD s e 0 ≢ 33)) → PartRead s at d n o out out₂ (At e k)
     part-at z = record { new = w .new ++ pendingRows o; rows = part-rows-so-far; ends = z; goes = part-so-far }
 
@@ -478,6 +511,7 @@ module _ (s : List ℕ) (at d n : ℕ) (out : List ℕ) where
           from-goes s (after (frontOf p) q ps) e (ready (next (frontOf p) q j) ps) h (step-joint (frontOf p) q ps (getD s e 0) j b)
           (omega arith)
 
+      -- `&` or `!`: the rest of the part
       pub part-joint : (r : Reached) → PartRead s (e + 1) d k (waitsFor j) out₂ out′ r → PartRead s at d n o out out′ r
       part-joint (At f i) v = record {
         new = (w .new ++ pendingRows o) ++ v .new;
@@ -507,9 +541,11 @@ module _ (s : List ℕ) (at d n : ℕ) (out : List ℕ) where
           let a = part-so-far p ps l u in
           a .1 ∙ joins-on p ps (a .0) l ∙ v (next (frontOf p) (a .0) j) ps l (joins-next (frontOf p) (a .0))
 
+  -- its first item breaks the grammar
   pub part-broken : (o : Pending) (out′ : List ℕ) (k : ℕ) → ItemRead s at d n out out′ (Broken k) → PartRead s at d n o out out′ (Broken k)
   part-broken o out′ k w = λ p ps l u. w p ps l
 
+  -- a bracket of its first item is too deep
   pub part-deep : (o : Pending) (out′ : List ℕ) (k : ℕ) → ItemRead s at d n out out′ (Deep k) → PartRead s at d n o out out′ (Deep k)
   part-deep o out′ k w = λ p ps l u. w p ps l
 
@@ -526,6 +562,7 @@ module _ (s : List ℕ) (at d n : ℕ) (out : List ℕ) where
     line-rows-so-far : Stored s at n (length (pendingRows o)) out out₂ e k (w .new ++ pendingRows o)
     line-rows-so-far = settled-rows s at n out out₁ out₂ e m k (w .new) o (w .rows) x y
 
+    -- no `|` follows
     pub line-at : (e < length s → getD s e 0 ≢ 124) → LineRead s at d n o out out₂ (At e k)
     line-at z = record {
       new = w .new ++ pendingRows o;
@@ -540,6 +577,7 @@ module _ (s : List ℕ) (at d n : ℕ) (out : List ℕ) where
       either-on f ps q l =
           from-goes s (after f q ps) e (ready (first (eithers (lineOf f q))) ps) h (step-either f q ps (getD s e 0) b) (omega arith)
 
+      -- `|`: the rest of the line
       pub line-either : (r : Reached) → LineRead s (e + 1) d k pending.Either out₂ out′ r → LineRead s at d n o out out′ r
       line-either (At f i) v = record {
         new = (w .new ++ pendingRows o) ++ v .new;
@@ -560,25 +598,30 @@ module _ (s : List ℕ) (at d n : ℕ) (out : List ℕ) where
       line-either (Deep f) v =
           λ g′ ps l u. let a = line-so-far g′ ps l u in a .1 ∙ either-on g′ ps (a .0) l ∙ v (eithers (lineOf g′ (a .0))) ps l refl
 
+  -- its first part breaks the grammar
   pub line-broken : (o : Pending) (out′ : List ℕ) (k : ℕ) → PartRead s at d n pending.Nothing out out′ (Broken k)
       → LineRead s at d n o out out′ (Broken k)
   line-broken o out′ k w = λ f ps l u. w (first f) ps l refl
 
+  -- a bracket of its first part is too deep
   pub line-deep : (o : Pending) (out′ : List ℕ) (k : ℕ) → PartRead s at d n pending.Nothing out out′ (Deep k)
       → LineRead s at d n o out out′ (Deep k)
   line-deep o out′ k w = λ f ps l u. w (first f) ps l refl
 
 -- the whole text
 module _ (s out : List ℕ) where
+  -- the line breaks the grammar
   pub whole-broken-off : (out′ : List ℕ) (k : ℕ) → LineRead s 0 0 0 pending.Nothing out out′ (Broken k)
       → WholeRead s out out′ (Broken k) (reading.reading s)
   whole-broken-off out′ k w = subst (WholeRead s out out′ (Broken k)) (sym (w bare [] refl refl)) refl
 
+  -- a bracket of it is too deep
   pub whole-deep : (out′ : List ℕ) (k : ℕ) → LineRead s 0 0 0 pending.Nothing out out′ (Deep k)
       → WholeRead s out out′ (Deep k) (reading.reading s)
   whole-deep out′ k w = subst (WholeRead s out out′ (Deep k)) (sym (w bare [] refl refl)) refl
 
   module _ (out′ : List ℕ) (k m : ℕ) (w : LineAt s 0 0 0 pending.Nothing out out′ k m) where
+    -- more text follows the line
     pub whole-broken : k < length s → WholeRead s out out′ (Broken k) (reading.reading s)
     whole-broken h =
         let x = w .goes bare [] refl refl in
@@ -586,6 +629,7 @@ module _ (s out : List ℕ) where
         subst (WholeRead s out out′ (Broken k))
         (sym (x .2 ∙ from-none s (after (x .0) (x .1) []) k h (step-not-shut (x .0) (x .1) (getD s k 0) (n .0) (n .1) (n .2)))) refl
 
+    -- the text is a line
     pub whole-at : length s ≤ k → WholeRead s out out′ (At k m) (reading.reading s)
     whole-at h =
         let x = w .goes bare [] refl refl in

@@ -1,7 +1,9 @@
--- How a reading ends, as the refusals say it.
---     broken-breaks, broken-first     a reading that is broken off at e breaks the grammar there, and no bracket is opened too deep before
---     deep-deep, deep-begins          one that meets a ninth bracket at e
---     whole-line                      one that comes to an end
+-- How a reading ends, as the refusals say it. No contract cites this file.
+--     broken-breaks, stopped-steps      a reading that is broken off at e breaks the grammar there
+--     not-deep, not-broken              in what can be read no bracket is too deep, and the grammar does not break
+--     opened-deep, opened-steps         a reading that meets a ninth bracket at e
+--     whole-line                        a reading that comes to an end has read a line
+-- Assumes nothing.
 use Prim.Native.Nat.{ℕ, _+_, _<_, _≤_}
 use native.Mathlib.Numerals.{add-one}
 use native.Mathlib.Omega.{arith}
@@ -32,6 +34,7 @@ steps-take n a d k p =
     let q = steps-prefix n start (take k a) (drop k a) d (subst (λ (l : List ℕ). Steps n start l d) (sym (take-append-drop k a)) p) in
     (q .0, q .1)
 
+-- with more brackets allowed
 steps-more : (m n : ℕ) (c : Config) (a : List ℕ) (d : Config) → m ≤ n → Steps m c a d → Steps n c a d
 unfolding Steps
 steps-more m n c [] d h p = p
@@ -47,6 +50,7 @@ no-step n a d b p e h =
     let t : step d b ≡ some (q .2 .0) = ap (λ (x : Config). step x b) s ∙ q .2 .1 in
     Option·none-ne-some (q .2 .0) (sym e ∙ t)
 
+-- where no line ends
 no-end : (n : ℕ) (s : List ℕ) (d : Config) → Steps n start s d → (Final d → ⊥) → LineText s → ⊥
 no-end n s d p f t =
     let l = t .line in
@@ -54,6 +58,7 @@ no-end n s d p f t =
     let e : end ≡ d = steps-same (depth l) n start s end d (text-steps s t) p in
     f (subst Final e tt)
 
+-- a line begins with each beginning of its text
 line-begins : (s a r : List ℕ) → a ++ r ≡ s → LineText s → Begins a
 line-begins s a r e t = record { rest = r; whole = subst LineText (sym e) t }
 
@@ -69,6 +74,7 @@ module _ (s : List ℕ) where
   read-taken : (a r : List ℕ) (e : ℕ) → a ++ r ≡ s → e ≡ length a → take e s ≡ a
   read-taken a r e t l = ap (take e) (sym t) ∙ take-at a r e (sym l)
 
+  -- a reading that stops at e breaks the grammar there
   pub broken-breaks : (e : ℕ) → Stopped start 0 s e → Breaks s e
   broken-breaks e w = go (w .rest) (w .text) (w .stops)
     where
@@ -129,12 +135,13 @@ module _ (s : List ℕ) where
       h .ends (omega arith)
       (read-begins n (take (q + 1) s) (y .0) (subst (λ (t : List ℕ). Steps n start t (y .0)) (take-take (q + 1) k s (omega arith)) (y .1)))
 
+  -- the text in front of e can be read
   pub stopped-steps : (e : ℕ) (w : Stopped start 0 s e) → Steps 8 start (take e s) (w .there)
   stopped-steps e w =
       subst (λ (x : List ℕ). Steps 8 start x (w .there)) (sym (read-taken (w .read) (w .rest) e (w .text) (let k = w .at in omega arith)))
       (w .steps)
 
-  -- a ninth bracket
+  -- a ninth bracket is one inside eight
   pub opened-deep : (e : ℕ) → Opened start 0 s e → Deep s e
   opened-deep e w =
       let len : e ≡ length (w .read) = let k = w .at in omega arith in
@@ -168,6 +175,7 @@ module _ (s : List ℕ) where
       (steps-more 8 (length (openIn (w .then)) + 8) start (w .read) (w .there) (omega arith) (w .steps))
       (hop (length (openIn (w .then)) + 8) (w .there) (w .byte) (w .then) (w .goes) (omega arith)))
 
+  -- a reading that comes to an end has read a line with that text
   pub whole-line : (l : Line) → Wholly start s l → Fits l × (written l ≡ s)
   unfolding shown
   whole-line l w =

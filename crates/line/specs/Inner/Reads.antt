@@ -1,6 +1,8 @@
 -- What the readers of lines, parts, items and patterns answer, for the contracts inside the crate: how the reading of the whole text goes
--- on,
--- and which rows they store. Assumes nothing.
+-- on, and which rows they store. Assumes nothing.
+--     from                       the reading of a text from a byte on
+--     Stored                     rows that are stored while a stretch of text is read
+--     FigureRead, ItemRead, PartRead, LineRead, WholeRead     the answers of the readers
 use Prim.Native.Nat.{ℕ, _+_, _<_, _≤_}
 use mathlib.Core.Path.{_≡_}
 use mathlib.Core.Logic.{_≢_}
@@ -39,6 +41,7 @@ pub record FigureAt (s : List ℕ) (at n : ℕ) (out out′ : List ℕ) (e m : �
   pub goes : (p : Place) (ps : List Place) → length ps ≤ 8
       → from s (inside (listing [] fresh) p ps) at ≡ from s (placed p (figure read) ps) e
 
+-- the answer of its reader
 abbrev pub FigureRead : List ℕ → ℕ → ℕ → List ℕ → List ℕ → Reached → Type 0
 FigureRead s at n out out′ (At e m) = FigureAt s at n out out′ e m
 FigureRead s at n out out′ (Broken e) =
@@ -52,25 +55,29 @@ pub record ItemAt (s : List ℕ) (at d n : ℕ) (out out′ : List ℕ) (e m : �
   pub goes : (p : Place) (ps : List Place) → length ps ≡ d
       → (i : Item) × (from s (ready p ps) at ≡ from s (placed p i ps) e) × (itemRows i ≡ new)
 
+-- the answer of its reader
 abbrev pub ItemRead : List ℕ → ℕ → ℕ → ℕ → List ℕ → List ℕ → Reached → Type 0
 ItemRead s at d n out out′ (At e m) = ItemAt s at d n out out′ e m
 ItemRead s at d n out out′ (Broken e) = (p : Place) (ps : List Place) → length ps ≡ d → from s (ready p ps) at ≡ broken e
 ItemRead s at d n out out′ (Deep e) = (p : Place) (ps : List Place) → length ps ≡ d → from s (ready p ps) at ≡ deep e
 
--- what stands in front of the part of a place; the operator that waits there; the rows of the part in front of it
+-- what stands in front of the part of a place
 abbrev pub frontOf : Place → Front
 frontOf (first f) = f
 frontOf (next f p j) = f
 
+-- the operator that waits there
 abbrev pub joins : Place → Pending
 joins (first f) = pending.Nothing
 joins (next f p both) = pending.Both
 joins (next f p without) = pending.Without
 
+-- the rows of the part in front of it
 abbrev pub partBefore : Place → List Row
 partBefore (first f) = []
 partBefore (next f p j) = partRows p
 
+-- the row of an operator that waits
 abbrev pub pendingRows : Pending → List Row
 pendingRows pending.Nothing = []
 pendingRows pending.Both = operatorRow Both
@@ -85,15 +92,18 @@ pub record PartAt (s : List ℕ) (at d n : ℕ) (o : Pending) (out out′ : List
   pub goes : (p : Place) (ps : List Place) → length ps ≡ d → joins p ≡ o
       → (q : Part) × (from s (ready p ps) at ≡ from s (after (frontOf p) q ps) e) × (partRows q ≡ partBefore p ++ new)
 
+-- the answer of its reader
 abbrev pub PartRead : List ℕ → ℕ → ℕ → ℕ → Pending → List ℕ → List ℕ → Reached → Type 0
 PartRead s at d n o out out′ (At e m) = PartAt s at d n o out out′ e m
 PartRead s at d n o out out′ (Broken e) = (p : Place) (ps : List Place) → length ps ≡ d → joins p ≡ o → from s (ready p ps) at ≡ broken e
 PartRead s at d n o out out′ (Deep e) = (p : Place) (ps : List Place) → length ps ≡ d → joins p ≡ o → from s (ready p ps) at ≡ deep e
 
+-- the operator that waits behind a line
 abbrev pub waits : Front → Pending
 waits bare = pending.Nothing
 waits (eithers l) = pending.Either
 
+-- the rows of that line
 abbrev pub frontRows : Front → List Row
 frontRows bare = []
 frontRows (eithers l) = lineRows l
@@ -106,6 +116,7 @@ pub record LineAt (s : List ℕ) (at d n : ℕ) (o : Pending) (out out′ : List
   pub goes : (f : Front) (ps : List Place) → length ps ≡ d → waits f ≡ o
       → (h : Front) × (q : Part) × (from s (ready (first f) ps) at ≡ from s (after h q ps) e) × (lineRows (lineOf h q) ≡ frontRows f ++ new)
 
+-- the answer of its reader
 abbrev pub LineRead : List ℕ → ℕ → ℕ → ℕ → Pending → List ℕ → List ℕ → Reached → Type 0
 LineRead s at d n o out out′ (At e m) = LineAt s at d n o out out′ e m
 LineRead s at d n o out out′ (Broken e) =

@@ -1,4 +1,8 @@
 -- Where the reading of a pattern is, for the contracts inside the crate. Assumes nothing.
+--     NumberMost, LastMost, StateMost     numbers in the grammar's limits
+--     grownBy, stepState                  what a byte makes of a number, and of a state
+--     voiceWords, conditionWords          the words of rows
+--     stateOf                             the state of a pattern so far
 use Prim.Native.Nat.{ℕ, _+_, _-_, _*_, _≤_, _<_}
 use mathlib.Core.Bool.{cond}
 use lib.ListN.{length, getD}
@@ -37,9 +41,11 @@ StateMost Semicolon = Unit
 StateMost (Lettered w) = Unit
 StateMost (Counting w k a b c x) = NumberMost (mostOf w k) x × (k < arity w) × (c ≤ 65535)
 
+-- in the numbers of a condition
 abbrev pub counting : Word → ℕ → ℕ → ℕ → ℕ → Number → State
 counting w k a b c x = Counting w k a b c x
 
+-- a number with one more digit, or none
 abbrev pub grownBy : ℕ → Number → ℕ → Grown
 grownBy most x b = cond (grows most x b) (Value (grown x b)) Not
 
@@ -52,6 +58,7 @@ wordsIn r = record {
   c = getD (wordsOf (r .kind)) 3 0;
 }
 
+-- the words of a list number
 abbrev pub voiceWords : ℕ → Words
 voiceWords list = record { kind = 1; a = list; b = 0; c = 0 }
 
@@ -63,21 +70,25 @@ conditionWords word.Same a b c n = record { kind = 4; a = a; b = n; c = 0 }
 conditionWords word.Span a b c n = record { kind = 5; a = 0; b = 0; c = n }
 conditionWords word.Apart a b c n = record { kind = 10; a = a; b = b; c = c * leastUnit + n }
 
+-- behind a whole number at the end of a list or of a condition
 abbrev pub endingState : Words → ℕ → Next
 endingState ws b = cond (eqb b 59) (Emits ws Semicolon) (cond (eqb b 93) (Closes ws) Stuck)
 
+-- a byte in the list numbers
 abbrev pub stepListing : Number → ℕ → Next
 stepListing Fresh b = cond (grows 65536 Fresh b) (Goes (Listing (Digits (grown Fresh b)))) Stuck
 stepListing (Digits n) b =
     cond (grows 65536 (Digits n) b) (Goes (Listing (Digits (grown (Digits n) b))))
     (cond (eqb b 32) (Emits (voiceWords n) (Listing Fresh)) (endingState (voiceWords n) b))
 
+-- a byte behind `;`
 abbrev pub stepSemicolon : ℕ → Next
 stepSemicolon b =
     cond (eqb b 110) (Goes (Lettered word.Near)) (cond (eqb b 98) (Goes (Lettered word.Before))
     (cond (eqb b 116) (Goes (Lettered word.Same)) (cond (eqb b 115) (Goes (Lettered word.Span))
     (cond (eqb b 97) (Goes (Lettered word.Apart)) Stuck))))
 
+-- a byte behind a number n that is not the last of its condition
 abbrev pub anotherState : Word → ℕ → ℕ → ℕ → ℕ → ℕ → ℕ → Next
 anotherState w k x y z n b =
     cond (eqb b 32)
@@ -85,6 +96,7 @@ anotherState w k x y z n b =
     (cond (eqb k 1) (Goes (Counting w (k + 1) x n z Fresh)) (Goes (Counting w (k + 1) x y n Fresh))))
     Stuck
 
+-- a byte in the numbers of a condition
 abbrev pub stepCounting : Word → ℕ → ℕ → ℕ → ℕ → Number → ℕ → Next
 stepCounting w k x y z Fresh b = cond (grows (mostOf w k) Fresh b) (Goes (Counting w k x y z (Digits (grown Fresh b)))) Stuck
 stepCounting w k x y z (Digits n) b =

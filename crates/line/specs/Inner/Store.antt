@@ -1,4 +1,6 @@
 -- Rows stored in a lent buffer, each where it fits, and the rows of what has been read. Assumes nothing.
+--     putWords, stored            one row, and many
+--     openRows, partialRows       the rows of a pattern without END, and of a pattern so far
 use Prim.Native.Nat.{ℕ, _+_, _*_}
 use mathlib.Core.Bool.{cond}
 use mathlib.Core.List.{List, [], _∷_, _++_, map}
@@ -13,6 +15,7 @@ use Rattle.line.specs.Inner.States.{wordsIn}
 use Rattle.grammar.specs.Meaning.{patternOf}
 use Rattle.grammar.specs.Reading.{Partial, listing, semicolon, lettered, counting}
 
+-- the words of row n, where it fits
 unfoldable pub putWords : List ℕ → ℕ → Words → List ℕ
 putWords out n w =
     cond (leb (4 * n + 4) (length out))

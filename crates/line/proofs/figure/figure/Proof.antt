@@ -1,3 +1,5 @@
+-- `figure::figure` meets its contract. The invariant of its loop: the pattern has been read up to `at`, the state follows it and its whole
+-- rows are stored (`Within`). The measure is the text that is left. Assumes nothing.
 use native.Mathlib.Omega.{arith}
 use Prim.Native.Nat.{ℕ, _+_, _-_}
 use mathlib.Core.Path.{refl, sym, ap, _∙_, subst}

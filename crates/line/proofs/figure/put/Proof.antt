@@ -1,3 +1,4 @@
+-- `figure::put` meets its contract: a row that does not fit changes nothing. Assumes nothing.
 use borrow.Author.Needs.{needs}
 use native.Mathlib.Omega.{arith}
 use Prim.Native.Nat.{_+_, _*_}

@@ -1,3 +1,4 @@
+-- `reader::read` meets its contract: the first pass tells how many rows the line has, the second one stores them. Assumes nothing.
 use borrow.Author.Needs.{needs}
 use native.Mathlib.Omega.{arith}
 use Prim.Native.Nat.{ℕ}
