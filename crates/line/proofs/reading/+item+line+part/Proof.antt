@@ -1,3 +1,5 @@
+-- `reading::item`, `reading::line` and `reading::part` meet their contracts: a law of `Laws/Reads.antt` for each way through them.
+-- The measure is the text that is left; on the same text a line calls a part, and a part an item. Assumes nothing.
 use Prim.Native.Nat.{ℕ, _+_, _-_, _*_, _<_}
 use borrow.Author.Needs.{needs}
 use native.Mathlib.Omega.{arith}

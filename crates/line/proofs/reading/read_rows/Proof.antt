@@ -1,3 +1,4 @@
+-- `reading::read_rows` meets its contract: a line from the first byte on, with nothing behind it. Assumes nothing.
 use borrow.Author.Needs.{needs}
 use native.Mathlib.Omega.{arith}
 use mathlib.Core.Path.{subst}

@@ -1,3 +1,4 @@
+-- `reading::settle` meets its contract: a case for each operator that may wait. Assumes nothing.
 use borrow.Author.Needs.{needs}
 use native.Mathlib.Omega.{arith}
 use mathlib.Core.Path.{refl}

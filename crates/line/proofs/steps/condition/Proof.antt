@@ -1,3 +1,4 @@
+-- `steps::condition` meets its contract: a case for each word; the least and the most of APART fit in one number. Assumes nothing.
 use native.Mathlib.Omega.{arith}
 use Prim.Native.Nat.{_≤_}
 use mathlib.Core.Path.{sym, ap, subst}

@@ -1,3 +1,4 @@
+-- `steps::ending` meets its contract: a case for each byte. Assumes nothing.
 use borrow.Author.Tests.{eq-eqb, ne-eqb}
 use Rattle.line.proofs.steps.ending.Statement.{statement}
 use Rattle.line.proofs.steps.ending.Tie as tie

@@ -1,3 +1,4 @@
+-- `steps::grow` meets its contract: a law of `Laws/States.antt` for each way through it. Assumes nothing.
 use borrow.Author.Needs.{needs}
 use native.Mathlib.Omega.{arith}
 use Prim.Native.Nat.{ℕ, _-_, _≤_}

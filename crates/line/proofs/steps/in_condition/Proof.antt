@@ -1,3 +1,4 @@
+-- `steps::in_condition` meets its contract: the number grows, or the byte stands behind it. Assumes nothing.
 use native.Mathlib.Omega.{arith}
 use Prim.Native.Nat.{ℕ, _+_, _<_, _≤_}
 use mathlib.Core.Path.{sym, ap, ap₂, _∙_, subst}

@@ -1,3 +1,4 @@
+-- `steps::in_list` meets its contract: the number grows, or the byte stands behind it. Assumes nothing.
 use borrow.Author.Needs.{needs}
 use mathlib.Core.Path.{sym, ap, _∙_}
 use Rattle.line.specs.declared.steps.Words.{Words}

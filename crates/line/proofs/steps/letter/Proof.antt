@@ -1,3 +1,4 @@
+-- `steps::letter` meets its contract: a case for each letter. Assumes nothing.
 use borrow.Author.Tests.{eq-eqb, ne-eqb}
 use Rattle.line.proofs.steps.letter.Statement.{statement}
 use Rattle.line.proofs.steps.letter.Tie as tie

@@ -1,3 +1,4 @@
+-- `steps::most_of` meets its contract: a case for each word. Assumes nothing.
 use borrow.Author.Needs.{needs}
 use Prim.Native.Nat.{_<_}
 use mathlib.Core.Path.{sym, ap, _∙_, subst}

@@ -1,3 +1,4 @@
+-- `steps::step` meets its contract: a case for each state. Assumes nothing.
 use borrow.Author.Needs.{needs}
 use borrow.Author.Tests.{eq-eqb, ne-eqb}
 use mathlib.Core.Path.{sym, ap, _∙_, subst}
