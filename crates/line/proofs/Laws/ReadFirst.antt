@@ -6,7 +6,7 @@
 use Prim.Native.Nat.{ℕ, _+_, _*_, _<_, _≤_}
 use native.Mathlib.Omega.{arith}
 use mathlib.Core.Path.{_≡_, refl, sym, ap, _∙_, subst}
-use mathlib.Core.Bool.{true, cond, true≢false}
+use mathlib.Core.Bool.{true, true≢false}
 use mathlib.Core.Logic.{⊎-elim, _⊎_, inl, inr}
 use mathlib.Core.List.{List, [], _∷_}
 use lib.Dec.{ltb}
@@ -145,9 +145,7 @@ module _ (s : List ℕ) (room : ℕ) where
 
     -- a reading that comes to the end of a line
     of-whole : (l : Line) → Wholly start s l → sizeOfLine s ≡ 4 * length (lineRows l)
-        → IsSound
-        (cond (ltb 64 (length (lineRows l))) (refused 23 0)
-        (cond (ltb room (4 * length (lineRows l))) (refused 16 0) (answered (4 * length (lineRows l)))))
+        → IsSound (readBy (whole l) room)
     unfolding stageIn elem
     of-whole l w size =
         single Stage (ReadApplies s room) (sizeOfLine s) (ltb 64 (length (lineRows l))) 23 _ Many many-decides

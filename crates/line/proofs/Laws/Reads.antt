@@ -24,7 +24,6 @@ use Rattle.line.specs.declared.steps.Next.the-variants.{Goes, Emits, Clo
 use Rattle.line.specs.declared.steps.Words.{Words}
 use Rattle.line.specs.declared.reading.Pending.{Pending}
 use Rattle.line.specs.declared.reading.Pending.the-variants as pending
-use Rattle.plan.specs.declared.row.Kind.the-variants as kind
 use Rattle.plan.specs.declared.row.Row.{Row}
 use Rattle.plan.specs.Parts.{patternRows}
 use Rattle.grammar.specs.Meaning.{patternOf, lineRows, partRows, itemRows}
@@ -45,6 +44,7 @@ use Rattle.line.specs.Inner.States.{NumberMost, StateMost, stepState, st
 use Rattle.line.specs.Inner.Reads.{from, FigureAt, FigureRead, ItemAt, ItemRead, Stored, frontOf, joins, partBefore, pendingRows}
 use Rattle.line.specs.Inner.Reads.{waits, frontRows, PartAt, PartRead, LineAt, LineRead, WholeRead}
 use Rattle.grammar.proofs.Laws.Reading.{PartialFits, NextTold, stepIn-told, NumberFits}
+use Rattle.grammar.proofs.Laws.Query.{end}
 use Rattle.grammar.proofs.Laws.Steps.{placed-open}
 use Rattle.line.proofs.Laws.States.{step-follows, Follows}
 
@@ -261,13 +261,13 @@ module _ (s : List ℕ) (start n : ℕ) (out : List ℕ) where
               count =
                   let a = w .count in
                   let b = ap length (r .rows) in
-                  let c = length-append (partialRows (w .read)) (r .row ∷ record { kind = kind.End } ∷ []) in
+                  let c = length-append (partialRows (w .read)) (r .row ∷ end ∷ []) in
                   omega arith;
               is =
                   ap₂ (λ (x : List ℕ) (y : Words). putWords x (rows + 1) y) (stored-one out′ rows ws (r .row) (r .words)) e6
                   ∙ two
-                  ∙ ap₂ (λ (x : List ℕ) (k : ℕ). stored x k (r .row ∷ record { kind = kind.End } ∷ [])) (w .kept) (w .count)
-                  ∙ sym (stored-append (partialRows (w .read)) (r .row ∷ record { kind = kind.End } ∷ []) out n)
+                  ∙ ap₂ (λ (x : List ℕ) (k : ℕ). stored x k (r .row ∷ end ∷ [])) (w .kept) (w .count)
+                  ∙ sym (stored-append (partialRows (w .read)) (r .row ∷ end ∷ []) out n)
                   ∙ ap (stored out n) (sym (r .rows));
             };
             goes =
@@ -276,14 +276,10 @@ module _ (s : List ℕ) (start n : ℕ) (out : List ℕ) where
                 (rw (placed-open p (g.figure f) ps) l);
           }
             where
-              two : putWords (stored out′ rows (r .row ∷ [])) (rows + 1) (wordsIn (record { kind = kind.End }))
-                  ≡ stored out′ rows (r .row ∷ record { kind = kind.End } ∷ [])
+              two : putWords (stored out′ rows (r .row ∷ [])) (rows + 1) (wordsIn end) ≡ stored out′ rows (r .row ∷ end ∷ [])
               two =
-                  sym
-                  (stored-append (r .row ∷ []) (record { kind = kind.End } ∷ []) out′ rows
-                  ∙ sym
-                  (stored-one (stored out′ rows (r .row ∷ [])) (rows + 1) (wordsIn (record { kind = kind.End }))
-                  (record { kind = kind.End }) refl))
+                  stored-one (stored out′ rows (r .row ∷ [])) (rows + 1) (wordsIn end) end refl
+                  ∙ sym (stored-append (r .row ∷ []) (end ∷ []) out′ rows)
           go stuck q r = absurd r
 
       -- a byte that no line has there
