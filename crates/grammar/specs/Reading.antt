@@ -94,8 +94,8 @@ pub data Place : Type 0 where
   first : Front → Place
   next : Front → Part → Joint → Place
 
--- all that has been read: an item is to come; in a figure; behind an item. Each with the places of the brackets that are open, the last one
--- first
+-- all that has been read: an item is to come; in a figure; behind an item.
+-- Each with the places of the brackets that are open, the last one first
 pub data Config : Type 0 where
   ready : Place → List Place → Config
   inside : Partial → Place → List Place → Config
@@ -182,23 +182,23 @@ partialText (semicolon f) = openText f ++ (59 ∷ [])
 partialText (lettered f w) = openText f ++ (59 ∷ letterOf w ∷ [])
 partialText (counting f w ns x) = openText f ++ (59 ∷ letterOf w ∷ numberText 32 ns x)
 
--- of what stands in front of a part
+-- the text of what stands in front of a part
 abbrev pub frontText : Front → List ℕ
 frontText bare = []
 frontText (eithers l) = written l ++ (124 ∷ [])
 
--- of what stands in front of an item
+-- the text of what stands in front of an item
 abbrev pub placeText : Place → List ℕ
 placeText (first f) = frontText f
 placeText (next f p j) = frontText f ++ (partText p ++ (jointByte j ∷ []))
 
--- of all that stands in front of open brackets
+-- the text of all that stands in front of open brackets
 unfoldable pub openedText : List Place → List ℕ
 unfolding written
 openedText [] = []
 openedText (p ∷ ps) = openedText ps ++ (placeText p ++ (40 ∷ []))
 
--- of all that has been read
+-- the text of all that has been read
 unfoldable pub shown : Config → List ℕ
 unfolding openedText partialText
 shown (ready p ps) = openedText ps ++ placeText p

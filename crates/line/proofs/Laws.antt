@@ -5,7 +5,7 @@
 --     Answers      an answer is known from its number and values
 --     States       the states in which a pattern is read
 --     Reads        a law for each way through the readers
---     Call         rows in the lent buffer
+--     Call         a law for each way through the call that reads a line
 pub mod Refusals
 pub mod ReadFirst
 pub mod Whole

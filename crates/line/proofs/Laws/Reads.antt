@@ -333,7 +333,7 @@ step-not-shut f q b x y z = rw (ne-eqb b 124 z, ne-eqb b 38 x, ne-eqb b 33 y) (g
     go true = refl
     go false = refl
 
--- the operator of `&` and of `!` waits
+-- the operator that waits behind `&`, and behind `!`
 abbrev pub waitsFor : g.Joint → Pending
 waitsFor g.both = pending.Both
 waitsFor g.without = pending.Without

@@ -126,30 +126,30 @@ most-near (suc zero) = refl
 most-near (suc (suc zero)) = refl
 most-near (suc (suc (suc k))) = refl
 
--- of BEFORE
+-- the limits of BEFORE
 pub most-before : (k : ℕ) → mostOf word.Before k ≡ 65536
 most-before zero = refl
 most-before (suc zero) = refl
 most-before (suc (suc k)) = refl
 
--- of SAME TITLE
+-- the limits of SAME TITLE
 pub most-same : (k : ℕ) → mostOf word.Same k ≡ 65536
 most-same zero = refl
 most-same (suc zero) = refl
 most-same (suc (suc k)) = refl
 
--- of SPAN
+-- the limits of SPAN
 pub most-span : (k : ℕ) → mostOf word.Span k ≡ 65536
 most-span zero = refl
 most-span (suc k) = refl
 
--- of the two variables of APART
+-- the limits of the two variables of APART
 pub most-apart : (k : ℕ) → k < 2 → mostOf word.Apart k ≡ 65536
 most-apart zero h = refl
 most-apart (suc zero) h = refl
 most-apart (suc (suc k)) h = absurd (let z : ⊥ = omega arith in z)
 
--- of its least and its most
+-- the limits of its least and its most
 pub most-gaps : (k : ℕ) → 2 ≤ k → k < 4 → mostOf word.Apart k ≡ 65535
 most-gaps zero h l = absurd (let z : ⊥ = omega arith in z)
 most-gaps (suc zero) h l = absurd (let z : ⊥ = omega arith in z)

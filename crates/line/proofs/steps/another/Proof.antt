@@ -1,4 +1,4 @@
--- `steps::another` meets its contract: a case for each place of the number. Assumes nothing.
+-- `steps::another` meets its contract: the number is kept as the first, the second or the third one. Assumes nothing.
 use borrow.Author.Tests.{eq-eqb, ne-eqb}
 use borrow.Author.Needs.{needs}
 use Rattle.line.proofs.steps.another.Statement.{statement}

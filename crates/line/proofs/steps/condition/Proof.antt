@@ -1,4 +1,5 @@
--- `steps::condition` meets its contract: a case for each word; the least and the most of APART fit in one number. Assumes nothing.
+-- `steps::condition` meets its contract: a case for each letter; the least and the most of APART fit in one word of a row.
+-- Assumes nothing.
 use native.Mathlib.Omega.{arith}
 use Prim.Native.Nat.{_≤_}
 use mathlib.Core.Path.{sym, ap, subst}
