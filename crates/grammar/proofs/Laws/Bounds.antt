@@ -198,21 +198,30 @@ record Shallow (q : Query) : Type 0 where
 shallow : (q : Query) → Shallow q
 unfolding typed depth leaves
 shallow (leaf f) = record { some = omega arith; line = omega arith; part = omega arith; item = omega arith }
-shallow (node Both a b) = let x = shallow a in let y = shallow b in let e = length-append (leaves a) (leaves b) in
+shallow (node Both a b) =
+    let x = shallow a in
+    let y = shallow b in
+    let e = length-append (leaves a) (leaves b) in
     record {
       some = omega (arith, x .some);
       line = omega (arith, x .part, y .item, x .some, y .some);
       part = omega (arith, x .part, y .item, x .some, y .some);
       item = omega (arith, x .part, y .item, x .some, y .some);
     }
-shallow (node Either a b) = let x = shallow a in let y = shallow b in let e = length-append (leaves a) (leaves b) in
+shallow (node Either a b) =
+    let x = shallow a in
+    let y = shallow b in
+    let e = length-append (leaves a) (leaves b) in
     record {
       some = omega (arith, x .some);
       line = omega (arith, x .line, y .part, x .some, y .some);
       part = omega (arith, x .line, y .part, x .some, y .some);
       item = omega (arith, x .line, y .part, x .some, y .some);
     }
-shallow (node FirstNotSecond a b) = let x = shallow a in let y = shallow b in let e = length-append (leaves a) (leaves b) in
+shallow (node FirstNotSecond a b) =
+    let x = shallow a in
+    let y = shallow b in
+    let e = length-append (leaves a) (leaves b) in
     record {
       some = omega (arith, x .some);
       line = omega (arith, x .part, y .item, x .some, y .some);
@@ -280,7 +289,10 @@ node-rows o a b =
 -- two texts with a byte between them, in brackets and without
 bracketed : (x y : List ℕ) (j n : ℕ) → length x + length y + 3 ≤ n
     → (length (x ++ (j ∷ y)) ≤ n) × (length (40 ∷ ((x ++ (j ∷ y)) ++ (41 ∷ []))) ≤ n)
-bracketed x y j n h = let e = length-append x (j ∷ y) in let f = length-append (x ++ (j ∷ y)) (41 ∷ []) in (omega arith, omega arith)
+bracketed x y j n h =
+    let e = length-append x (j ∷ y) in
+    let f = length-append (x ++ (j ∷ y)) (41 ∷ []) in
+    (omega arith, omega arith)
 
 typed-length : (q : Query) → TypedFits q → (t : ℕ) → t ≤ 65536 → Made t q → Short q
 unfolding typed written Made queryRows Fits

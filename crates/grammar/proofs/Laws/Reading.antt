@@ -122,7 +122,11 @@ condition-fits f w ns n h e = record {
   within = h .of .within;
   conditions = each-snoc ConditionFits noCondition (record { word = w; numbers = behind ns n }) (f .conditions) (h .of .conditions)
       (record {
-        count = let l = ltb-false (length ns + 1) (arity w) e in let r = h .room in let s = length-snoc ns n in omega arith;
+        count =
+            let l = ltb-false (length ns + 1) (arity w) e in
+            let r = h .room in
+            let s = length-snoc ns n in
+            omega arith;
         within = within-behind (mostOf w) ns n (h .numbers) (h .last);
       });
 }

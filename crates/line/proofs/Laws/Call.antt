@@ -77,7 +77,11 @@ stored-laid rs out h = stored-plan rs [] out 0 refl h ∙ ap (λ (n : ℕ). plan
 
 -- a refusal's place lies in the text, or at its end
 broken-inside : (s : List ℕ) (q : ℕ) → Stopped start 0 s q → q ≤ length s
-broken-inside s q w = let a = w .at in let l = ap length (w .text) in let m = length-append (w .read) (w .rest) in omega arith
+broken-inside s q w =
+    let a = w .at in
+    let l = ap length (w .text) in
+    let m = length-append (w .read) (w .rest) in
+    omega arith
 
 deep-inside : (s : List ℕ) (q : ℕ) → Opened start 0 s q → q ≤ length s
 deep-inside s q w =

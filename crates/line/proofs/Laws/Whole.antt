@@ -75,7 +75,11 @@ read-answered s room n e = record {
   fits = t .0;
   text = t .1;
   words = w;
-  count = let a = ap length w in let b = plan-length (lineRows (r .line)) in let c = r .count in omega arith;
+  count =
+      let a = ap length w in
+      let b = plan-length (lineRows (r .line)) in
+      let c = r .count in
+      omega arith;
   few = let a = r .few in let c = r .count in omega arith;
   rows = ap rowsOf w ∙ line-back (r .line) (t .0);
   truth = λ v d. ap (λ (p : List ℕ). work v p .isTrue d) w ∙ line-truth v (r .line) d (t .0);

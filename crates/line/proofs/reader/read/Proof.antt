@@ -19,7 +19,11 @@ told : (s none : List ℕ) {r : Reached} (x : Reached) → r ≡ x → WholeRead
 told s none x e w = subst (λ (y : Reached). WholeRead s (0 ∷ []) none y (reading s)) e w
 
 returns : tie.Need-returns
-returns c = let a = c .before .before .before .args in let s = now (a .text) in let o = now (a .out) in too-long s o (c .if1 .taken)
+returns c =
+    let a = c .before .before .before .args in
+    let s = now (a .text) in
+    let o = now (a .out) in
+    too-long s o (c .if1 .taken)
 
 slice-aggregate-read-rows : tie.Need-slice-aggregate-read-rows
 slice-aggregate-read-rows c = search needs
