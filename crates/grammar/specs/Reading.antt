@@ -90,16 +90,16 @@ pub data Front : Type 0 where
   eithers : Line → Front
 
 -- what stands in front of an item: what stands in front of its part, then perhaps a part and what joins it
-pub data Place : Type 0 where
-  first : Front → Place
-  next : Front → Part → Joint → Place
+pub data Context : Type 0 where
+  first : Front → Context
+  next : Front → Part → Joint → Context
 
 -- all that has been read: an item is to come; in a figure; behind an item.
--- Each with the places of the brackets that are open, the last one first
+-- Each with the contexts of the brackets that are open, the last one first
 pub data Config : Type 0 where
-  ready : Place → List Place → Config
-  inside : Partial → Place → List Place → Config
-  after : Front → Part → List Place → Config
+  ready : Context → List Context → Config
+  inside : Partial → Context → List Context → Config
+  after : Front → Part → List Context → Config
 
 -- nothing has been read
 abbrev pub start : Config
@@ -110,20 +110,20 @@ abbrev pub lineOf : Front → Part → Line
 lineOf bare p = one p
 lineOf (eithers l) p = either l p
 
--- an item at its place
-abbrev pub placed : Place → Item → List Place → Config
-placed (first f) i ps = after f (alone i) ps
-placed (next f p j) i ps = after f (join j p i) ps
+-- an item in its context
+abbrev pub filled : Context → Item → List Context → Config
+filled (first f) i ps = after f (alone i) ps
+filled (next f p j) i ps = after f (join j p i) ps
 
 -- a round bracket is closed
-abbrev pub shut : Line → List Place → Option Config
+abbrev pub shut : Line → List Context → Option Config
 shut l [] = none
-shut l (p ∷ ps) = some (placed p (round l) ps)
+shut l (p ∷ ps) = some (filled p (round l) ps)
 
 -- what the next byte of a figure makes of all that has been read
-abbrev pub within : Next → Place → List Place → Option Config
+abbrev pub within : Next → Context → List Context → Option Config
 within (goes f) p ps = some (inside f p ps)
-within (closes f) p ps = some (placed p (figure f) ps)
+within (closes f) p ps = some (filled p (figure f) ps)
 within stuck p ps = none
 
 -- one more byte; none where no line of the grammar has it there
@@ -136,7 +136,7 @@ step (after f p ps) b =
     (cond (eqb b 33) (some (ready (next f p without) ps)) (cond (eqb b 41) (shut (lineOf f p) ps) none)))
 
 -- the brackets that are open
-abbrev pub openIn : Config → List Place
+abbrev pub openIn : Config → List Context
 openIn (ready p ps) = ps
 openIn (inside f p ps) = ps
 openIn (after f p ps) = ps
@@ -188,19 +188,19 @@ frontText bare = []
 frontText (eithers l) = written l ++ (124 ∷ [])
 
 -- the text of what stands in front of an item
-abbrev pub placeText : Place → List ℕ
-placeText (first f) = frontText f
-placeText (next f p j) = frontText f ++ (partText p ++ (jointByte j ∷ []))
+abbrev pub contextText : Context → List ℕ
+contextText (first f) = frontText f
+contextText (next f p j) = frontText f ++ (partText p ++ (jointByte j ∷ []))
 
 -- the text of all that stands in front of open brackets
-unfoldable pub openedText : List Place → List ℕ
+unfoldable pub openedText : List Context → List ℕ
 unfolding written
 openedText [] = []
-openedText (p ∷ ps) = openedText ps ++ (placeText p ++ (40 ∷ []))
+openedText (p ∷ ps) = openedText ps ++ (contextText p ++ (40 ∷ []))
 
 -- the text of all that has been read
 unfoldable pub shown : Config → List ℕ
 unfolding openedText partialText
-shown (ready p ps) = openedText ps ++ placeText p
-shown (inside f p ps) = openedText ps ++ (placeText p ++ partialText f)
+shown (ready p ps) = openedText ps ++ contextText p
+shown (inside f p ps) = openedText ps ++ (contextText p ++ partialText f)
 shown (after f p ps) = openedText ps ++ (frontText f ++ partText p)

@@ -4,7 +4,8 @@
 //
 // None of the three has a `requires`, nor has `pattern_span`. What each one answers is an equation
 // with a definition of `specs/`. `row_at`, `list_at`, `predicate_at`, `has_samepara`, `lay_out`,
-// `outline_at` and `answer_of` serve the crates above, on a plan that they have checked.
+// `outline_at` and `answer_of` serve the crates above, on a plan that they have checked, and so does
+// `is_voice`, on any row.
 mod answers;
 mod checking;
 mod codes;
@@ -34,6 +35,7 @@ pub use outline::Outline;
 pub use outline::lay_out;
 pub use outline::outline_at;
 pub use reading::has_samepara;
+pub use reading::is_voice;
 pub use reading::list_at;
 pub use reading::predicate_at;
 pub use row::Kind;

@@ -23,7 +23,8 @@ pub enum Sort {
     Samepara,
 }
 
-fn is_voice(kind: Kind) -> bool
+// Whether a row adds a variable.
+pub fn is_voice(kind: Kind) -> bool
     ensures { λ r. ⌜ r ≡ isVoice kind ⌝ }
 {
     match kind {

@@ -5,7 +5,6 @@ ghost use Prim.Native.Nat.{_≤_};
 ghost use lib.ListN.{length};
 ghost use Rattle.grammar.specs.Grammar.{conditionText};
 ghost use Rattle.grammar.specs.Query.{conditionOf};
-ghost use Rattle.plan.specs.Rows.{isVoice};
 ghost use Rattle.printer.specs.Inner.Writing.{PutBack, spaced, begun, Formed, behindVoice};
 ghost use Rattle.printer.specs.Inner.Writing.{ListsRoom, ListsPut, OpenRoom, OpenPut};
 ghost use Rattle.printer.specs.Inner.Writing.{PatternRoom, PatternPut};
@@ -13,6 +12,7 @@ use super::bytes::put_byte;
 use super::bytes::put_number;
 use plan::Kind;
 use plan::Predicate;
+use plan::is_voice;
 use plan::list_at;
 use plan::row_at;
 
@@ -73,17 +73,6 @@ fn put_condition(predicate: Predicate, out: &mut [u8], end: usize) -> usize
             let at = put_spaced(least as u32, out, last);
             put_pair(b'a', a, b, out, at)
         }
-    }
-}
-
-fn is_voice(kind: Kind) -> bool
-    ensures { λ r. ⌜ r ≡ isVoice kind ⌝ }
-{
-    match kind {
-        Kind::Voice(_) => true,
-        Kind::Condition(_) => false,
-        Kind::End => false,
-        Kind::Operator(_) => false,
     }
 }
 

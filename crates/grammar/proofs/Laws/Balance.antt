@@ -16,10 +16,10 @@ use Rattle.seq.specs.Lists.{keep, consIf}
 use Rattle.grammar.specs.Grammar as g
 use Rattle.grammar.specs.Grammar.{Figure, Line, arity, mostOf}
 use Rattle.grammar.specs.Reading.{Number, fresh, digits, grows, Partial, listing, semicolon, lettered, counting, Next, goes, closes}
-use Rattle.grammar.specs.Reading.{stuck, firstLists, withCondition, behind, ending, stepIn, Place, Config, ready, inside}
+use Rattle.grammar.specs.Reading.{stuck, firstLists, withCondition, behind, ending, stepIn, Context, Config, ready, inside}
 use Rattle.grammar.specs.Reading.{after, lineOf, shut, within, step, openIn}
 use Rattle.grammar.proofs.Laws.Reading.{split, grows-tells}
-use Rattle.grammar.proofs.Laws.Steps.{Steps, placed-open}
+use Rattle.grammar.proofs.Laws.Steps.{Steps, filled-open}
 
 -- a byte that opens or closes no bracket
 abbrev Plain : ℕ → Type 0
@@ -74,24 +74,24 @@ abbrev pub Balanced : Config → ℕ → Option Config → Type 0
 Balanced c b none = Unit
 Balanced c b (some d) = length (openIn d) + one (eqb b 41) ≡ length (openIn c) + one (eqb b 40)
 
-inside-balanced : (f : Next) (p : Place) (ps : List Place) (b : ℕ) (x : Partial) → PlainNext b f
+inside-balanced : (f : Next) (p : Context) (ps : List Context) (b : ℕ) (x : Partial) → PlainNext b f
     → Balanced (inside x p ps) b (within f p ps)
 inside-balanced (goes f) p ps b x h = ap (λ (t : Bool). length ps + one t) (h .1) ∙ sym (ap (λ (t : Bool). length ps + one t) (h .0))
 inside-balanced (closes f) p ps b x h =
-    ap (λ (l : List Place). length l + one (eqb b 41)) (placed-open p (g.figure f) ps)
+    ap (λ (l : List Context). length l + one (eqb b 41)) (filled-open p (g.figure f) ps)
     ∙ ap (λ (t : Bool). length ps + one t) (h .1)
     ∙ sym (ap (λ (t : Bool). length ps + one t) (h .0))
 inside-balanced stuck p ps b x h = tt
 
 module _ (f : Line) (x : Config) (b : ℕ) where
-  shut-balanced : (ps : List Place) → openIn x ≡ ps → b ≡ 41 → Balanced x b (shut f ps)
+  shut-balanced : (ps : List Context) → openIn x ≡ ps → b ≡ 41 → Balanced x b (shut f ps)
   shut-balanced [] o e = tt
   shut-balanced (p ∷ ps) o e =
-      ap (λ (l : List Place). length l + one (eqb b 41)) (placed-open p (g.round f) ps)
+      ap (λ (l : List Context). length l + one (eqb b 41)) (filled-open p (g.round f) ps)
       ∙ ap (λ (k : ℕ). length ps + one (eqb k 41)) e
       ∙ (let z : length ps + 1 ≡ suc (length ps) + 0 = omega arith in z)
       ∙ sym (ap (λ (k : ℕ). length (p ∷ ps) + one (eqb k 40)) e)
-      ∙ sym (ap (λ (l : List Place). length l + one (eqb b 40)) o)
+      ∙ sym (ap (λ (l : List Context). length l + one (eqb b 40)) o)
 
 plain-balanced : (n b k : ℕ) → eqb b k ≡ true → Plain k → n + one (eqb b 41) ≡ n + one (eqb b 40)
 plain-balanced n b k e h = let w = plain-is b k e h in ap (λ (t : Bool). n + one t) (w .1) ∙ sym (ap (λ (t : Bool). n + one t) (w .0))

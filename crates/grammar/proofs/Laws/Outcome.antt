@@ -18,7 +18,7 @@ use Rattle.grammar.specs.Grammar.{Line, Part, Fits, written, LineText, B
 use Rattle.grammar.specs.Brackets.{depth}
 use Rattle.grammar.specs.Reading.{Front, Config, ready, inside, after, start, lineOf, step, openIn, Outcome, whole, broken, deep}
 use Rattle.grammar.specs.Reading.{ended, continued, outcome, shown}
-use Rattle.grammar.proofs.Laws.Reading.{split, Sound, StepTold, step-told, PlacesFit}
+use Rattle.grammar.proofs.Laws.Reading.{split, Sound, StepTold, step-told, ContextsFit}
 use Rattle.grammar.proofs.Laws.Viable.{begins-shown}
 use Rattle.grammar.proofs.Laws.Steps.{Steps, line-steps, frontOf, lastOf, line-again}
 
@@ -37,7 +37,7 @@ unfolding Steps
 steps-prefix n c [] r e p = (c, refl, p)
 steps-prefix n c (b ∷ a) r e p = let q = steps-prefix n (p .0) a r e (p .3) in (q .0, (p .0, p .1, p .2, q .1), q .2)
 
--- a text leads to one place
+-- a text leads to one configuration
 pub steps-same : (m n : ℕ) (c : Config) (a : List ℕ) (d e : Config) → Steps m c a d → Steps n c a e → d ≡ e
 unfolding Steps
 steps-same m n c [] d e p q = sym p ∙ q
@@ -176,7 +176,7 @@ outcome-told (b ∷ s) c q = go (step c b) refl (λ x. outcome-told s x (suc q))
 
 -- where nothing has been read
 start-sound : Sound start
-unfolding PlacesFit
+unfolding ContextsFit
 start-sound = (tt, tt)
 
 start-text : shown start ≡ []

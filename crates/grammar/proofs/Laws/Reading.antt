@@ -25,8 +25,8 @@ use Rattle.grammar.specs.Grammar.{figureText, written, partText, itemTex
 use Rattle.grammar.specs.Grammar.{ItemFits, noCondition, jointByte}
 use Rattle.grammar.specs.Reading.{Number, fresh, digits, mayGrow, isDigit, grown, grows, Partial, listing, semicolon, lettered}
 use Rattle.grammar.specs.Reading.{counting, Next, goes, closes, stuck, firstLists, withCondition, behind, ending, stepIn, Front, bare}
-use Rattle.grammar.specs.Reading.{eithers, Place, first, next, Config, ready, inside, after, lineOf, placed, shut, within, step}
-use Rattle.grammar.specs.Reading.{numberText, partialText, frontText, placeText, openedText, shown}
+use Rattle.grammar.specs.Reading.{eithers, Context, first, next, Config, ready, inside, after, lineOf, filled, shut, within, step}
+use Rattle.grammar.specs.Reading.{numberText, partialText, frontText, contextText, openedText, shown}
 use Rattle.seq.proofs.Laws.Decimal.{decimal-digit, decimal-grow}
 use Rattle.grammar.proofs.Laws.Text.{gap-32, lead-behind}
 use Rattle.grammar.proofs.Laws.Limits.{some-arity}
@@ -239,20 +239,20 @@ abbrev pub FrontFits : Front → Type 0
 FrontFits bare = Unit
 FrontFits (eithers l) = Fits l
 
-abbrev pub PlaceFits : Place → Type 0
-PlaceFits (first f) = FrontFits f
-PlaceFits (next f p j) = FrontFits f × PartFits p
+abbrev pub ContextFits : Context → Type 0
+ContextFits (first f) = FrontFits f
+ContextFits (next f p j) = FrontFits f × PartFits p
 
--- and so do the places of open brackets
-unfoldable pub PlacesFit : List Place → Type 0
-PlacesFit [] = Unit
-PlacesFit (p ∷ ps) = PlaceFits p × PlacesFit ps
+-- and so do the contexts of open brackets
+unfoldable pub ContextsFit : List Context → Type 0
+ContextsFit [] = Unit
+ContextsFit (p ∷ ps) = ContextFits p × ContextsFit ps
 
 -- all that has been read keeps to the limits
 abbrev pub Sound : Config → Type 0
-Sound (ready p ps) = PlaceFits p × PlacesFit ps
-Sound (inside f p ps) = PartialFits f × PlaceFits p × PlacesFit ps
-Sound (after f p ps) = FrontFits f × PartFits p × PlacesFit ps
+Sound (ready p ps) = ContextFits p × ContextsFit ps
+Sound (inside f p ps) = PartialFits f × ContextFits p × ContextsFit ps
+Sound (after f p ps) = FrontFits f × PartFits p × ContextsFit ps
 
 -- what one more byte makes: its text, and the limits
 abbrev pub StepTold : List ℕ → Option Config → Type 0
@@ -271,67 +271,67 @@ unfolding Fits
 line-fits bare p h k = k
 line-fits (eithers l) p h k = (h, k)
 
-placed-text : (p : Place) (i : Item) (ps : List Place) → shown (placed p i ps) ≡ openedText ps ++ (placeText p ++ itemText i)
+filled-text : (p : Context) (i : Item) (ps : List Context) → shown (filled p i ps) ≡ openedText ps ++ (contextText p ++ itemText i)
 unfolding shown written
-placed-text (first f) i ps = refl
-placed-text (next f q j) i ps =
+filled-text (first f) i ps = refl
+filled-text (next f q j) i ps =
     ap (λ (l : List ℕ). openedText ps ++ l)
     (ap (λ (l : List ℕ). frontText f ++ l) (sym (append-assoc (partText q) (jointByte j ∷ []) (itemText i)))
     ∙ sym (append-assoc (frontText f) (partText q ++ (jointByte j ∷ [])) (itemText i)))
 
-placed-sound : (p : Place) (i : Item) (ps : List Place) → PlaceFits p → ItemFits i → PlacesFit ps → Sound (placed p i ps)
+filled-sound : (p : Context) (i : Item) (ps : List Context) → ContextFits p → ItemFits i → ContextsFit ps → Sound (filled p i ps)
 unfolding Fits
-placed-sound (first f) i ps h k m = (h, k, m)
-placed-sound (next f q j) i ps h k m = (h .0, (h .1, k), m)
+filled-sound (first f) i ps h k m = (h, k, m)
+filled-sound (next f q j) i ps h k m = (h .0, (h .1, k), m)
 
 -- a byte behind what has been read
 snoc-last : (a c : List ℕ) (b : ℕ) → a ++ (c ++ (b ∷ [])) ≡ (a ++ c) ++ (b ∷ [])
 snoc-last a c b = sym (append-assoc a c (b ∷ []))
 
-inside-told : (f : Next) (p : Place) (ps : List Place) (s : List ℕ) (b : ℕ) → NextTold (s ++ (b ∷ [])) f → PlaceFits p → PlacesFit ps
-    → StepTold ((openedText ps ++ (placeText p ++ s)) ++ (b ∷ [])) (within f p ps)
+inside-told : (f : Next) (p : Context) (ps : List Context) (s : List ℕ) (b : ℕ) → NextTold (s ++ (b ∷ [])) f → ContextFits p → ContextsFit ps
+    → StepTold ((openedText ps ++ (contextText p ++ s)) ++ (b ∷ [])) (within f p ps)
 unfolding shown written Fits
 inside-told (goes f) p ps s b h k m = (
-  ap (λ (l : List ℕ). openedText ps ++ (placeText p ++ l)) (h .0)
-      ∙ ap (λ (l : List ℕ). openedText ps ++ l) (snoc-last (placeText p) s b)
-      ∙ snoc-last (openedText ps) (placeText p ++ s) b,
+  ap (λ (l : List ℕ). openedText ps ++ (contextText p ++ l)) (h .0)
+      ∙ ap (λ (l : List ℕ). openedText ps ++ l) (snoc-last (contextText p) s b)
+      ∙ snoc-last (openedText ps) (contextText p ++ s) b,
   (h .1, k, m),
 )
 inside-told (closes f) p ps s b h k m = (
-  placed-text p (g.figure f) ps
-      ∙ ap (λ (l : List ℕ). openedText ps ++ (placeText p ++ l)) (h .0)
-      ∙ ap (λ (l : List ℕ). openedText ps ++ l) (snoc-last (placeText p) s b)
-      ∙ snoc-last (openedText ps) (placeText p ++ s) b,
-  placed-sound p (g.figure f) ps k (h .1) m,
+  filled-text p (g.figure f) ps
+      ∙ ap (λ (l : List ℕ). openedText ps ++ (contextText p ++ l)) (h .0)
+      ∙ ap (λ (l : List ℕ). openedText ps ++ l) (snoc-last (contextText p) s b)
+      ∙ snoc-last (openedText ps) (contextText p ++ s) b,
+  filled-sound p (g.figure f) ps k (h .1) m,
 )
 inside-told stuck p ps s b h k m = tt
 
-shut-told : (f : Front) (q : Part) (ps : List Place) (b : ℕ) → b ≡ 41 → FrontFits f → PartFits q → PlacesFit ps
+shut-told : (f : Front) (q : Part) (ps : List Context) (b : ℕ) → b ≡ 41 → FrontFits f → PartFits q → ContextsFit ps
     → StepTold (shown (after f q ps) ++ (b ∷ [])) (shut (lineOf f q) ps)
-unfolding shown written Fits PlacesFit
+unfolding shown written Fits ContextsFit
 shut-told f q [] b e h k m = tt
 shut-told f q (p ∷ ps) b e h k m = (
-  placed-text p (g.round (lineOf f q)) ps
-      ∙ ap (λ (l : List ℕ). openedText ps ++ (placeText p ++ (40 ∷ (l ++ (41 ∷ []))))) (line-text f q)
-      ∙ ap (λ (x : ℕ). openedText ps ++ (placeText p ++ (40 ∷ ((frontText f ++ partText q) ++ (x ∷ []))))) (sym e)
+  filled-text p (g.round (lineOf f q)) ps
+      ∙ ap (λ (l : List ℕ). openedText ps ++ (contextText p ++ (40 ∷ (l ++ (41 ∷ []))))) (line-text f q)
+      ∙ ap (λ (x : ℕ). openedText ps ++ (contextText p ++ (40 ∷ ((frontText f ++ partText q) ++ (x ∷ []))))) (sym e)
       ∙ simp append-assoc,
-  placed-sound p (g.round (lineOf f q)) ps (m .0) (line-fits f q h k) (m .1),
+  filled-sound p (g.round (lineOf f q)) ps (m .0) (line-fits f q h k) (m .1),
 )
 
 -- one more byte: what has been read is the text with that byte behind it, and keeps to the limits
 pub step-told : (c : Config) (b : ℕ) → Sound c → StepTold (shown c ++ (b ∷ [])) (step c b)
-unfolding step shown partialText PlacesFit Fits written
+unfolding step shown partialText ContextsFit Fits written
 step-told (ready p ps) b h =
-    split (StepTold ((openedText ps ++ placeText p) ++ (b ∷ []))) (eqb b 40) _ _
+    split (StepTold ((openedText ps ++ contextText p) ++ (b ∷ []))) (eqb b 40) _ _
     (λ e. (
-      append-nil (openedText ps ++ (placeText p ++ (40 ∷ [])))
-          ∙ ap (λ (x : ℕ). openedText ps ++ (placeText p ++ (x ∷ []))) (sym (eqb-true b 40 e))
-          ∙ snoc-last (openedText ps) (placeText p) b,
+      append-nil (openedText ps ++ (contextText p ++ (40 ∷ [])))
+          ∙ ap (λ (x : ℕ). openedText ps ++ (contextText p ++ (x ∷ []))) (sym (eqb-true b 40 e))
+          ∙ snoc-last (openedText ps) (contextText p) b,
       (tt, h),
     ))
-    (λ _. split (StepTold ((openedText ps ++ placeText p) ++ (b ∷ []))) (eqb b 91) _ _
+    (λ _. split (StepTold ((openedText ps ++ contextText p) ++ (b ∷ []))) (eqb b 91) _ _
     (λ e. (
-      ap (λ (x : ℕ). openedText ps ++ (placeText p ++ (x ∷ []))) (sym (eqb-true b 91 e)) ∙ snoc-last (openedText ps) (placeText p) b,
+      ap (λ (x : ℕ). openedText ps ++ (contextText p ++ (x ∷ []))) (sym (eqb-true b 91 e)) ∙ snoc-last (openedText ps) (contextText p) b,
       (record { numbers = λ i l. absurd (let z : ⊥ = omega arith in z); last = tt }, h .0, h .1),
     ))
     (λ _. tt))

@@ -1,5 +1,5 @@
 -- A line's text leads from the start to that line: the reading of `written`. No contract cites this file.
---     Steps, stay, hop, steps-append     a text leads from one place of a reading to another, with few brackets open
+--     Steps, stay, hop, steps-append     a text leads from one configuration to another, with few brackets open
 --     more-numbers, lists-led, condition-led, figure-steps     through numbers, and through a figure
 --     frontOf, lastOf, line-again        a line, taken apart at its last part
 --     line-steps, part-steps, item-steps     through lines, parts and items
@@ -26,7 +26,7 @@ use Rattle.grammar.specs.Grammar.{ItemFits, Fits, noCondition}
 use Rattle.grammar.specs.Brackets.{depth, partDepth, itemDepth}
 use Rattle.grammar.specs.Reading.{Number, fresh, digits, grown, grows, mayGrow, isDigit, Partial, listing, semicolon, lettered}
 use Rattle.grammar.specs.Reading.{counting, Next, goes, closes, firstLists, withCondition, behind, stepIn, Front, bare, eithers}
-use Rattle.grammar.specs.Reading.{Place, first, next, Config, ready, inside, after, lineOf, placed, within, step, openIn}
+use Rattle.grammar.specs.Reading.{Context, first, next, Config, ready, inside, after, lineOf, filled, within, step, openIn}
 use Rattle.seq.proofs.Laws.Decimal.{decimal-one, decimal-more}
 use Rattle.grammar.proofs.Laws.Limits.{some-arity}
 
@@ -52,13 +52,13 @@ unfolding Steps
 steps-append n c [] d r e p q = subst (λ (x : Config). Steps n x r e) (sym p) q
 steps-append n c (b ∷ s) d r e p q = (p .0, p .1, p .2, steps-append n (p .0) s d r e (p .3) q)
 
--- an item at its place leaves the open brackets as they are
-pub placed-open : (p : Place) (i : Item) (ps : List Place) → openIn (placed p i ps) ≡ ps
-placed-open (first f) i ps = refl
-placed-open (next f q j) i ps = refl
+-- an item in its context leaves the open brackets as they are
+pub filled-open : (p : Context) (i : Item) (ps : List Context) → openIn (filled p i ps) ≡ ps
+filled-open (first f) i ps = refl
+filled-open (next f q j) i ps = refl
 
 -- in a figure
-module _ (n : ℕ) (p : Place) (ps : List Place) (room : length ps ≤ n) where
+module _ (n : ℕ) (p : Context) (ps : List Context) (room : length ps ≤ n) where
   In : Partial → List ℕ → Partial → Type 0
   In f s h = Steps n (inside f p ps) s (inside h p ps)
 
@@ -74,7 +74,7 @@ grows-true most x b l h m s =
     (both-true (mayGrow x) _ m (le-leb (grown x b) most s))
 
 -- numbers, one behind the other: H holds those before and the one that is read
-module _ (n : ℕ) (p : Place) (ps : List Place) (room : length ps ≤ n) (H : List ℕ → Number → Partial) (most : ℕ → ℕ) (total : ℕ)
+module _ (n : ℕ) (p : Context) (ps : List Context) (room : length ps ≤ n) (H : List ℕ → Number → Partial) (most : ℕ → ℕ) (total : ℕ)
     (grow : (ns : List ℕ) (x : Number) (b : ℕ) → grows (most (length ns)) x b ≡ true → stepIn (H ns x) b ≡ goes (H ns (digits (grown x b))))
     (gap : (ns : List ℕ) (k : ℕ) → length ns + 1 < total → stepIn (H ns (digits k)) 32 ≡ goes (H (behind ns k) fresh)) where
   -- through the digits of a number
@@ -153,7 +153,7 @@ record Whole (x : Partial) (f : Figure) : Type 0 where
   end : stepIn x 93 ≡ closes f
 
 -- a text leads to where a figure may end
-record Led (n : ℕ) (c : Config) (s : List ℕ) (p : Place) (ps : List Place) (f : Figure) : Type 0 where
+record Led (n : ℕ) (c : Config) (s : List ℕ) (p : Context) (ps : List Context) (f : Figure) : Type 0 where
   at : Partial
   whole : Whole at f
   steps : Steps n c s (inside at p ps)
@@ -201,7 +201,7 @@ lettered-goes : (f : Figure) (w : Word) → stepIn (lettered f w) 32 ≡ goes (c
 unfolding stepIn
 lettered-goes f w = refl
 
-module _ (n : ℕ) (p : Place) (ps : List Place) (room : length ps ≤ n) where
+module _ (n : ℕ) (p : Context) (ps : List Context) (room : length ps ≤ n) where
   -- the list numbers of a figure
   lists-led : (ns : List ℕ) → 1 ≤ length ns → Within (λ i. 65536) ns → Led n (ready p ps) (lead 91 ns) p ps (firstLists ns)
   unfolding lead step
@@ -291,16 +291,16 @@ module _ (n : ℕ) (p : Place) (ps : List Place) (room : length ps ≤ n) where
       }
 
   -- through a figure
-  figure-steps : (f : Figure) → FigureFits f → Steps n (ready p ps) (figureText f) (placed p (g.figure f) ps)
+  figure-steps : (f : Figure) → FigureFits f → Steps n (ready p ps) (figureText f) (filled p (g.figure f) ps)
   unfolding figureText openText step
   figure-steps f h =
       let a = lists-led (f .lists) (h .some-list) (h .within) in
       let b = conditions-led (f .conditions) (a .at) (firstLists (f .lists)) (a .whole) (h .conditions) in
-      steps-append n (ready p ps) (openText f) (inside (b .at) p ps) (93 ∷ []) (placed p (g.figure f) ps)
+      steps-append n (ready p ps) (openText f) (inside (b .at) p ps) (93 ∷ []) (filled p (g.figure f) ps)
       (steps-append n (ready p ps) (lead 91 (f .lists)) (inside (a .at) p ps) (joined (map conditionText (f .conditions)))
       (inside (b .at) p ps) (a .steps) (b .steps))
-      (hop n (inside (b .at) p ps) 93 (placed p (g.figure f) ps) (ap (λ (x : Next). within x p ps) (b .whole .end))
-      (rw (placed-open p (g.figure f) ps) room))
+      (hop n (inside (b .at) p ps) 93 (filled p (g.figure f) ps) (ap (λ (x : Next). within x p ps) (b .whole .end))
+      (rw (filled-open p (g.figure f) ps) room))
 
 -- a line, taken apart at its last part
 abbrev pub frontOf : Line → Front
@@ -316,22 +316,22 @@ pub line-again : (l : Line) → lineOf (frontOf l) (lastOf l) ≡ l
 line-again (g.one q) = refl
 line-again (g.either l q) = refl
 
-joint-step : (f : Front) (q : Part) (j : Joint) (ps : List Place) → step (after f q ps) (jointByte j) ≡ some (ready (next f q j) ps)
+joint-step : (f : Front) (q : Part) (j : Joint) (ps : List Context) → step (after f q ps) (jointByte j) ≡ some (ready (next f q j) ps)
 unfolding step
 joint-step f q g.both ps = refl
 joint-step f q g.without ps = refl
 
-shut-step : (l : Line) (p : Place) (ps : List Place) → step (after (frontOf l) (lastOf l) (p ∷ ps)) 41 ≡ some (placed p (g.round l) ps)
+shut-step : (l : Line) (p : Context) (ps : List Context) → step (after (frontOf l) (lastOf l) (p ∷ ps)) 41 ≡ some (filled p (g.round l) ps)
 unfolding step
 shut-step (g.one q) p ps = refl
 shut-step (g.either l q) p ps = refl
 
-either-step : (l : Line) (ps : List Place) → step (after (frontOf l) (lastOf l) ps) 124 ≡ some (ready (first (eithers l)) ps)
+either-step : (l : Line) (ps : List Context) → step (after (frontOf l) (lastOf l) ps) 124 ≡ some (ready (first (eithers l)) ps)
 unfolding step
 either-step (g.one q) ps = refl
 either-step (g.either l q) ps = refl
 
-open-step : (p : Place) (ps : List Place) → step (ready p ps) 40 ≡ some (ready (first bare) (p ∷ ps))
+open-step : (p : Context) (ps : List Context) → step (ready p ps) 40 ≡ some (ready (first bare) (p ∷ ps))
 unfolding step
 open-step p ps = refl
 
@@ -339,7 +339,7 @@ open-step p ps = refl
 mutual
   unfolding written Fits depth
 
-  pub line-steps : (l : Line) (n : ℕ) (ps : List Place) → Fits l → length ps + depth l ≤ n
+  pub line-steps : (l : Line) (n : ℕ) (ps : List Context) → Fits l → length ps + depth l ≤ n
       → Steps n (ready (first bare) ps) (written l) (after (frontOf l) (lastOf l) ps)
   line-steps (g.one q) n ps h r = part-steps q n bare ps h r
   line-steps (g.either l q) n ps h r =
@@ -349,7 +349,7 @@ mutual
       (hop n (after (frontOf l) (lastOf l) ps) 124 (ready (first (eithers l)) ps) (either-step l ps) (omega arith))
       (part-steps q n (eithers l) ps (h .1) (omega arith)))
 
-  pub part-steps : (q : Part) (n : ℕ) (f : Front) (ps : List Place) → PartFits q → length ps + partDepth q ≤ n
+  pub part-steps : (q : Part) (n : ℕ) (f : Front) (ps : List Context) → PartFits q → length ps + partDepth q ≤ n
       → Steps n (ready (first f) ps) (partText q) (after f q ps)
   part-steps (g.alone i) n f ps h r = item-steps i n (first f) ps h r
   part-steps (g.join j q i) n f ps h r =
@@ -359,13 +359,13 @@ mutual
       (hop n (after f q ps) (jointByte j) (ready (next f q j) ps) (joint-step f q j ps) (omega arith))
       (item-steps i n (next f q j) ps (h .1) (omega arith)))
 
-  pub item-steps : (i : Item) (n : ℕ) (p : Place) (ps : List Place) → ItemFits i → length ps + itemDepth i ≤ n
-      → Steps n (ready p ps) (itemText i) (placed p i ps)
+  pub item-steps : (i : Item) (n : ℕ) (p : Context) (ps : List Context) → ItemFits i → length ps + itemDepth i ≤ n
+      → Steps n (ready p ps) (itemText i) (filled p i ps)
   item-steps (g.figure f) n p ps h r = figure-steps n p ps (omega arith) f h
   item-steps (g.round l) n p ps h r =
-      steps-append n (ready p ps) (40 ∷ []) (ready (first bare) (p ∷ ps)) (written l ++ (41 ∷ [])) (placed p (g.round l) ps)
+      steps-append n (ready p ps) (40 ∷ []) (ready (first bare) (p ∷ ps)) (written l ++ (41 ∷ [])) (filled p (g.round l) ps)
       (hop n (ready p ps) 40 (ready (first bare) (p ∷ ps)) (open-step p ps) (omega arith))
-      (steps-append n (ready (first bare) (p ∷ ps)) (written l) (after (frontOf l) (lastOf l) (p ∷ ps)) (41 ∷ []) (placed p (g.round l) ps)
+      (steps-append n (ready (first bare) (p ∷ ps)) (written l) (after (frontOf l) (lastOf l) (p ∷ ps)) (41 ∷ []) (filled p (g.round l) ps)
       (line-steps l n (p ∷ ps) h (omega arith))
-      (hop n (after (frontOf l) (lastOf l) (p ∷ ps)) 41 (placed p (g.round l) ps) (shut-step l p ps)
-      (rw (placed-open p (g.round l) ps) (omega arith))))
+      (hop n (after (frontOf l) (lastOf l) (p ∷ ps)) 41 (filled p (g.round l) ps) (shut-step l p ps)
+      (rw (filled-open p (g.round l) ps) (omega arith))))

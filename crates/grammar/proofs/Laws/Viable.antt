@@ -16,8 +16,8 @@ use Rattle.seq.proofs.Laws.Lists.{length-snoc}
 use Rattle.grammar.specs.Grammar as g
 use Rattle.grammar.specs.Grammar.{Word, Figure, Part, Item, arity, mostOf, written, partText, Begins}
 use Rattle.grammar.specs.Reading.{fresh, digits, grows, Partial, listing, semicolon, lettered, counting, Next, closes, firstLists}
-use Rattle.grammar.specs.Reading.{withCondition, behind, stepIn, Front, Place, first, next, Config, ready, inside, after, lineOf}
-use Rattle.grammar.specs.Reading.{placed, within, step, frontText, shown}
+use Rattle.grammar.specs.Reading.{withCondition, behind, stepIn, Front, Context, first, next, Config, ready, inside, after, lineOf}
+use Rattle.grammar.specs.Reading.{filled, within, step, frontText, shown}
 use Rattle.grammar.proofs.Laws.Reading.{Sound, StepTold, step-told, line-text, line-fits}
 
 -- a beginning of what a line begins with
@@ -31,7 +31,7 @@ via c b d h e go =
     begins-back (shown c) (b ∷ []) (subst Begins (t .0) (go (t .1)))
 
 -- behind an item every open bracket can be closed
-begins-after : (ps : List Place) (f : Front) (q : Part) → Sound (after f q ps) → Begins (shown (after f q ps))
+begins-after : (ps : List Context) (f : Front) (q : Part) → Sound (after f q ps) → Begins (shown (after f q ps))
 unfolding step shown
 begins-after [] f q h = record { rest = []; whole = record { line = lineOf f q; fits = line-fits f q (h .0) (h .1); text = done } }
   where
@@ -40,27 +40,27 @@ begins-after [] f q h = record { rest = []; whole = record { line = lineOf f q; 
 
     done : written (lineOf f q) ≡ shown (after f q []) ++ []
     done = line-text f q ∙ sym at-end ∙ sym (append-nil (shown (after f q [])))
-begins-after (p ∷ ps) f q h = via (after f q (p ∷ ps)) 41 (placed p (g.round (lineOf f q)) ps) h refl (go p (begins-after ps))
+begins-after (p ∷ ps) f q h = via (after f q (p ∷ ps)) 41 (filled p (g.round (lineOf f q)) ps) h refl (go p (begins-after ps))
   where
-    go : (p : Place) → ((f : Front) (q : Part) → Sound (after f q ps) → Begins (shown (after f q ps)))
-        → Sound (placed p (g.round (lineOf f q)) ps) → Begins (shown (placed p (g.round (lineOf f q)) ps))
+    go : (p : Context) → ((f : Front) (q : Part) → Sound (after f q ps) → Begins (shown (after f q ps)))
+        → Sound (filled p (g.round (lineOf f q)) ps) → Begins (shown (filled p (g.round (lineOf f q)) ps))
     go (first x) r s = r x (g.alone (g.round (lineOf f q))) s
     go (next x y j) r s = r x (g.join j y (g.round (lineOf f q))) s
 
--- behind an item at its place
-begins-placed : (p : Place) (i : Item) (ps : List Place) → Sound (placed p i ps) → Begins (shown (placed p i ps))
-begins-placed (first f) i ps h = begins-after ps f (g.alone i) h
-begins-placed (next f q j) i ps h = begins-after ps f (g.join j q i) h
+-- behind an item in its context
+begins-filled : (p : Context) (i : Item) (ps : List Context) → Sound (filled p i ps) → Begins (shown (filled p i ps))
+begins-filled (first f) i ps h = begins-after ps f (g.alone i) h
+begins-filled (next f q j) i ps h = begins-after ps f (g.join j q i) h
 
 -- a figure that may end here
-begins-closed : (f : Partial) (x : Figure) (p : Place) (ps : List Place) → stepIn f 93 ≡ closes x → Sound (inside f p ps)
+begins-closed : (f : Partial) (x : Figure) (p : Context) (ps : List Context) → stepIn f 93 ≡ closes x → Sound (inside f p ps)
     → Begins (shown (inside f p ps))
 unfolding step
 begins-closed f x p ps e h =
-    via (inside f p ps) 93 (placed p (g.figure x) ps) h (ap (λ (n : Next). within n p ps) e) (begins-placed p (g.figure x) ps)
+    via (inside f p ps) 93 (filled p (g.figure x) ps) h (ap (λ (n : Next). within n p ps) e) (begins-filled p (g.figure x) ps)
 
 -- in a condition the numbers that are wanting can be 0
-begins-counting : (k : ℕ) (f : Figure) (w : Word) (ns : List ℕ) (n : ℕ) (p : Place) (ps : List Place) → arity w ≤ length ns + k
+begins-counting : (k : ℕ) (f : Figure) (w : Word) (ns : List ℕ) (n : ℕ) (p : Context) (ps : List Context) → arity w ≤ length ns + k
     → Sound (inside (counting f w ns (digits n)) p ps) → Begins (shown (inside (counting f w ns (digits n)) p ps))
 unfolding step stepIn grows
 begins-counting zero f w ns n p ps l h = absurd (let r = h .0 .room in let z : ⊥ = omega arith in z)
@@ -76,24 +76,24 @@ begins-counting (suc k) f w ns n p ps l h =
     (rw (le-ltb (length ns + 1) (arity w) m)) h)
     (below-or (length ns + 1) (arity w))
 
-begins-fresh : (f : Figure) (w : Word) (ns : List ℕ) (p : Place) (ps : List Place) → Sound (inside (counting f w ns fresh) p ps)
+begins-fresh : (f : Figure) (w : Word) (ns : List ℕ) (p : Context) (ps : List Context) → Sound (inside (counting f w ns fresh) p ps)
     → Begins (shown (inside (counting f w ns fresh) p ps))
 unfolding step stepIn grows
 begins-fresh f w ns p ps h =
     via (inside (counting f w ns fresh) p ps) 48 (inside (counting f w ns (digits 0)) p ps) h
     (rw (le-leb 0 (mostOf w (length ns)) (omega arith))) (begins-counting (arity w) f w ns 0 p ps (omega arith))
 
-begins-lettered : (f : Figure) (w : Word) (p : Place) (ps : List Place) → Sound (inside (lettered f w) p ps)
+begins-lettered : (f : Figure) (w : Word) (p : Context) (ps : List Context) → Sound (inside (lettered f w) p ps)
     → Begins (shown (inside (lettered f w) p ps))
 unfolding step stepIn
 begins-lettered f w p ps h = via (inside (lettered f w) p ps) 32 (inside (counting f w [] fresh) p ps) h refl (begins-fresh f w [] p ps)
 
-begins-digits : (ns : List ℕ) (n : ℕ) (p : Place) (ps : List Place) → Sound (inside (listing ns (digits n)) p ps)
+begins-digits : (ns : List ℕ) (n : ℕ) (p : Context) (ps : List Context) → Sound (inside (listing ns (digits n)) p ps)
     → Begins (shown (inside (listing ns (digits n)) p ps))
 unfolding stepIn grows
 begins-digits ns n p ps h = begins-closed (listing ns (digits n)) (firstLists (behind ns n)) p ps refl h
 
-begins-partial : (f : Partial) (p : Place) (ps : List Place) → Sound (inside f p ps) → Begins (shown (inside f p ps))
+begins-partial : (f : Partial) (p : Context) (ps : List Context) → Sound (inside f p ps) → Begins (shown (inside f p ps))
 unfolding step stepIn grows
 begins-partial (listing ns fresh) p ps h =
     via (inside (listing ns fresh) p ps) 48 (inside (listing ns (digits 0)) p ps) h refl (begins-digits ns 0 p ps)

@@ -1,6 +1,6 @@
 -- The call that reads a line: a law for each way through it. No contract cites this file.
 --     stored-laid                        rows that fit lie at the front of the buffer, and the rest is as it was
---     place-broken, place-deep           a refusal's place lies in the text, or at its end
+--     at-broken, at-deep                 a refusal's place lies in the text, or at its end
 --     too-long, refuses-broken, refuses-deep, too-many, too-short     the refusals
 --     answers                            the answer, and the buffer afterwards
 -- Assumes nothing.
@@ -91,8 +91,8 @@ deep-inside s q w =
     omega arith
 
 -- the byte that breaks the grammar lies in the text, or is its end
-pub place-broken : (s none none′ : List ℕ) (q : ℕ) → WholeRead s none none′ (Broken q) (reading s) → q ≤ length s
-place-broken s none none′ q w = go (reading s) (outcome-told s start 0) w
+pub at-broken : (s none none′ : List ℕ) (q : ℕ) → WholeRead s none none′ (Broken q) (reading s) → q ≤ length s
+at-broken s none none′ q w = go (reading s) (outcome-told s start 0) w
   where
     go : (o : Outcome) → OutcomeTold start 0 s o → WholeRead s none none′ (Broken q) o → q ≤ length s
     go (whole l) t x = absurd x
@@ -100,8 +100,8 @@ place-broken s none none′ q w = go (reading s) (outcome-told s start 0) w
     go (deep k) t x = absurd x
 
 -- the bracket that is too deep lies in the text
-pub place-deep : (s none none′ : List ℕ) (q : ℕ) → WholeRead s none none′ (Deep q) (reading s) → q ≤ length s
-place-deep s none none′ q w = go (reading s) (outcome-told s start 0) w
+pub at-deep : (s none none′ : List ℕ) (q : ℕ) → WholeRead s none none′ (Deep q) (reading s) → q ≤ length s
+at-deep s none none′ q w = go (reading s) (outcome-told s start 0) w
   where
     go : (o : Outcome) → OutcomeTold start 0 s o → WholeRead s none none′ (Deep q) o → q ≤ length s
     go (whole l) t x = absurd x

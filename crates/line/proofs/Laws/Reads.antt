@@ -35,8 +35,8 @@ use Rattle.grammar.specs.declared.tokens.Word.the-variants as word
 use Rattle.grammar.specs.Grammar.{Figure, Line, Part, Item, arity, mostOf}
 use Rattle.grammar.specs.declared.tokens.Word.{Word}
 use Rattle.grammar.specs.Reading as reading
-use Rattle.grammar.specs.Reading.{Partial, listing, semicolon, lettered, counting, goes, closes, stuck, stepIn, Front, bare, eithers, Place}
-use Rattle.grammar.specs.Reading.{first, next, Config, ready, inside, after, start, lineOf, placed, shut, within, step, openIn, broken}
+use Rattle.grammar.specs.Reading.{Partial, listing, semicolon, lettered, counting, goes, closes, stuck, stepIn, Front, bare, eithers, Context}
+use Rattle.grammar.specs.Reading.{first, next, Config, ready, inside, after, start, lineOf, filled, shut, within, step, openIn, broken}
 use Rattle.grammar.specs.Reading.{deep, ended, continued, outcome, partialText}
 use Rattle.grammar.specs.declared.tokens.Number.{Number}
 use Rattle.grammar.specs.declared.tokens.Number.the-variants.{Fresh as fresh, Digits as digits}
@@ -45,7 +45,7 @@ use Rattle.line.specs.Inner.Reads.{from, FigureAt, FigureRead, ItemAt, I
 use Rattle.line.specs.Inner.Reads.{waits, frontRows, PartAt, PartRead, LineAt, LineRead, WholeRead}
 use Rattle.grammar.proofs.Laws.Reading.{PartialFits, NextTold, stepIn-told, NumberFits}
 use Rattle.grammar.proofs.Laws.Query.{end}
-use Rattle.grammar.proofs.Laws.Steps.{placed-open}
+use Rattle.grammar.proofs.Laws.Steps.{filled-open}
 use Rattle.line.proofs.Laws.States.{step-follows, Follows}
 
 -- one byte of a text
@@ -145,7 +145,7 @@ pub record Within (s : List ℕ) (start n : ℕ) (out : List ℕ) (at : ℕ) (st
   pub few : rows + start ≤ n + at
   pub count : rows ≡ n + length (partialRows read)
   pub kept : out′ ≡ stored out n (partialRows read)
-  pub steps : (p : Place) (ps : List Place) → length ps ≤ 8 → from s (inside (listing [] fresh) p ps) start ≡ from s (inside read p ps) at
+  pub steps : (p : Context) (ps : List Context) → length ps ≤ 8 → from s (inside (listing [] fresh) p ps) start ≡ from s (inside read p ps) at
 
 module _ (s : List ℕ) (start n : ℕ) (out : List ℕ) where
   -- nothing has been read of it
@@ -183,7 +183,7 @@ module _ (s : List ℕ) (start n : ℕ) (out : List ℕ) where
           subst (λ (x : State). Follows (w .read) (stepIn (w .read) (getD s at 0)) (stepState x (getD s at 0))) (w .is)
           (step-follows (w .read) (getD s at 0) (w .sound))
 
-      within-is : (m : reading.Next) → stepIn (w .read) (getD s at 0) ≡ m → (p : Place) (ps : List Place)
+      within-is : (m : reading.Next) → stepIn (w .read) (getD s at 0) ≡ m → (p : Context) (ps : List Context)
           → step (inside (w .read) p ps) (getD s at 0) ≡ within m p ps
       unfolding step
       within-is m e p ps = ap (λ (x : reading.Next). within x p ps) e
@@ -272,8 +272,8 @@ module _ (s : List ℕ) (start n : ℕ) (out : List ℕ) where
             };
             goes =
                 λ p ps l. w .steps p ps l
-                ∙ from-goes s (inside (w .read) p ps) at (placed p (g.figure f) ps) h (within-is (closes f) q p ps)
-                (rw (placed-open p (g.figure f) ps) l);
+                ∙ from-goes s (inside (w .read) p ps) at (filled p (g.figure f) ps) h (within-is (closes f) q p ps)
+                (rw (filled-open p (g.figure f) ps) l);
           }
             where
               two : putWords (stored out′ rows (r .row ∷ [])) (rows + 1) (wordsIn end) ≡ stored out′ rows (r .row ∷ end ∷ [])
@@ -293,35 +293,35 @@ module _ (s : List ℕ) (start n : ℕ) (out : List ℕ) where
           go stuck q r = λ p ps l. w .steps p ps l ∙ from-none s (inside (w .read) p ps) at h (within-is stuck q p ps)
 
 -- the steps of the readers, by the byte that is there
-step-figure : (p : Place) (ps : List Place) (b : ℕ) → b ≡ 91 → step (ready p ps) b ≡ some (inside (listing [] fresh) p ps)
+step-figure : (p : Context) (ps : List Context) (b : ℕ) → b ≡ 91 → step (ready p ps) b ≡ some (inside (listing [] fresh) p ps)
 unfolding step
 step-figure p ps b e = ap (step (ready p ps)) e
 
-step-round : (p : Place) (ps : List Place) (b : ℕ) → b ≡ 40 → step (ready p ps) b ≡ some (ready (first bare) (p ∷ ps))
+step-round : (p : Context) (ps : List Context) (b : ℕ) → b ≡ 40 → step (ready p ps) b ≡ some (ready (first bare) (p ∷ ps))
 unfolding step
 step-round p ps b e = ap (step (ready p ps)) e
 
-step-no-item : (p : Place) (ps : List Place) (b : ℕ) → b ≢ 91 → b ≢ 40 → step (ready p ps) b ≡ none
+step-no-item : (p : Context) (ps : List Context) (b : ℕ) → b ≢ 91 → b ≢ 40 → step (ready p ps) b ≡ none
 unfolding step
 step-no-item p ps b e f = rw (ne-eqb b 40 f, ne-eqb b 91 e)
 
-step-joint : (f : Front) (q : Part) (ps : List Place) (b : ℕ) (j : g.Joint) → b ≡ g.jointByte j
+step-joint : (f : Front) (q : Part) (ps : List Context) (b : ℕ) (j : g.Joint) → b ≡ g.jointByte j
     → step (after f q ps) b ≡ some (ready (next f q j) ps)
 unfolding step
 step-joint f q ps b g.both e = ap (step (after f q ps)) e
 step-joint f q ps b g.without e = ap (step (after f q ps)) e
 
-step-either : (f : Front) (q : Part) (ps : List Place) (b : ℕ) → b ≡ 124
+step-either : (f : Front) (q : Part) (ps : List Context) (b : ℕ) → b ≡ 124
     → step (after f q ps) b ≡ some (ready (first (eithers (lineOf f q))) ps)
 unfolding step
 step-either f q ps b e = ap (step (after f q ps)) e
 
-step-shut : (f : Front) (q : Part) (p : Place) (ps : List Place) (b : ℕ) → b ≡ 41
-    → step (after f q (p ∷ ps)) b ≡ some (placed p (g.round (lineOf f q)) ps)
+step-shut : (f : Front) (q : Part) (p : Context) (ps : List Context) (b : ℕ) → b ≡ 41
+    → step (after f q (p ∷ ps)) b ≡ some (filled p (g.round (lineOf f q)) ps)
 unfolding step
 step-shut f q p ps b e = ap (step (after f q (p ∷ ps))) e
 
-step-no-more : (f : Front) (q : Part) (ps : List Place) (b : ℕ) → b ≢ 38 → b ≢ 33 → b ≢ 124 → b ≢ 41 → step (after f q ps) b ≡ none
+step-no-more : (f : Front) (q : Part) (ps : List Context) (b : ℕ) → b ≢ 38 → b ≢ 33 → b ≢ 124 → b ≢ 41 → step (after f q ps) b ≡ none
 unfolding step
 step-no-more f q ps b x y z w = rw (ne-eqb b 124 z, ne-eqb b 38 x, ne-eqb b 33 y, ne-eqb b 41 w)
 
@@ -338,13 +338,13 @@ abbrev pub waitsFor : g.Joint → Pending
 waitsFor g.both = pending.Both
 waitsFor g.without = pending.Without
 
--- what an item at its place makes of the part, and a part of the line
-placed-part : (p : Place) (i : Item) (ps : List Place)
-    → (q : Part) × (placed p i ps ≡ after (frontOf p) q ps) × (partRows q ≡ partBefore p ++ (itemRows i ++ pendingRows (joins p)))
+-- what an item in its context makes of the part, and a part of the line
+filled-part : (p : Context) (i : Item) (ps : List Context)
+    → (q : Part) × (filled p i ps ≡ after (frontOf p) q ps) × (partRows q ≡ partBefore p ++ (itemRows i ++ pendingRows (joins p)))
 unfolding lineRows
-placed-part (first f) i ps = (g.alone i, refl, sym (append-nil (itemRows i)))
-placed-part (next f q g.both) i ps = (g.join g.both q i, refl, refl)
-placed-part (next f q g.without) i ps = (g.join g.without q i, refl, refl)
+filled-part (first f) i ps = (g.alone i, refl, sym (append-nil (itemRows i)))
+filled-part (next f q g.both) i ps = (g.join g.both q i, refl, refl)
+filled-part (next f q g.without) i ps = (g.join g.without q i, refl, refl)
 
 line-part : (f : Front) (q : Part) → lineRows (lineOf f q) ≡ frontRows f ++ (partRows q ++ pendingRows (waits f))
 unfolding lineRows
@@ -418,7 +418,7 @@ module _ (s : List ℕ) (at d n : ℕ) (out : List ℕ) where
       item-deep m p ps l = from-deep s (ready p ps) at (ready (first bare) (p ∷ ps)) h (step-round p ps (getD s at 0) e) (omega arith)
 
       module _ (m : d < 8) (out′ : List ℕ) where
-        opens-on : (p : Place) (ps : List Place) → length ps ≡ d → from s (ready p ps) at ≡ from s (ready (first bare) (p ∷ ps)) (at + 1)
+        opens-on : (p : Context) (ps : List Context) → length ps ≡ d → from s (ready p ps) at ≡ from s (ready (first bare) (p ∷ ps)) (at + 1)
         opens-on p ps l = from-goes s (ready p ps) at (ready (first bare) (p ∷ ps)) h (step-round p ps (getD s at 0) e) (omega arith)
 
         -- `(`: the line inside breaks the grammar
@@ -463,8 +463,8 @@ module _ (s : List ℕ) (at d n : ℕ) (out : List ℕ) where
                   g.round (lineOf (x .0) (x .1)),
                   opens-on p ps l
                       ∙ x .2
-                      ∙ from-goes s (after (x .0) (x .1) (p ∷ ps)) k (placed p (g.round (lineOf (x .0) (x .1))) ps) o
-                      (step-shut (x .0) (x .1) p ps (getD s k 0) f) (rw (placed-open p (g.round (lineOf (x .0) (x .1))) ps) (omega arith)),
+                      ∙ from-goes s (after (x .0) (x .1) (p ∷ ps)) k (filled p (g.round (lineOf (x .0) (x .1))) ps) o
+                      (step-shut (x .0) (x .1) p ps (getD s k 0) f) (rw (filled-open p (g.round (lineOf (x .0) (x .1))) ps) (omega arith)),
                   round-rows (lineOf (x .0) (x .1)) ∙ x .3,
                 );
           }
@@ -475,12 +475,12 @@ module _ (s : List ℕ) (at d n : ℕ) (out : List ℕ) where
   -- parts: an item and the operator that waited for it
   module _ (o : Pending) (out₁ out₂ : List ℕ) (e m k : ℕ) (w : ItemAt s at d n out out₁ e m) (x : out₂ ≡ stored out₁ m (pendingRows o))
       (y : k ≡ m + length (pendingRows o)) where
-    part-so-far : (p : Place) (ps : List Place) → length ps ≡ d → joins p ≡ o
+    part-so-far : (p : Context) (ps : List Context) → length ps ≡ d → joins p ≡ o
         → (q : Part) × (from s (ready p ps) at ≡ from s (after (frontOf p) q ps) e)
         × (partRows q ≡ partBefore p ++ (w .new ++ pendingRows o))
     part-so-far p ps l j =
         let i = w .goes p ps l in
-        let q = placed-part p (i .0) ps in (
+        let q = filled-part p (i .0) ps in (
           q .0,
           i .1 ∙ ap (λ (c : Config). from s c e) (q .1),
           q .2 ∙ ap₂ (λ (a : List Row) (b : Pending). partBefore p ++ (a ++ pendingRows b)) (i .2) j,
@@ -501,7 +501,7 @@ module _ (s : List ℕ) (at d n : ℕ) (out : List ℕ) where
           go g.both f q = refl
           go g.without f q = refl
 
-      joins-on : (p : Place) (ps : List Place) (q : Part) → length ps ≡ d
+      joins-on : (p : Context) (ps : List Context) (q : Part) → length ps ≡ d
           → from s (after (frontOf p) q ps) e ≡ from s (ready (next (frontOf p) q j) ps) (e + 1)
       joins-on p ps q l =
           from-goes s (after (frontOf p) q ps) e (ready (next (frontOf p) q j) ps) h (step-joint (frontOf p) q ps (getD s e 0) j b)
@@ -548,7 +548,7 @@ module _ (s : List ℕ) (at d n : ℕ) (out : List ℕ) where
   -- lines: a part and the `|` that waited for it
   module _ (o : Pending) (out₁ out₂ : List ℕ) (e m k : ℕ) (w : PartAt s at d n pending.Nothing out out₁ e m)
       (x : out₂ ≡ stored out₁ m (pendingRows o)) (y : k ≡ m + length (pendingRows o)) where
-    line-so-far : (f : Front) (ps : List Place) → length ps ≡ d → waits f ≡ o
+    line-so-far : (f : Front) (ps : List Context) → length ps ≡ d → waits f ≡ o
         → (q : Part) × (from s (ready (first f) ps) at ≡ from s (after f q ps) e)
         × (lineRows (lineOf f q) ≡ frontRows f ++ (w .new ++ pendingRows o))
     line-so-far f ps l u =
@@ -568,7 +568,7 @@ module _ (s : List ℕ) (at d n : ℕ) (out : List ℕ) where
     }
 
     module _ (few : d ≤ 8) (h : e < length s) (b : getD s e 0 ≡ 124) (out′ : List ℕ) where
-      either-on : (f : Front) (ps : List Place) (q : Part) → length ps ≡ d
+      either-on : (f : Front) (ps : List Context) (q : Part) → length ps ≡ d
           → from s (after f q ps) e ≡ from s (ready (first (eithers (lineOf f q))) ps) (e + 1)
       either-on f ps q l =
           from-goes s (after f q ps) e (ready (first (eithers (lineOf f q))) ps) h (step-either f q ps (getD s e 0) b) (omega arith)

@@ -17,7 +17,7 @@ use Rattle.line.specs.declared.reading.Pending.{Pending}
 use Rattle.line.specs.declared.reading.Pending.the-variants as pending
 use Rattle.grammar.specs.Grammar.{Figure, Part, Item, figure, both, without}
 use Rattle.grammar.specs.Meaning.{patternOf, operatorRow, lineRows, partRows, itemRows}
-use Rattle.grammar.specs.Reading.{listing, Front, bare, eithers, Place, first, next, Config, ready, inside, after, lineOf, placed, Outcome}
+use Rattle.grammar.specs.Reading.{listing, Front, bare, eithers, Context, first, next, Config, ready, inside, after, lineOf, filled, Outcome}
 use Rattle.grammar.specs.Reading.{whole, broken, deep, outcome}
 use Rattle.grammar.specs.declared.tokens.Number.the-variants.{Fresh as fresh}
 use Rattle.line.specs.Inner.Store.{stored}
@@ -38,42 +38,42 @@ pub record Stored (s : List ℕ) (at n slack : ℕ) (out out′ : List ℕ) (e m
 pub record FigureAt (s : List ℕ) (at n : ℕ) (out out′ : List ℕ) (e m : ℕ) : Type 0 where
   pub read : Figure
   pub rows : Stored s at n 1 out out′ e m (patternRows (patternOf read))
-  pub goes : (p : Place) (ps : List Place) → length ps ≤ 8
-      → from s (inside (listing [] fresh) p ps) at ≡ from s (placed p (figure read) ps) e
+  pub goes : (p : Context) (ps : List Context) → length ps ≤ 8
+      → from s (inside (listing [] fresh) p ps) at ≡ from s (filled p (figure read) ps) e
 
 -- the answer of its reader
 abbrev pub FigureRead : List ℕ → ℕ → ℕ → List ℕ → List ℕ → Reached → Type 0
 FigureRead s at n out out′ (At e m) = FigureAt s at n out out′ e m
 FigureRead s at n out out′ (Broken e) =
-    (p : Place) (ps : List Place) → length ps ≤ 8 → from s (inside (listing [] fresh) p ps) at ≡ broken e
+    (p : Context) (ps : List Context) → length ps ≤ 8 → from s (inside (listing [] fresh) p ps) at ≡ broken e
 FigureRead s at n out out′ (Deep e) = ⊥
 
 -- an item
 pub record ItemAt (s : List ℕ) (at d n : ℕ) (out out′ : List ℕ) (e m : ℕ) : Type 0 where
   pub new : List Row
   pub rows : Stored s at n 0 out out′ e m new
-  pub goes : (p : Place) (ps : List Place) → length ps ≡ d
-      → (i : Item) × (from s (ready p ps) at ≡ from s (placed p i ps) e) × (itemRows i ≡ new)
+  pub goes : (p : Context) (ps : List Context) → length ps ≡ d
+      → (i : Item) × (from s (ready p ps) at ≡ from s (filled p i ps) e) × (itemRows i ≡ new)
 
 -- the answer of its reader
 abbrev pub ItemRead : List ℕ → ℕ → ℕ → ℕ → List ℕ → List ℕ → Reached → Type 0
 ItemRead s at d n out out′ (At e m) = ItemAt s at d n out out′ e m
-ItemRead s at d n out out′ (Broken e) = (p : Place) (ps : List Place) → length ps ≡ d → from s (ready p ps) at ≡ broken e
-ItemRead s at d n out out′ (Deep e) = (p : Place) (ps : List Place) → length ps ≡ d → from s (ready p ps) at ≡ deep e
+ItemRead s at d n out out′ (Broken e) = (p : Context) (ps : List Context) → length ps ≡ d → from s (ready p ps) at ≡ broken e
+ItemRead s at d n out out′ (Deep e) = (p : Context) (ps : List Context) → length ps ≡ d → from s (ready p ps) at ≡ deep e
 
--- what stands in front of the part of a place
-abbrev pub frontOf : Place → Front
+-- what stands in front of the part of a context
+abbrev pub frontOf : Context → Front
 frontOf (first f) = f
 frontOf (next f p j) = f
 
 -- the operator that waits there
-abbrev pub joins : Place → Pending
+abbrev pub joins : Context → Pending
 joins (first f) = pending.Nothing
 joins (next f p both) = pending.Both
 joins (next f p without) = pending.Without
 
 -- the rows of the part in front of it
-abbrev pub partBefore : Place → List Row
+abbrev pub partBefore : Context → List Row
 partBefore (first f) = []
 partBefore (next f p j) = partRows p
 
@@ -89,14 +89,14 @@ pub record PartAt (s : List ℕ) (at d n : ℕ) (o : Pending) (out out′ : List
   pub new : List Row
   pub rows : Stored s at n (length (pendingRows o)) out out′ e m new
   pub ends : e < length s → (getD s e 0 ≢ 38) × (getD s e 0 ≢ 33)
-  pub goes : (p : Place) (ps : List Place) → length ps ≡ d → joins p ≡ o
+  pub goes : (p : Context) (ps : List Context) → length ps ≡ d → joins p ≡ o
       → (q : Part) × (from s (ready p ps) at ≡ from s (after (frontOf p) q ps) e) × (partRows q ≡ partBefore p ++ new)
 
 -- the answer of its reader
 abbrev pub PartRead : List ℕ → ℕ → ℕ → ℕ → Pending → List ℕ → List ℕ → Reached → Type 0
 PartRead s at d n o out out′ (At e m) = PartAt s at d n o out out′ e m
-PartRead s at d n o out out′ (Broken e) = (p : Place) (ps : List Place) → length ps ≡ d → joins p ≡ o → from s (ready p ps) at ≡ broken e
-PartRead s at d n o out out′ (Deep e) = (p : Place) (ps : List Place) → length ps ≡ d → joins p ≡ o → from s (ready p ps) at ≡ deep e
+PartRead s at d n o out out′ (Broken e) = (p : Context) (ps : List Context) → length ps ≡ d → joins p ≡ o → from s (ready p ps) at ≡ broken e
+PartRead s at d n o out out′ (Deep e) = (p : Context) (ps : List Context) → length ps ≡ d → joins p ≡ o → from s (ready p ps) at ≡ deep e
 
 -- the operator that waits behind a line
 abbrev pub waits : Front → Pending
@@ -113,16 +113,16 @@ pub record LineAt (s : List ℕ) (at d n : ℕ) (o : Pending) (out out′ : List
   pub new : List Row
   pub rows : Stored s at n (length (pendingRows o)) out out′ e m new
   pub ends : e < length s → (getD s e 0 ≢ 38) × (getD s e 0 ≢ 33) × (getD s e 0 ≢ 124)
-  pub goes : (f : Front) (ps : List Place) → length ps ≡ d → waits f ≡ o
+  pub goes : (f : Front) (ps : List Context) → length ps ≡ d → waits f ≡ o
       → (h : Front) × (q : Part) × (from s (ready (first f) ps) at ≡ from s (after h q ps) e) × (lineRows (lineOf h q) ≡ frontRows f ++ new)
 
 -- the answer of its reader
 abbrev pub LineRead : List ℕ → ℕ → ℕ → ℕ → Pending → List ℕ → List ℕ → Reached → Type 0
 LineRead s at d n o out out′ (At e m) = LineAt s at d n o out out′ e m
 LineRead s at d n o out out′ (Broken e) =
-    (f : Front) (ps : List Place) → length ps ≡ d → waits f ≡ o → from s (ready (first f) ps) at ≡ broken e
+    (f : Front) (ps : List Context) → length ps ≡ d → waits f ≡ o → from s (ready (first f) ps) at ≡ broken e
 LineRead s at d n o out out′ (Deep e) =
-    (f : Front) (ps : List Place) → length ps ≡ d → waits f ≡ o → from s (ready (first f) ps) at ≡ deep e
+    (f : Front) (ps : List Context) → length ps ≡ d → waits f ≡ o → from s (ready (first f) ps) at ≡ deep e
 
 -- what comes of a whole text: the line's rows are stored from row 0 on
 abbrev pub WholeRead : List ℕ → List ℕ → List ℕ → Reached → Outcome → Type 0

@@ -9,7 +9,7 @@ use Rattle.line.specs.declared.reading.Reached.{Reached}
 use Rattle.line.specs.declared.reading.Reached.the-variants.{At, Broken, Deep}
 use Rattle.grammar.specs.Reading.{reading}
 use Rattle.line.specs.Inner.Reads.{WholeRead}
-use Rattle.line.proofs.Laws.Call.{place-broken, place-deep, too-long, refuses-broken, refuses-deep, too-many, too-short, answers}
+use Rattle.line.proofs.Laws.Call.{at-broken, at-deep, too-long, refuses-broken, refuses-deep, too-many, too-short, answers}
 use Rattle.line.proofs.reader.read.Statement.{statement}
 use Rattle.line.proofs.reader.read.Tie as tie
 
@@ -43,7 +43,7 @@ cast-t13 c =
     let none = r .last .1 .0 in
     let b = c .before .counted .given in
     let w = told s none (Broken (b .0 .0)) (b .1) (r .ensures) in
-    let h = place-broken s (0 ∷ []) none (b .0 .0) w in
+    let h = at-broken s (0 ∷ []) none (b .0 .0) w in
     search needs
 
 enum-known-counted-2 : tie.Need-enum-known-counted-2
@@ -58,7 +58,7 @@ cast-t14 c =
     let none = r .last .1 .0 in
     let b = c .before .counted2 .given in
     let w = told s none (Deep (b .0 .0)) (b .1) (r .ensures) in
-    let h = place-deep s (0 ∷ []) none (b .0 .0) w in
+    let h = at-deep s (0 ∷ []) none (b .0 .0) w in
     search needs
 
 enum-known-counted-3 : tie.Need-enum-known-counted-3

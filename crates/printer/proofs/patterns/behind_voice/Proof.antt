@@ -11,7 +11,7 @@ use Rattle.printer.proofs.patterns.behind_voice.Statement.{statement}
 use Rattle.printer.proofs.patterns.behind_voice.Tie as tie
 use Rattle.printer.proofs.patterns.behind_voice.Reads as reads
 use Rattle.printer.proofs.patterns.behind_voice.Lts as lts
-use Rattle.printer.proofs.patterns.is_voice.Reads as is-voice-reads
+use Rattle.plan.proofs.is_voice.Reads as is-voice-reads
 use Rattle.plan.proofs.row_at.Reads as row-at-reads
 
 returns : tie.Need-returns
