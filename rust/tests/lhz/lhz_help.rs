@@ -112,5 +112,5 @@ fn examples_from_texts_to_a_listing() {
     let printed: String =
         examples.iter().map(|line| folder.sh(line).answer().to_string()).collect();
     let typed = "scene 1 1 2 5\nscene 2 1 4 9\ndone 6\n";
-    assert_eq!(printed, format!("lists 3 postings 8 blocks 1\nrows 5\n{SAMPLE_LISTING}{typed}"));
+    assert_eq!(printed, format!("lists 3 postings 8 blocks 1\n{typed}rows 5\n{SAMPLE_LISTING}"));
 }

@@ -27,12 +27,12 @@ sentence on it goes to standard error.
 Exit status: 0 answered; 1 refused, or a mistake in a text; 2 wrong arguments,
 or a file that cannot be read or written.
 
-Examples, from lists to the scenes of a plan:
+Examples, from lists to scenes, by a typed line and by a plan:
 
   lhz write lists.txt titles.vol
+  lhz list titles.vol --line '[1 2;b 0 1]'
   lhz plan wording.txt wording.plan
   lhz list titles.vol wording.plan
-  lhz list titles.vol --line '[1 2;b 0 1]'
 ";
 
 /// How a page shows that its command is used: its lines up to the first that is empty.
