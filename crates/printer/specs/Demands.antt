@@ -35,6 +35,7 @@ pub record ThereAndBack (v p : List ℕ) : Type 0 where
   pub reads : (out : List ℕ) → length p ≤ length out → readAnswer (planText p) (length out) ≡ answered (length p)
   pub gives : (out : List ℕ) → length p ≤ length out → readOut (planText p) out ≡ p ++ drop (length p) out
 
+-- every accepted plan
 unfoldable pub RoundTrips : Type 0
 RoundTrips = (v p : List ℕ) → Accepted v p → ThereAndBack v p
 

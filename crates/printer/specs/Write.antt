@@ -14,6 +14,7 @@ abbrev pub writeBy : Said Sizes → List ℕ → ℕ → Said ℕ
 writeBy (refused n q) s room = refused n q
 writeBy (answered z) s room = cond (ltb room (length s)) (refused 16 0) (answered (length s))
 
+-- by the verdict on the volume and the plan
 unfoldable pub writeAnswer : List ℕ → List ℕ → ℕ → Said ℕ
 writeAnswer v p room = writeBy (verdict v p) (planText p) room
 

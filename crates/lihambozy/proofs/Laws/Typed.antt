@@ -2,20 +2,16 @@
 --     read-number      a refusal of reading has a number other than 0
 --     typed-search     what holds of a text that is answered with refusal 0, and whose words are accepted
 -- Assumes nothing.
-use Prim.Native.Nat.{ℕ, _-_}
+use Prim.Native.Nat.{ℕ}
 use native.Mathlib.Omega.{arith}
 use mathlib.Core.Path.{_≡_, ap, _∙_}
 use mathlib.Core.Logic.{⊎-elim, _≢_}
 use mathlib.Core.List.{List}
-use Rattle.seq.specs.Lists.{keep}
-use Rattle.seq.specs.Numbers.{run}
 use Rattle.seq.specs.Refusals.{refused, answered}
-use Rattle.seq.proofs.Laws.Keep.{keep-ext}
-use Rattle.volume.specs.Layout.{listsOf}
 use Rattle.plan.specs.Check.{verdict}
 use Rattle.fulltext.specs.Documents.{docsIn, work}
-use Rattle.grammar.specs.Meaning.{lineTrue}
 use Rattle.grammar.specs.Words.{wordsOfLine}
+use Rattle.grammar.proofs.Laws.Words.{line-meant}
 use Rattle.line.specs.Demands.{Answered}
 use Rattle.line.specs.Read.{sizeOfLine, readAnswer}
 use Rattle.line.specs.Refusals.{ReadApplies, tooLong, breaks, tooDeep, tooMany, short}
@@ -44,7 +40,6 @@ answer-of s room e =
 
 pub typed-search : (v s : List ℕ) (room : ℕ) → flatWords (readAnswer s room) .refusal ≡ 0 → flatPlan (verdict v (wordsOfLine s)) .refusal ≡ 0
     → TypedSearch v s
-unfolding docsIn
 typed-search v s room e f =
     let a = answer-of s room e in
     record {
@@ -52,5 +47,5 @@ typed-search v s room e f =
       fits = a .fits;
       text = a .text;
       searched = holds3 v (wordsOfLine s) f;
-      docs = λ from to. keep-ext (work v (wordsOfLine s) .isTrue) (lineTrue (listsOf v) (a .line)) (a .truth v) (run (λ d. d) from (to - from));
+      docs = λ from to. ap (λ (p : List ℕ). docsIn (work v p) from to) (a .words) ∙ line-meant v (a .line) (a .fits) .docs from to;
     }

@@ -95,8 +95,10 @@ pub record PartAt (s : List ℕ) (at d n : ℕ) (o : Pending) (out out′ : List
 -- the answer of its reader
 abbrev pub PartRead : List ℕ → ℕ → ℕ → ℕ → Pending → List ℕ → List ℕ → Reached → Type 0
 PartRead s at d n o out out′ (At e m) = PartAt s at d n o out out′ e m
-PartRead s at d n o out out′ (Broken e) = (p : Context) (ps : List Context) → length ps ≡ d → joins p ≡ o → from s (ready p ps) at ≡ broken e
-PartRead s at d n o out out′ (Deep e) = (p : Context) (ps : List Context) → length ps ≡ d → joins p ≡ o → from s (ready p ps) at ≡ deep e
+PartRead s at d n o out out′ (Broken e) =
+    (p : Context) (ps : List Context) → length ps ≡ d → joins p ≡ o → from s (ready p ps) at ≡ broken e
+PartRead s at d n o out out′ (Deep e) =
+    (p : Context) (ps : List Context) → length ps ≡ d → joins p ≡ o → from s (ready p ps) at ≡ deep e
 
 -- the operator that waits behind a line
 abbrev pub waits : Front → Pending
