@@ -8,18 +8,20 @@ ghost use Rattle.plan.specs.Accepted.{patternAt};
 ghost use Rattle.fulltext.specs.Inner.Bounds.{HeldMatch};
 ghost use Rattle.matcher.specs.Inner.Cursors.{Stretch};
 ghost use Rattle.matcher.specs.Inner.Settling.{Standing, Posed};
+ghost use Rattle.matcher.specs.Inner.Order.{Order};
 ghost use Rattle.enumeration.specs.Inner.Attempts.{StoodFrom, FrontTold, Marked};
 use matcher::Document;
 use matcher::jump;
 use matcher::match_from;
 use plan::Outline;
 
-// Brings n variables from `marks` to their first positions in a document that are not below `lows`.
-// Whether each has one.
+// Brings n variables from `marks` to their first positions in a document that are not below `lows`,
+// in the order given. Whether each has one.
 fn stand_from(
     volume: &[u8],
     doc: u32,
     n: usize,
+    order: &[usize],
     ends: &[usize],
     lows: &[u32],
     marks: &[usize],
@@ -32,18 +34,20 @@ fn stand_from(
     requires { ⌜ n ≤ length (now here) ⌝ }
     requires { ⌜ n ≤ length (now positions) ⌝ }
     requires { ⌜ ((x : ℕ) → x < n → Stretch (now volume) (getD (now marks) x 0) (getD (now ends) x 0)) ⌝ }
+    requires { ⌜ Order n (now order) ⌝ }
     ensures { λ r. ⌜ StoodFrom (now (volume .entry)) doc n (now (ends .entry)) (now (lows .entry)) (now (marks .entry)) r (now (here .exit))
         (now (positions .exit)) ⌝ }
     ensures { λ _. ⌜ length (now (here .exit)) ≡ length (now (here .entry)) ⌝ }
     ensures { λ _. ⌜ length (now (positions .exit)) ≡ length (now (positions .entry)) ⌝ }
 {
-    let mut x: usize = 0;
-    while x < n {
+    let mut i: usize = 0;
+    while i < n {
+        let x = order[i];
         here[x] = marks[x];
         if !jump(volume, doc, ends[x], x, lows[x], here, positions) {
             return false;
         }
-        x += 1;
+        i += 1;
     }
     true
 }
@@ -65,14 +69,15 @@ fn same_front(a: &[u32], b: &[u32], n: usize) -> bool
 }
 
 // The least match of a pattern in a document that is in no variable below `lows` and has the first
-// `held` variables at `lows`. The variables are brought there from `marks`, and their cursors are left
-// at the match. Whether there is one. As soon as a variable that is held would have to move, there is
-// none.
+// `held` variables at `lows`. The variables are brought there from `marks`, in the order given, and
+// their cursors are left at the match. Whether there is one. As soon as a variable that is held
+// would have to move, there is none.
 pub fn match_held(
     volume: &[u8],
     plan: &[u32],
     outline: Outline,
     document: Document,
+    order: &[usize],
     ends: &[usize],
     lows: &[u32],
     marks: &[usize],
@@ -87,6 +92,7 @@ pub fn match_held(
     requires { ⌜ outline .vars ≤ length (now positions) ⌝ }
     requires { ⌜ Marked (now volume) (document .doc) (patternAt (now plan) (outline .pattern)) (now lows) (now marks) ⌝ }
     requires { ⌜ held < outline .vars ⌝ }
+    requires { ⌜ Order (outline .vars) (now order) ⌝ }
     ensures { λ r. ⌜ HeldMatch (listsOf (now (volume .entry))) (document .doc) (patternAt (now (plan .entry)) (outline .pattern))
         (take (outline .vars) (now (lows .entry))) held r (take (outline .vars) (now (positions .exit))) ⌝ }
     ensures { λ _. ⌜ length (now (here .exit)) ≡ length (now (here .entry)) ⌝ }
@@ -99,6 +105,7 @@ pub fn match_held(
         volume,
         document.doc,
         outline.vars,
+        order,
         ends,
         lows,
         marks,
@@ -110,5 +117,15 @@ pub fn match_held(
     if !same_front(positions, lows, held) {
         return false;
     }
-    match_from(volume, plan, outline, document, held, ends, here, positions)
+    match_from(
+        volume,
+        plan,
+        outline,
+        document,
+        held,
+        order,
+        ends,
+        here,
+        positions,
+    )
 }

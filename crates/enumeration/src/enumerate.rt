@@ -15,10 +15,11 @@ ghost use Rattle.enumeration.specs.Inner.Attempts.{Stepped, Sought};
 use super::answers::Enumerated;
 use super::answers::Matched;
 use super::next::next_match;
+use matcher::Cursor;
 use matcher::Document;
 use matcher::in_document;
-use matcher::list_cursor;
 use matcher::put_row;
+use matcher::rarest_first;
 use matcher::starts_of;
 use plan::Checked;
 use plan::MOST_PATTERN_VARS;
@@ -27,10 +28,11 @@ use plan::Outline;
 use plan::lay_out;
 use plan::list_at;
 use plan::outline_at;
+use volume::MAX_LISTS;
 use volume::Posting;
 
 // A cursor for each variable of a pattern, at its list's first posting in document `doc` or a later
-// one.
+// one. One pass over the counts gives the starts of all lists.
 fn set_cursors(
     volume: &[u8],
     plan: &[u32],
@@ -50,11 +52,16 @@ fn set_cursors(
         → record { at = getD (now (firsts .exit)) x 0; end = getD (now (ends .exit)) x 0 }
         ≡ cursorOn (now (volume .entry)) (getD (patternAt (now (plan .entry)) (outline .pattern) .vars) x 0) doc) ⌝ }
 {
+    let mut starts: [usize; MAX_LISTS + 1] = [0; MAX_LISTS + 1];
+    let lists = volume::word_at(volume, 1) as usize;
+    volume::list_starts(volume, lists, &mut starts);
     let row = outline.condition - outline.vars;
     let mut x: usize = 0;
     while x < outline.vars {
-        let list = list_at(plan, row + x);
-        let first = list_cursor(volume, list as usize);
+        let list = list_at(plan, row + x) as usize;
+        let at = starts[list];
+        let end = starts[list + 1];
+        let first = Cursor { at, end };
         let cursor = first.seek(volume, doc);
         firsts[x] = cursor.at;
         ends[x] = cursor.end;
@@ -106,12 +113,13 @@ fn write_matches(
     plan: &[u32],
     outline: Outline,
     document: Document,
+    order: &[usize],
     firsts: [usize; MOST_PATTERN_VARS],
     ends: &[usize],
     from: &[u32],
     out: &mut [u32],
 ) -> Matched
-    requires { ⌜ Sought (now volume) (now plan) outline document firsts (now ends) ⌝ }
+    requires { ⌜ Sought (now volume) (now plan) outline document (now order) firsts (now ends) ⌝ }
     requires { ⌜ length (now from) ≡ outline .vars ⌝ }
     requires { ⌜ InDocument (now from) ⌝ }
     requires { ⌜ outline .vars ≤ length (now out) ⌝ }
@@ -132,6 +140,7 @@ fn write_matches(
         plan,
         outline,
         document,
+        order,
         &firsts,
         ends,
         &mut lows,
@@ -190,7 +199,19 @@ fn matches_of(
     let list = starts_of(volume);
     let starts = list.seek(volume, doc);
     let document = Document { doc, starts };
-    write_matches(volume, plan, outline, document, firsts, &ends, from, out)
+    let mut order: [usize; MOST_PATTERN_VARS] = [0; MOST_PATTERN_VARS];
+    rarest_first(volume, plan, outline, &mut order);
+    write_matches(
+        volume,
+        plan,
+        outline,
+        document,
+        &order,
+        firsts,
+        &ends,
+        from,
+        out,
+    )
 }
 
 // Writes the matches of a pattern in a document from a tuple on to the front of out, as many as fit:

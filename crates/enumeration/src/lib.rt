@@ -6,8 +6,10 @@
 // in `specs/Demands.antt`.
 //
 // No product of positions is walked. `attempts` looks for the least match that is in no variable
-// below its bound and has its first variables at their bounds (`matcher::match_from`). Where there is
-// none, `next` moves the bounds on, as an odometer carries. `enumerate` writes match by match.
+// below its bound and has its first variables at their bounds (`matcher::match_from`). It brings
+// the rarest variable there first: an attempt ends at the first one that has no such position.
+// Where there is no match, `next` moves the bounds on, as an odometer carries. `enumerate` writes
+// match by match.
 mod answers;
 mod attempts;
 mod enumerate;

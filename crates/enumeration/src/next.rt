@@ -22,6 +22,7 @@ pub fn next_match(
     plan: &[u32],
     outline: Outline,
     document: Document,
+    order: &[usize],
     firsts: &[usize],
     ends: &[usize],
     lows: &mut [u32],
@@ -29,7 +30,7 @@ pub fn next_match(
     here: &mut [usize],
     positions: &mut [u32],
 ) -> bool
-    requires { ⌜ Sought (now volume) (now plan) outline document (now firsts) (now ends) ⌝ }
+    requires { ⌜ Sought (now volume) (now plan) outline document (now order) (now firsts) (now ends) ⌝ }
     requires { ⌜ outline .vars ≤ length (now lows) ⌝ }
     requires { ⌜ outline .vars ≤ length (now marks) ⌝ }
     requires { ⌜ outline .vars ≤ length (now here) ⌝ }
@@ -53,6 +54,7 @@ pub fn next_match(
         plan,
         outline,
         document,
+        order,
         ends,
         lows,
         marks,

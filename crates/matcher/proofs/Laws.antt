@@ -5,9 +5,9 @@
 --     Starts        the first two, by a cursor on list 0
 --     Shortfall     what each predicate tells of the positions
 --     Placed        the list of each variable of a plan, and a cursor for each
+--     Rarest        the order of a pattern's variables, rarest first
 --     Settling      how a pattern's variables come to its least match
 --     Tried         the search for it, predicate by predicate
---     Settled       a pattern that stands in a document, from its cursors to what is shown of it
 --     Range         refusal 17, test by test
 --     Testing       what testing positions finds
 --     TestFirst     testing answers the first refusal that applies
@@ -20,9 +20,9 @@ pub mod Paragraphs
 pub mod Starts
 pub mod Shortfall
 pub mod Placed
+pub mod Rarest
 pub mod Settling
 pub mod Tried
-pub mod Settled
 pub mod Range
 pub mod Testing
 pub mod TestFirst

@@ -2,7 +2,7 @@
 ghost use mathlib.Core.Path.{_≡_};
 ghost use mathlib.Core.Bool.{true};
 ghost use mathlib.Core.List.{List};
-ghost use Prim.Native.Nat.{ℕ, _<_, _≤_};
+ghost use Prim.Native.Nat.{ℕ, _+_, _*_, _<_, _≤_, min, max};
 ghost use lib.ListN.{length, getD, take};
 ghost use Rattle.volume.specs.Check.{Accepted};
 ghost use Rattle.volume.specs.Layout.{listsOf};
@@ -11,9 +11,10 @@ ghost use Rattle.plan.specs.Rows.{InRange};
 ghost use Rattle.plan.specs.declared.row.Predicate.the-variants.{Distance, Ordered, Samepara, Window, Proximity};
 ghost use Rattle.plan.specs.declared.row.Kind.the-variants as kind;
 ghost use Rattle.fulltext.specs.Matches.{startsIn};
-ghost use Rattle.fulltext.specs.Inner.Paragraphs.{paraStart, firstStart, neededStart};
-ghost use Rattle.matcher.specs.Inner.Shortfall.{InDocument, Told};
-ghost use Rattle.matcher.specs.Inner.Cursors.{AtDocument};
+ghost use Rattle.fulltext.specs.Inner.Paragraphs.{paraStart, neededStart};
+ghost use Rattle.matcher.specs.Inner.Shortfall.{InDocument, Largest, Told};
+ghost use Rattle.matcher.specs.Inner.Order.{Order};
+ghost use Rattle.matcher.specs.Inner.Cursors.{seekFrom, AtDocument};
 use super::cursor::Document;
 use plan::Predicate;
 use volume::Posting;
@@ -25,62 +26,67 @@ pub enum Shortfall {
     Short(usize, u32),
 }
 
-// The start of the paragraph of a position: the greatest start in the document that is not above
-// it; 65,536 where there is none.
-fn para_start(volume: &[u8], document: Document, pos: u32) -> u32
+// The start of the paragraph of a position, by the index from which the starts behind it are: the
+// start in front of that index, if it is in the document; 65,536 where there is none.
+fn para_start(volume: &[u8], document: Document, at: usize) -> u32
     requires { ⌜ Accepted (now volume) ⌝ }
     requires { ⌜ AtDocument (now volume) document ⌝ }
-    requires { ⌜ pos ≤ 65535 ⌝ }
-    ensures { λ r. ⌜ r ≡ paraStart (startsIn (listsOf (now (volume .entry))) (document .doc)) pos ⌝ }
+    requires { ⌜ document .starts .at ≤ at ⌝ }
+    requires { ⌜ at ≤ document .starts .end ⌝ }
+    ensures { λ r. ⌜ ((pos : ℕ) → pos ≤ 65535
+        → at ≡ seekFrom (now (volume .entry)) (document .doc * 65536 + pos + 1) (document .starts .at) (document .starts .end)
+        → r ≡ paraStart (startsIn (listsOf (now (volume .entry))) (document .doc)) pos) ⌝ }
 {
-    let doc = document.doc;
     let starts = document.starts;
-    let past = starts.advance_past(volume, doc, pos);
-    let at = past.at;
     if at == starts.at {
         return Posting::POSITIONS;
     }
     let last = volume::posting_at(volume, at - 1);
-    if last.doc() != doc {
+    if last.doc() != document.doc {
         return Posting::POSITIONS;
     }
     last.pos()
 }
 
-// The first start in the document; 65,536 where there is none.
-fn first_start(volume: &[u8], document: Document) -> u32
-    requires { ⌜ Accepted (now volume) ⌝ }
-    requires { ⌜ AtDocument (now volume) document ⌝ }
-    ensures { λ r. ⌜ r ≡ firstStart (startsIn (listsOf (now (volume .entry))) (document .doc)) ⌝ }
-{
-    let doc = document.doc;
-    let starts = document.starts;
-    let first = starts.seek(volume, doc);
-    let at = first.at;
-    if at == starts.end {
-        return Posting::POSITIONS;
-    }
-    let posting = volume::posting_at(volume, at);
-    if posting.doc() != doc {
-        return Posting::POSITIONS;
-    }
-    posting.pos()
-}
-
-// The start that a position needs at least to stand in one paragraph with `pos`, which is larger:
-// that of the paragraph of `pos`; where `pos` stands in none, the first start in the document;
-// 65,536 where there is none.
+// The start that a position needs at least to stand in one paragraph with `pos`, which is not
+// smaller: that of the paragraph of `pos`; where `pos` stands in none, the first start in the
+// document, which is then behind `pos`; 65,536 where there is none.
 fn needed_start(volume: &[u8], document: Document, pos: u32) -> u32
     requires { ⌜ Accepted (now volume) ⌝ }
     requires { ⌜ AtDocument (now volume) document ⌝ }
     requires { ⌜ pos ≤ 65535 ⌝ }
     ensures { λ r. ⌜ r ≡ neededStart (startsIn (listsOf (now (volume .entry))) (document .doc)) pos ⌝ }
 {
-    let start = para_start(volume, document, pos);
-    if start == Posting::POSITIONS {
-        return first_start(volume, document);
+    let doc = document.doc;
+    let starts = document.starts;
+    let next = starts.advance_past(volume, doc, pos);
+    let at = next.at;
+    let start = para_start(volume, document, at);
+    if start != Posting::POSITIONS {
+        return start;
     }
-    start
+    if at == starts.end {
+        return Posting::POSITIONS;
+    }
+    let first = volume::posting_at(volume, at);
+    if first.doc() != doc {
+        return Posting::POSITIONS;
+    }
+    first.pos()
+}
+
+// The later of two positions.
+pub fn later(p: u32, q: u32) -> u32
+    ensures { λ r. ⌜ r ≡ max p q ⌝ }
+{
+    if p < q { q } else { p }
+}
+
+// The earlier of two positions.
+fn earlier(p: u32, q: u32) -> u32
+    ensures { λ r. ⌜ r ≡ min p q ⌝ }
+{
+    if p < q { p } else { q }
 }
 
 // NEAR: whether at most `limit` positions lie between a and b; if not, the earlier one is left short.
@@ -93,13 +99,14 @@ fn distance(positions: &[u32], a: usize, b: usize, limit: u32) -> Shortfall
 {
     let first = positions[a];
     let second = positions[b];
-    if first + limit + 1 < second {
-        return Shortfall::Short(a, second - (limit + 1));
+    let far = later(first, second);
+    if far - earlier(first, second) <= limit + 1 {
+        return Shortfall::Holds;
     }
-    if second + limit + 1 < first {
-        return Shortfall::Short(b, first - (limit + 1));
+    if first < second {
+        return Shortfall::Short(a, far - (limit + 1));
     }
-    Shortfall::Holds
+    Shortfall::Short(b, far - (limit + 1))
 }
 
 // BEFORE: whether a stands in front of b; if not, b is left short.
@@ -118,8 +125,7 @@ fn ordered(positions: &[u32], a: usize, b: usize) -> Shortfall
 
 // SAME TITLE: whether a and b stand in one paragraph; if not, the earlier one is left short, or b
 // where both stand at one position. Before the document's first start no position stands in a
-// paragraph, so that it can fail also at one position, and where a is b. There the first start is
-// asked for, and no paragraph.
+// paragraph, so that it can fail also at one position, and where a is b.
 fn samepara(volume: &[u8], document: Document, positions: &[u32], a: usize, b: usize) -> Shortfall
     requires { ⌜ Accepted (now volume) ⌝ }
     requires { ⌜ AtDocument (now volume) document ⌝ }
@@ -130,53 +136,38 @@ fn samepara(volume: &[u8], document: Document, positions: &[u32], a: usize, b: u
 {
     let first = positions[a];
     let second = positions[b];
+    let start = needed_start(volume, document, later(first, second));
+    if start <= earlier(first, second) {
+        return Shortfall::Holds;
+    }
     if first < second {
-        let start = needed_start(volume, document, second);
-        if first < start {
-            return Shortfall::Short(a, start);
-        }
-        return Shortfall::Holds;
+        return Shortfall::Short(a, start);
     }
-    if second < first {
-        let start = needed_start(volume, document, first);
-        if second < start {
-            return Shortfall::Short(b, start);
-        }
-        return Shortfall::Holds;
-    }
-    let begin = first_start(volume, document);
-    if first < begin {
-        return Shortfall::Short(b, begin);
-    }
-    Shortfall::Holds
+    Shortfall::Short(b, start)
 }
 
-// SPAN: whether the largest and the smallest position differ by at most limit - 1; if not, a variable
-// at the smallest is left short.
-fn window(positions: &[u32], limit: u32) -> Shortfall
+// SPAN: whether the largest and the smallest position differ by at most limit - 1; if not, the first
+// variable of the order that stands too far in front of the largest is left short.
+fn window(positions: &[u32], order: &[usize], largest: u32, limit: u32) -> Shortfall
     requires { ⌜ InDocument (now positions) ⌝ }
-    requires { ⌜ 1 ≤ length (now positions) ⌝ }
+    requires { ⌜ Order (length (now positions)) (now order) ⌝ }
+    requires { ⌜ Largest (now positions) (length (now positions)) largest ⌝ }
     requires { ⌜ 1 ≤ limit ⌝ }
     requires { ⌜ limit ≤ 65536 ⌝ }
     ensures { λ r. ⌜ ((ss : List ℕ) → Told ss (Window limit) (now (positions .entry)) r) ⌝ }
 {
-    let n = positions.len();
-    let mut var: usize = 0;
-    let mut least = positions[0];
-    let mut most = least;
-    let mut x: usize = 1;
-    while x < n {
-        let pos = positions[x];
-        if pos < least {
-            least = pos;
-            var = x;
-        } else if most < pos {
-            most = pos;
-        }
-        x += 1;
+    if largest < limit {
+        return Shortfall::Holds;
     }
-    if least + (limit - 1) < most {
-        return Shortfall::Short(var, most - (limit - 1));
+    let need = largest - (limit - 1);
+    let n = positions.len();
+    let mut i: usize = 0;
+    while i < n {
+        let x = order[i];
+        if positions[x] < need {
+            return Shortfall::Short(x, need);
+        }
+        i += 1;
     }
     Shortfall::Holds
 }
@@ -206,13 +197,31 @@ fn proximity(positions: &[u32], a: usize, b: usize, least: u16, most: u16) -> Sh
     Shortfall::Holds
 }
 
-// Whether a predicate holds of the first n positions; if not, a variable that it leaves short.
+// The largest of the first n positions.
+pub fn largest_of(positions: &[u32], n: usize) -> u32
+    requires { ⌜ 1 ≤ n ⌝ }
+    requires { ⌜ n ≤ length (now positions) ⌝ }
+    ensures { λ r. ⌜ Largest (now (positions .entry)) n r ⌝ }
+{
+    let mut largest = positions[0];
+    let mut x: usize = 1;
+    while x < n {
+        largest = later(largest, positions[x]);
+        x += 1;
+    }
+    largest
+}
+
+// Whether a predicate holds of the first n positions, of which `largest` is the largest; if not, a
+// variable that it leaves short. Where it looks at each variable, it does so in the order.
 pub fn falls_short(
     volume: &[u8],
     document: Document,
     predicate: Predicate,
+    order: &[usize],
     positions: &[u32],
     n: usize,
+    largest: u32,
 ) -> Shortfall
     requires { ⌜ Accepted (now volume) ⌝ }
     requires { ⌜ AtDocument (now volume) document ⌝ }
@@ -221,6 +230,8 @@ pub fn falls_short(
     requires { ⌜ ((x : ℕ) → x < n → getD (now positions) x 0 ≤ 65535) ⌝ }
     requires { ⌜ namesBelow n predicate ≡ true ⌝ }
     requires { ⌜ InRange (kind.Condition predicate) ⌝ }
+    requires { ⌜ Order n (now order) ⌝ }
+    requires { ⌜ Largest (now positions) n largest ⌝ }
     ensures { λ r. ⌜ Told (startsIn (listsOf (now (volume .entry))) (document .doc)) predicate (take n (now (positions .entry))) r ⌝ }
 {
     let tuple = &positions[..n];
@@ -228,7 +239,7 @@ pub fn falls_short(
         Predicate::Distance { a, b, limit } => distance(tuple, a as usize, b as usize, limit),
         Predicate::Ordered { a, b } => ordered(tuple, a as usize, b as usize),
         Predicate::Samepara { a, b } => samepara(volume, document, tuple, a as usize, b as usize),
-        Predicate::Window { limit } => window(tuple, limit),
+        Predicate::Window { limit } => window(tuple, order, largest, limit),
         Predicate::Proximity { a, b, least, most } => {
             proximity(tuple, a as usize, b as usize, least, most)
         }

@@ -1,38 +1,32 @@
 // Testing given positions of a pattern.
 ghost use mathlib.Core.Path.{_≡_};
-ghost use mathlib.Core.Bool.{true};
 ghost use Prim.Native.Nat.{_<_, _≤_};
 ghost use lib.Dec.{leb};
 ghost use lib.ListN.{length};
-ghost use Rattle.seq.specs.Lists.{all, elem};
+ghost use Rattle.seq.specs.Lists.{all};
 ghost use Rattle.volume.specs.Layout.{listCount, listsOf};
 ghost use Rattle.volume.specs.Check.{Accepted};
-ghost use Rattle.plan.specs.declared.row.Kind.the-variants as kind;
-ghost use Rattle.plan.specs.Rows.{InRange};
-ghost use Rattle.plan.specs.State.{namesBelow};
 ghost use Rattle.plan.specs.Check as plans;
 ghost use Rattle.plan.specs.Accepted.{patternAt};
-ghost use Rattle.fulltext.specs.Positions.{listOf, positionsIn};
-ghost use Rattle.fulltext.specs.Matches.{holds, allHold, fits, startsIn, varsIn, matchesAt};
-ghost use Rattle.matcher.specs.Inner.Shortfall.{InDocument};
-ghost use Rattle.matcher.specs.Inner.Cursors.{AtDocument};
+ghost use Rattle.fulltext.specs.Matches.{matchesAt};
 ghost use Rattle.matcher.specs.Answers.{saidTested};
 ghost use Rattle.matcher.specs.Testing.{testAnswer};
-ghost use Rattle.matcher.specs.Inner.Settling.{Asked};
+ghost use Rattle.matcher.specs.Inner.Settling.{Asked, Found, StoodAt};
 use super::answers::Tested;
+use super::cursor::Cursor;
 use super::cursor::Document;
 use super::cursor::list_cursor;
 use super::cursor::starts_of;
-use super::predicates::Shortfall;
-use super::predicates::falls_short;
+use super::least::match_from;
+use super::rarest::rarest_first;
+use super::store::put_row;
 use plan::Checked;
+use plan::MOST_PATTERN_VARS;
 use plan::MOST_PATTERNS;
 use plan::Outline;
-use plan::Predicate;
 use plan::lay_out;
 use plan::list_at;
 use plan::outline_at;
-use plan::predicate_at;
 use volume::Posting;
 
 // Whether no position is over 65,535.
@@ -50,96 +44,93 @@ pub fn in_document(positions: &[u32]) -> bool
     true
 }
 
-// Whether a list holds a position of a document.
-fn list_holds(volume: &[u8], list: usize, doc: u32, pos: u32) -> bool
+// A cursor on a list at a position of a document; at the end of the list where it does not hold the
+// position.
+fn cursor_at(volume: &[u8], list: usize, doc: u32, pos: u32) -> Cursor
     requires { ⌜ Accepted (now volume) ⌝ }
     requires { ⌜ list < listCount (now volume) ⌝ }
     requires { ⌜ doc ≤ 65535 ⌝ }
     requires { ⌜ pos ≤ 65535 ⌝ }
-    ensures { λ r. ⌜ r ≡ elem pos (positionsIn doc (listOf (listsOf (now (volume .entry))) list)) ⌝ }
+    ensures { λ r. ⌜ Found (now (volume .entry)) list doc pos r ⌝ }
 {
     let first = list_cursor(volume, list);
-    let past = first.advance_past(volume, doc, pos);
-    let at = past.at;
-    if at == first.at {
-        return false;
-    }
-    let last = volume::posting_at(volume, at - 1);
+    let end = first.end;
     let sought = Posting::new(doc as u16, pos as u16);
-    last.bits == sought.bits
+    let reached = first.advance(volume, sought.bits as u64);
+    if reached.bits == sought.bits {
+        return Cursor {
+            at: reached.at,
+            end,
+        };
+    }
+    Cursor { at: end, end }
 }
 
-// Whether the list of each variable of a pattern holds its position.
-fn all_listed(volume: &[u8], plan: &[u32], outline: Outline, doc: u32, positions: &[u32]) -> bool
+// Brings each variable of a pattern to its given position in a document: `here` has where it stands,
+// and `ends` where its list ends. Whether each list holds its position.
+fn stand_at(
+    volume: &[u8],
+    plan: &[u32],
+    outline: Outline,
+    doc: u32,
+    positions: &[u32],
+    ends: &mut [usize],
+    here: &mut [usize],
+) -> bool
     requires { ⌜ Asked (now volume) (now plan) outline doc (now positions) ⌝ }
-    ensures { λ r. ⌜ r ≡ fits (varsIn (listsOf (now (volume .entry))) doc (patternAt (now (plan .entry)) (outline .pattern) .vars))
-        (now (positions .entry)) ⌝ }
+    requires { ⌜ length (now positions) ≤ length (now ends) ⌝ }
+    requires { ⌜ length (now positions) ≤ length (now here) ⌝ }
+    ensures { λ r. ⌜ StoodAt (now (volume .entry)) doc (patternAt (now (plan .entry)) (outline .pattern)) (now (positions .entry)) r
+        (now (ends .exit)) (now (here .exit)) ⌝ }
+    ensures { λ _. ⌜ length (now (ends .exit)) ≡ length (now (ends .entry)) ⌝ }
+    ensures { λ _. ⌜ length (now (here .exit)) ≡ length (now (here .entry)) ⌝ }
 {
     let n = positions.len();
     let mut x: usize = 0;
     while x < n {
         let row = outline.condition - outline.vars + x;
         let list = list_at(plan, row);
-        if !list_holds(volume, list as usize, doc, positions[x]) {
+        let cursor = cursor_at(volume, list as usize, doc, positions[x]);
+        if cursor.end <= cursor.at {
             return false;
         }
+        here[x] = cursor.at;
+        ends[x] = cursor.end;
         x += 1;
     }
     true
 }
 
-// Whether a predicate holds of some positions.
-fn predicate_holds(
-    volume: &[u8],
-    document: Document,
-    predicate: Predicate,
-    positions: &[u32],
-) -> bool
-    requires { ⌜ Accepted (now volume) ⌝ }
-    requires { ⌜ AtDocument (now volume) document ⌝ }
-    requires { ⌜ 1 ≤ length (now positions) ⌝ }
-    requires { ⌜ InDocument (now positions) ⌝ }
-    requires { ⌜ namesBelow (length (now positions)) predicate ≡ true ⌝ }
-    requires { ⌜ InRange (kind.Condition predicate) ⌝ }
-    ensures { λ r. ⌜ r ≡ holds (startsIn (listsOf (now (volume .entry))) (document .doc)) predicate (now (positions .entry)) ⌝ }
-{
-    let n = positions.len();
-    let told = falls_short(volume, document, predicate, positions, n);
-    match told {
-        Shortfall::Holds => true,
-        Shortfall::Short(_, _) => false,
-    }
-}
-
-// Whether each predicate of a pattern holds.
-fn all_hold(volume: &[u8], plan: &[u32], outline: Outline, doc: u32, positions: &[u32]) -> bool
-    requires { ⌜ Asked (now volume) (now plan) outline doc (now positions) ⌝ }
-    ensures { λ r. ⌜ r ≡ allHold (startsIn (listsOf (now (volume .entry))) doc)
-        (patternAt (now (plan .entry)) (outline .pattern) .predicates) (now (positions .entry)) ⌝ }
-{
-    let starts = starts_of(volume);
-    let document = Document { doc, starts };
-    let mut row = outline.condition;
-    while row < outline.last {
-        let predicate = predicate_at(plan, row);
-        if !predicate_holds(volume, document, predicate, positions) {
-            return false;
-        }
-        row += 1;
-    }
-    true
-}
-
-// Whether positions match a pattern in a document.
+// Whether positions match a pattern in a document: each variable stands at its position, and the
+// least match from there on, with every variable held, is there.
 fn is_match(volume: &[u8], plan: &[u32], outline: Outline, doc: u32, positions: &[u32]) -> bool
     requires { ⌜ Asked (now volume) (now plan) outline doc (now positions) ⌝ }
     ensures { λ r. ⌜ r ≡ matchesAt (listsOf (now (volume .entry))) doc (patternAt (now (plan .entry)) (outline .pattern))
         (now (positions .entry)) ⌝ }
 {
-    if !all_listed(volume, plan, outline, doc, positions) {
+    let n = positions.len();
+    let mut ends: [usize; MOST_PATTERN_VARS] = [0; MOST_PATTERN_VARS];
+    let mut here: [usize; MOST_PATTERN_VARS] = [0; MOST_PATTERN_VARS];
+    if !stand_at(volume, plan, outline, doc, positions, &mut ends, &mut here) {
         return false;
     }
-    all_hold(volume, plan, outline, doc, positions)
+    let mut order: [usize; MOST_PATTERN_VARS] = [0; MOST_PATTERN_VARS];
+    rarest_first(volume, plan, outline, &mut order);
+    let mut moved: [u32; MOST_PATTERN_VARS] = [0; MOST_PATTERN_VARS];
+    put_row(positions, n, &mut moved, 0);
+    let starts = starts_of(volume);
+    let document = Document { doc, starts };
+    match_from(
+        volume,
+        plan,
+        outline,
+        document,
+        n,
+        &order,
+        &ends,
+        &mut here,
+        &mut moved,
+    )
 }
 
 // The same for any positions, where the volume and the plan are accepted and the pattern is there.

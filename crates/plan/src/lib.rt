@@ -27,7 +27,6 @@ pub use limits::LEAST_UNIT;
 pub use limits::MOST_FOUND_SETS;
 pub use limits::MOST_PATTERN_VARS;
 pub use limits::MOST_PATTERNS;
-pub use limits::MOST_ROW_WORDS;
 pub use limits::MOST_VARS;
 pub use limits::MOST_WORDS;
 pub use limits::row_words;

@@ -20,8 +20,6 @@ pub const MOST_PATTERN_VARS: usize = 8;
 // The most variables of an accepted plan: 7 patterns have 7 ENDs, and 6 operators make one answer of
 // them, which leaves 51 of 64 rows.
 pub const MOST_VARS: usize = 51;
-// The most words of a row of a listing: 7 patterns and 51 variables.
-pub const MOST_ROW_WORDS: usize = 59;
 
 // The words of a row of a listing: the document, a flag for each pattern, a position for each
 // variable.

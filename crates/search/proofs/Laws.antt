@@ -7,9 +7,14 @@
 --     Answers        an answer is known from its number and values
 --     Stages         the refusals of listing, by their numbers
 --     ListFirst      listing answers the first refusal that applies
+--     Setup          the lists that a plan uses, and a cursor on each
 --     Align          how the cursors of a pattern leap to one document
 --     Walk           how each pattern is brought to the next document in which it can be found
---     Filling        a row that is filled pattern by pattern
+--     Lent           a buffer of which a part is lent, and comes back
+--     Orders         an order of each pattern's variables, set pattern by pattern
+--     Settled        a pattern that stands in a document, and is settled there
+--     Settling       the patterns that can be found in a document, settled one by one
+--     Rows           a row that is written from bits and positions
 --     Seen           one document of the walk
 --     Tally          the postings passed, variable by variable
 --     Visits         the listing loop, document by document
@@ -21,9 +26,14 @@ pub mod Search
 pub mod Whole
 pub mod Answers
 pub mod ListFirst
+pub mod Setup
 pub mod Align
 pub mod Walk
-pub mod Filling
+pub mod Lent
+pub mod Orders
+pub mod Settled
+pub mod Settling
+pub mod Rows
 pub mod Tally
 pub mod Seen
 pub mod Visits

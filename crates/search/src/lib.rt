@@ -6,12 +6,13 @@
 // right as a whole is demand 3 in `specs/Demands.antt`.
 //
 // `list` is one forward pass: `setup` places a cursor for each variable. `walk::visit` brings each
-// pattern to the next document in which it can be found (`align`) and fills the row there
-// (`matcher::settle`). `listing` asks the plan's answer for the patterns found (`plan::answer_of`)
-// and puts the row into the buffer (`matcher::put_row`).
+// pattern to the next document in which it can be found (`align`) and settles it there
+// (`matcher::match_from`). `listing` asks the plan's answer for the patterns found
+// (`plan::answer_of`), and `rows` writes the row of a true document into the buffer.
 mod align;
 mod answers;
 mod listing;
+mod rows;
 mod setup;
 mod walk;
 

@@ -12,16 +12,16 @@ ghost use Rattle.search.specs.Search.{Kept};
 ghost use Rattle.matcher.specs.Inner.Tables.{Cursors};
 ghost use Rattle.search.specs.Inner.Walk.{Walks};
 use super::answers::Listed;
+use super::rows::write_row;
 use super::setup::set_cursors;
+use super::setup::set_orders;
 use super::walk::Walk;
 use super::walk::visit;
 use matcher::Cursor;
-use matcher::put_row;
 use matcher::starts_of;
 use plan::Checked;
 use plan::MOST_FOUND_SETS;
 use plan::MOST_PATTERNS;
-use plan::MOST_ROW_WORDS;
 use plan::MOST_VARS;
 use plan::answer_of;
 use plan::has_samepara;
@@ -60,18 +60,21 @@ fn list_docs(
     volume: &[u8],
     plan: &[u32],
     table: &[usize],
+    orders: &[usize],
     start: u32,
     firsts: &[usize],
     ends: &[usize],
     ats: &mut [usize],
+    positions: &mut [u32],
     out: &mut [u32],
 ) -> Listed
-    requires { ⌜ Walks (now volume) (now plan) (now table) (now ends) ⌝ }
+    requires { ⌜ Walks (now volume) (now plan) (now table) (now orders) (now ends) ⌝ }
     requires { ⌜ length (now table) ≡ 4 * sizes (now plan) .patterns ⌝ }
     requires { ⌜ length (now firsts) ≡ sizes (now plan) .vars ⌝ }
     requires { ⌜ start ≤ 65535 ⌝ }
     requires { ⌜ Cursors (now volume) (now plan) start (now firsts) (now ends) ⌝ }
     requires { ⌜ now ats ≡ now firsts ⌝ }
+    requires { ⌜ sizes (now plan) .vars ≤ length (now positions) ⌝ }
     requires { ⌜ rowWords (sizes (now plan) .patterns) (sizes (now plan) .vars) ≤ length (now out) ⌝ }
     ensures { λ r. ⌜ Kept (now (volume .entry)) (now (plan .entry)) start
         (record { lent = now (out .entry); says = saidListed r; back = now (out .exit) }) ⌝ }
@@ -82,7 +85,6 @@ fn list_docs(
     let paras = has_samepara(plan);
     let mut starts = starts_of(volume);
     let mut docs: [u32; MOST_PATTERNS] = [0; MOST_PATTERNS];
-    let mut row: [u32; MOST_ROW_WORDS] = [0; MOST_ROW_WORDS];
     let mut known: [u8; MOST_FOUND_SETS] = [0; MOST_FOUND_SETS];
     let mut rows: usize = 0;
     let mut from = start;
@@ -97,11 +99,12 @@ fn list_docs(
             volume,
             plan,
             table,
+            orders,
             walk,
             ats,
             ends,
+            positions,
             &mut docs[..patterns],
-            &mut row,
         );
         let doc = seen.doc;
         if doc == Posting::DOCS {
@@ -117,7 +120,15 @@ fn list_docs(
             let passed = tally(volume, plan, start, doc, firsts, ends);
             return Listed::More(doc, rows as u32, passed);
         }
-        put_row(&row, width, out, rows * width);
+        write_row(
+            table,
+            patterns,
+            doc,
+            seen.found,
+            positions,
+            out,
+            rows * width,
+        );
         rows += 1;
     }
 }
@@ -152,15 +163,20 @@ fn list_from(
         &mut firsts,
         &mut ends,
     );
+    let mut orders: [usize; MOST_VARS] = [0; MOST_VARS];
+    set_orders(volume, plan, patterns, &table, &mut orders);
     let mut ats = firsts;
+    let mut positions: [u32; MOST_VARS] = [0; MOST_VARS];
     list_docs(
         volume,
         plan,
         &table[..4 * patterns],
+        &orders,
         start,
         &firsts[..vars],
         &ends,
         &mut ats[..vars],
+        &mut positions,
         out,
     )
 }

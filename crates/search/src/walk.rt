@@ -1,26 +1,16 @@
 // The walk over the documents: the next one in which each pattern can be found, and what is found
 // there.
 ghost use mathlib.Core.Path.{_≡_};
-ghost use mathlib.Core.List.{_++_};
-ghost use Prim.Native.Nat.{ℕ, _+_, _*_, _<_, _≤_};
-ghost use lib.ListN.{length, getD, take, drop};
-ghost use Rattle.volume.specs.Layout.{listsOf};
-ghost use Rattle.plan.specs.Rows.{rowsOf};
-ghost use Rattle.plan.specs.Limits.{rowWords};
+ghost use Prim.Native.Nat.{ℕ, _<_, _≤_};
+ghost use lib.ListN.{length, getD};
 ghost use Rattle.plan.specs.Check.{sizes};
-ghost use Rattle.plan.specs.Accepted.{patternAt};
-ghost use Rattle.fulltext.specs.Documents.{found, shownIn, rowIn};
-ghost use Rattle.matcher.specs.Inner.Cursors.{Stretch, listEnd, Stands};
-ghost use Rattle.plan.specs.Inner.Outline.{outlineAt};
-ghost use Rattle.plan.specs.Inner.Stack.{foundBits};
-ghost use Rattle.matcher.specs.Inner.Settling.{Ready};
-ghost use Rattle.search.specs.Inner.Walk.{Pending, Brought, LeastDoc, Walks, Walking, Visited};
+ghost use Rattle.matcher.specs.Inner.Cursors.{Stretch, listEnd, Stands, AtDocument};
+ghost use Rattle.search.specs.Inner.Walk.{Candidate, Pending, Brought, LeastDoc, Walks, Ready, Settled, SettledAll};
+ghost use Rattle.search.specs.Inner.Walk.{Walking, Visited};
 use super::align::align;
 use matcher::Cursor;
 use matcher::Document;
-use matcher::settle;
-use matcher::show;
-use plan::MOST_PATTERN_VARS;
+use matcher::match_from;
 use plan::Outline;
 use plan::outline_at;
 use volume::Posting;
@@ -48,20 +38,23 @@ fn next_docs(
     volume: &[u8],
     plan: &[u32],
     table: &[usize],
+    orders: &[usize],
     fresh: bool,
     doc: u32,
     ats: &mut [usize],
     ends: &[usize],
+    positions: &mut [u32],
     docs: &mut [u32],
 )
-    requires { ⌜ Walks (now volume) (now plan) (now table) (now ends) ⌝ }
+    requires { ⌜ Walks (now volume) (now plan) (now table) (now orders) (now ends) ⌝ }
     requires { ⌜ length (now docs) ≡ sizes (now plan) .patterns ⌝ }
     requires { ⌜ sizes (now plan) .vars ≤ length (now ats) ⌝ }
+    requires { ⌜ sizes (now plan) .vars ≤ length (now positions) ⌝ }
     requires { ⌜ doc ≤ 65536 ⌝ }
     requires { ⌜ ((k : ℕ) → k < sizes (now plan) .patterns
-        → Pending (now volume) (now plan) (now ats) (now ends) k doc (getD (now docs) k 0) fresh) ⌝ }
-    ensures { λ _. ⌜ Brought (now (volume .entry)) (now (plan .entry)) (now (ends .entry)) (now (ats .entry)) (now (docs .entry)) doc
-        (now (ats .exit)) (now (docs .exit)) ⌝ }
+        → Pending (now volume) (now plan) (now ats) (now ends) (now positions) k doc (getD (now docs) k 0) fresh) ⌝ }
+    ensures { λ _. ⌜ Brought (now (volume .entry)) (now (plan .entry)) (now (ends .entry)) (now (ats .entry)) (now (positions .entry))
+        (now (docs .entry)) doc (now (ats .exit)) (now (positions .exit)) (now (docs .exit)) ⌝ }
 {
     let mut k: usize = 0;
     while k < docs.len() {
@@ -72,7 +65,17 @@ fn next_docs(
             }
         }
         let outline = outline_at(table, k);
-        docs[k] = align(volume, ats, ends, outline.first, outline.vars, doc);
+        let first = outline.first;
+        docs[k] = align(
+            volume,
+            &orders[first..],
+            ats,
+            ends,
+            positions,
+            first,
+            outline.vars,
+            doc,
+        );
         k += 1;
     }
 }
@@ -108,100 +111,119 @@ fn bring_starts(volume: &[u8], starts: Cursor, needed: bool, doc: u32) -> Cursor
     starts.seek(volume, doc)
 }
 
-// What is shown of a pattern in a document, at the front of a row; `next` is the first document from
-// there on in which the pattern can be found. Whether it is found there.
-fn show_pattern(
+// Brings a pattern that stands in a document to its least match there. Whether there is one. A
+// pattern without predicates is found where it stands.
+fn settle(
     volume: &[u8],
     plan: &[u32],
     outline: Outline,
     document: Document,
-    next: u32,
-    ats: &[usize],
+    orders: &[usize],
     ends: &[usize],
-    row: &mut [u32],
+    ats: &mut [usize],
+    positions: &mut [u32],
 ) -> bool
-    requires { ⌜ Ready (now volume) (now plan) outline document (now ats) (now ends) next ⌝ }
-    requires { ⌜ 1 + outline .vars ≤ length (now row) ⌝ }
-    ensures { λ r. ⌜ r ≡ found (listsOf (now (volume .entry))) (document .doc) (patternAt (now (plan .entry)) (outline .pattern)) ⌝ }
-    ensures { λ r. ⌜ now (row .exit)
-        ≡ shownIn (listsOf (now (volume .entry))) (document .doc) (patternAt (now (plan .entry)) (outline .pattern))
-        ++ drop (1 + outline .vars) (now (row .entry)) ⌝ }
+    requires { ⌜ Ready (now volume) (now plan) outline document (now orders) (now ends) (now ats) (now positions) ⌝ }
+    ensures { λ r. ⌜ Settled (now (volume .entry)) (now (plan .entry)) (now (ends .entry)) (outline .pattern) (document .doc)
+        (now (ats .entry)) (now (positions .entry)) r (now (ats .exit)) (now (positions .exit)) ⌝ }
 {
-    if next == document.doc {
-        return settle(volume, plan, outline, document, ats, ends, row);
+    if outline.condition == outline.last {
+        return true;
     }
-    let zeros: [u32; MOST_PATTERN_VARS] = [0; MOST_PATTERN_VARS];
-    show(0, &zeros, outline.vars, row);
-    false
+    let first = outline.first;
+    match_from(
+        volume,
+        plan,
+        outline,
+        document,
+        0,
+        &orders[first..],
+        &ends[first..],
+        &mut ats[first..],
+        &mut positions[first..],
+    )
 }
 
-// The row of a document. `docs` has the first document from there on in which each pattern can be
-// found. The bits of the patterns that are found there, that of pattern 0 the lowest.
-fn fill_row(
+// Settles each pattern that can be found in a document. `docs` has the first document from there on
+// in which each pattern can be found. The bits of those that are found there, that of pattern 0 the
+// lowest.
+fn settle_all(
     volume: &[u8],
     plan: &[u32],
     table: &[usize],
     document: Document,
-    ats: &[usize],
+    orders: &[usize],
     ends: &[usize],
+    ats: &mut [usize],
+    positions: &mut [u32],
     docs: &[u32],
-    row: &mut [u32],
 ) -> u32
+    requires { ⌜ Walks (now volume) (now plan) (now table) (now orders) (now ends) ⌝ }
+    requires { ⌜ AtDocument (now volume) document ⌝ }
     requires { ⌜ length (now docs) ≡ sizes (now plan) .patterns ⌝ }
-    requires { ⌜ 4 * sizes (now plan) .patterns ≤ length (now table) ⌝ }
-    requires { ⌜ rowWords (sizes (now plan) .patterns) (sizes (now plan) .vars) ≤ length (now row) ⌝ }
+    requires { ⌜ sizes (now plan) .vars ≤ length (now ats) ⌝ }
+    requires { ⌜ sizes (now plan) .vars ≤ length (now positions) ⌝ }
     requires { ⌜ ((k : ℕ) → k < sizes (now plan) .patterns
-        → Ready (now volume) (now plan) (outlineAt (now table) k) document (now ats) (now ends) (getD (now docs) k 0)) ⌝ }
-    ensures { λ r. ⌜ take (rowWords (sizes (now (plan .entry)) .patterns) (sizes (now (plan .entry)) .vars)) (now (row .exit))
-        ≡ rowIn (listsOf (now (volume .entry))) (rowsOf (now (plan .entry))) (document .doc) ⌝ }
-    ensures { λ r. ⌜ r ≡ foundBits (found (listsOf (now (volume .entry))) (document .doc)) (now (plan .entry)) ⌝ }
+        → Candidate (now volume) (now plan) (now ats) (now ends) (now positions) k (document .doc) (getD (now docs) k 0)) ⌝ }
+    ensures { λ r. ⌜ SettledAll (now (volume .entry)) (now (plan .entry)) (now (ends .entry)) (now (docs .entry)) (document .doc)
+        (now (ats .entry)) (now (positions .entry)) r (now (ats .exit)) (now (positions .exit)) ⌝ }
 {
-    row[0] = document.doc;
-    let mut to: usize = 1;
     let mut bits: u32 = 0;
     let mut weight: u32 = 1;
     let mut k: usize = 0;
     while k < docs.len() {
-        let outline = outline_at(table, k);
-        let next = to + 1 + outline.vars;
-        if show_pattern(
-            volume,
-            plan,
-            outline,
-            document,
-            docs[k],
-            ats,
-            ends,
-            &mut row[to..],
-        ) {
-            bits += weight;
+        if docs[k] == document.doc {
+            let outline = outline_at(table, k);
+            if settle(
+                volume,
+                plan,
+                outline,
+                document,
+                orders,
+                ends,
+                ats,
+                positions,
+            ) {
+                bits += weight;
+            }
         }
         weight *= 2;
-        to = next;
         k += 1;
     }
     bits
 }
 
 // The next document in which a pattern can be found, 65,536 where there is none: which patterns are
-// found there, and its row.
+// found there, and the positions of each one that is.
 pub fn visit(
     volume: &[u8],
     plan: &[u32],
     table: &[usize],
+    orders: &[usize],
     walk: Walk,
     ats: &mut [usize],
     ends: &[usize],
+    positions: &mut [u32],
     docs: &mut [u32],
-    row: &mut [u32],
 ) -> Seen
-    requires { ⌜ Walks (now volume) (now plan) (now table) (now ends) ⌝ }
-    requires { ⌜ Walking (now volume) (now plan) (now ends) (now ats) (now docs) (walk .from) (walk .fresh) (walk .starts) ⌝ }
-    requires { ⌜ rowWords (sizes (now plan) .patterns) (sizes (now plan) .vars) ≤ length (now row) ⌝ }
+    requires { ⌜ Walks (now volume) (now plan) (now table) (now orders) (now ends) ⌝ }
+    requires { ⌜ Walking (now volume) (now plan) (now ends) (now ats) (now positions) (now docs) (walk .from) (walk .fresh)
+        (walk .starts) ⌝ }
     ensures { λ r. ⌜ Visited (now (volume .entry)) (now (plan .entry)) (now (ends .entry)) (walk .from) r
-        (now (ats .exit)) (now (docs .exit)) (now (row .exit)) ⌝ }
+        (now (ats .exit)) (now (positions .exit)) (now (docs .exit)) ⌝ }
 {
-    next_docs(volume, plan, table, walk.fresh, walk.from, ats, ends, docs);
+    next_docs(
+        volume,
+        plan,
+        table,
+        orders,
+        walk.fresh,
+        walk.from,
+        ats,
+        ends,
+        positions,
+        docs,
+    );
     let doc = least_of(docs);
     let passed = walk.starts;
     if doc == Posting::DOCS {
@@ -213,6 +235,16 @@ pub fn visit(
     }
     let starts = bring_starts(volume, passed, walk.paras, doc);
     let document = Document { doc, starts };
-    let found = fill_row(volume, plan, table, document, ats, ends, docs, row);
+    let found = settle_all(
+        volume,
+        plan,
+        table,
+        document,
+        orders,
+        ends,
+        ats,
+        positions,
+        docs,
+    );
     Seen { doc, found, starts }
 }

@@ -1,6 +1,7 @@
 -- The laws of `specs/`. No contract cites these files.
 --     Stream                      where words stand
 --     Check                       the rungs of the verdict, what its tests decide, and what acceptance gives
+--     Starts                      the starts of the lists, list by list
 --     Read                        the rungs of reading a list
 --     Write, WriteAnswer          the bytes of words and blocks; the writer's answer
 --     Falls, Storing              what `src/order.rt` and `src/writing.rt` keep from turn to turn
@@ -11,6 +12,7 @@
 --     Damage, Answers, Sample     one changed byte; an answer is known from its number and values; document 01's sample
 pub mod Stream
 pub mod Check
+pub mod Starts
 pub mod Read
 pub mod Write
 pub mod WriteAnswer

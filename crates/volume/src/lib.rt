@@ -3,8 +3,9 @@
 // the number and the place of a refusal.
 //
 // None of the four has a `requires`. What each one answers, and what it leaves in a lent buffer, is
-// an equation with a definition of `specs/`. `word_at`, `posting_at`, `below_in_window` and
-// `list_span` serve the crates above, on a volume that they have checked.
+// an equation with a definition of `specs/`. `word_at`, `word_behind`, `posting_at`,
+// `below_in_window`, `below_across`, `count_at`, `list_span` and `list_starts` serve the crates
+// above, on a volume that they have checked.
 mod answers;
 mod blocks;
 mod checking;
@@ -24,10 +25,15 @@ pub use checking::check;
 pub use codes::Code;
 pub use codes::code_of;
 pub use layout::ListSpan;
+pub use layout::MAX_LISTS;
 pub use posting::Posting;
 pub use reading::list_span;
+pub use reading::list_starts;
 pub use reading::read_list;
+pub use stream::below_across;
 pub use stream::below_in_window;
+pub use stream::count_at;
 pub use stream::posting_at;
 pub use stream::word_at;
+pub use stream::word_behind;
 pub use writing::write;

@@ -1,11 +1,11 @@
 // Reading a list of a volume.
 ghost use mathlib.Core.Path.{_≡_};
 ghost use mathlib.Core.List.{_++_};
-ghost use Prim.Native.Nat.{_+_, _<_, _≤_};
-ghost use lib.ListN.{length, drop};
+ghost use Prim.Native.Nat.{ℕ, _+_, _<_, _≤_};
+ghost use lib.ListN.{length, getD, drop};
 ghost use Rattle.seq.specs.Numbers.{run};
 ghost use Rattle.volume.specs.Answers.{saidRead};
-ghost use Rattle.volume.specs.Layout.{word, listCount, streamLength};
+ghost use Rattle.volume.specs.Layout.{word, listCount, streamLength, start};
 ghost use Rattle.volume.specs.Inner.Places.{listSpanOf};
 ghost use Rattle.volume.specs.Check.{Accepted};
 ghost use Rattle.volume.specs.Read.{readAnswer, readOut};
@@ -30,6 +30,26 @@ pub fn list_span(volume: &[u8], list: usize) -> ListSpan
     let count = count_at(volume, list) as usize;
     let start = lead(lists) + before;
     ListSpan { start, count }
+}
+
+// Where the first n lists of an accepted volume lie: the stream index of each one's first posting,
+// and behind them the index behind the last.
+pub fn list_starts(volume: &[u8], n: usize, starts: &mut [usize])
+    requires { ⌜ Accepted (now volume) ⌝ }
+    requires { ⌜ n ≤ listCount (now volume) ⌝ }
+    requires { ⌜ n < length (now starts) ⌝ }
+    ensures { λ _. ⌜ ((i : ℕ) → i ≤ n → getD (now (starts .exit)) i 0 ≡ start (now (volume .entry)) i) ⌝ }
+    ensures { λ _. ⌜ length (now (starts .exit)) ≡ length (now (starts .entry)) ⌝ }
+{
+    let lists = word_at(volume, 1) as usize;
+    let mut at = lead(lists);
+    starts[0] = at;
+    let mut i: usize = 0;
+    while i < n {
+        at += count_at(volume, i) as usize;
+        i += 1;
+        starts[i] = at;
+    }
 }
 
 // Copies the postings from stream index `from` on, n of them, to the front of out.

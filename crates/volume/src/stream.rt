@@ -28,27 +28,52 @@ pub fn posting_at(volume: &[u8], i: usize) -> Posting
     }
 }
 
+// The word k behind stream word i, of the same block.
+pub fn word_behind(volume: &[u8], i: usize, k: usize) -> u32
+    requires { ⌜ i % 126 + k < 126 ⌝ }
+    requires { ⌜ i + k < streamLength (now volume) ⌝ }
+    ensures { λ r. ⌜ r ≡ word (now (volume .entry)) (i + k) ⌝ }
+{
+    read32(volume, 4 * i + 8 * (i / BLOCK_WORDS) + 4 + 4 * k)
+}
+
 // 1 where x is below y.
-fn below(x: u32, y: u32) -> usize
+fn below(x: u32, y: u64) -> usize
     ensures { λ r. ⌜ r ≡ belowOf x y ⌝ }
     ensures { λ r. ⌜ r ≤ 1 ⌝ }
 {
-    if x < y { 1 } else { 0 }
+    if (x as u64) < y { 1 } else { 0 }
 }
 
-// How many of the eight words from stream index i on, all in one block, are below target.
-pub fn below_in_window(volume: &[u8], i: usize, target: u32) -> usize
-    requires { ⌜ i % 126 ≤ 118 ⌝ }
-    requires { ⌜ i + 8 ≤ streamLength (now volume) ⌝ }
-    ensures { λ r. ⌜ r ≡ belowCount (now (volume .entry)) target i 8 ⌝ }
-    ensures { λ r. ⌜ r ≤ 8 ⌝ }
+// How many of the seven words from stream index i on, all in one block, are below target.
+pub fn below_in_window(volume: &[u8], i: usize, target: u64) -> usize
+    requires { ⌜ i % 126 ≤ 119 ⌝ }
+    requires { ⌜ i + 7 ≤ streamLength (now volume) ⌝ }
+    ensures { λ r. ⌜ r ≡ belowCount (now (volume .entry)) target i 7 ⌝ }
+    ensures { λ r. ⌜ r ≤ 7 ⌝ }
 {
     let from = 4 * i + 8 * (i / BLOCK_WORDS) + 4;
     let mut n: usize = 0;
     let mut j: usize = 0;
-    while j < 8 {
+    while j < 7 {
         n += below(read32(volume, from + 4 * j), target);
         j += 1;
+    }
+    n
+}
+
+// The same of seven words that need not be of one block. They are counted from the last one to the
+// first: a loop of another shape, which a compiler keeps apart from that of `below_in_window`.
+pub fn below_across(volume: &[u8], i: usize, target: u64) -> usize
+    requires { ⌜ i + 7 ≤ streamLength (now volume) ⌝ }
+    ensures { λ r. ⌜ r ≡ belowCount (now (volume .entry)) target i 7 ⌝ }
+    ensures { λ r. ⌜ r ≤ 7 ⌝ }
+{
+    let mut n: usize = 0;
+    let mut j: usize = 7;
+    while 0 < j {
+        j -= 1;
+        n += below(word_at(volume, i + j), target);
     }
     n
 }

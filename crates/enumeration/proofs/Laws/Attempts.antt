@@ -1,6 +1,6 @@
 -- How the variables of a pattern are brought to bounds in a document, and its least match from there on. No contract cites this file.
---     Standing-to, standing-first, standing-next, standing-out, standing-done     the first variables are brought to positions that are
---                                not below bounds
+--     Standing-to, standing-first, standing-next, standing-out, standing-done     the first variables of an order are brought to
+--                                positions that are not below bounds
 --     mark-start                 a variable set to its mark
 --     posed-vars, posed-some, posed-few      how many variables the pattern has
 --     posed-rise                 the volume's lists rise
@@ -35,65 +35,93 @@ use Rattle.fulltext.proofs.Laws.Least.{leastFrom-same}
 use Rattle.matcher.specs.declared.cursor.Document.{Document}
 use Rattle.matcher.specs.Inner.Cursors.{Stretch, listEnd}
 use Rattle.matcher.specs.Inner.Settling.{Jumped, Standing, Posed}
+use Rattle.matcher.specs.Inner.Order.{Order}
 use Rattle.matcher.proofs.Laws.Volume.{list-stretch}
 use Rattle.matcher.proofs.Laws.Cursors.{seek-ge, seek-at, seek-below, stretch-within}
 use Rattle.matcher.proofs.Laws.Settling.{index, first-low}
 use Rattle.enumeration.specs.Inner.Attempts.{Marked, soughtFrom, StoodFrom, FrontTold}
 
--- the first x variables are brought to their first positions in document d that are not below lows
-pub record Standing-to (v : List ℕ) (d : ℕ) (ends lows marks here₀ ps₀ here ps : List ℕ) (x : ℕ) : Type 0 where
+-- the first i variables of an order are brought to their first positions in document d that are not below lows
+pub record Standing-to (v : List ℕ) (d : ℕ) (order ends lows marks here₀ ps₀ here ps : List ℕ) (i : ℕ) : Type 0 where
   pub here-length : length here ≡ length here₀
   pub ps-length : length ps ≡ length ps₀
-  pub stood : (y : ℕ) → y < x
-      → (getD here y 0 ≡ soughtFrom v d ends lows marks y)
+  pub stood : (j : ℕ) → j < i
+      → let y = getD order j 0 in
+      (getD here y 0 ≡ soughtFrom v d ends lows marks y)
       × ((getD here y 0 < getD ends y 0) × ((docOf (word v (getD here y 0)) ≡ d) × (getD ps y 0 ≡ posOf (word v (getD here y 0)))))
 
-module _ (v : List ℕ) (d : ℕ) (ends lows marks here₀ ps₀ : List ℕ) where
-  pub standing-first : Standing-to v d ends lows marks here₀ ps₀ here₀ ps₀ 0
-  standing-first = record { here-length = refl; ps-length = refl; stood = λ y h. absurd (let z : ⊥ = omega arith in z) }
+module _ (v : List ℕ) (d : ℕ) (order ends lows marks here₀ ps₀ : List ℕ) where
+  pub standing-first : Standing-to v d order ends lows marks here₀ ps₀ here₀ ps₀ 0
+  standing-first = record { here-length = refl; ps-length = refl; stood = λ j h. absurd (let z : ⊥ = omega arith in z) }
 
-  -- variable x is set to its mark, and jumps
-  module _ (here ps : List ℕ) (x : ℕ) (s : Standing-to v d ends lows marks here₀ ps₀ here ps x) (h : x < length here₀) (l : x < length ps₀) where
-    at-mark : getD (set here x (getD marks x 0)) x 0 ≡ getD marks x 0
+  -- the next variable of the order is set to its mark, and jumps
+  module _ (here ps : List ℕ) (i : ℕ) (s : Standing-to v d order ends lows marks here₀ ps₀ here ps i)
+      (h : getD order i 0 < length here₀) (l : getD order i 0 < length ps₀) where
+    abbrev x : ℕ
+    x = getD order i 0
+
+    abbrev marked : List ℕ
+    marked = set here x (getD marks x 0)
+
+    at-mark : getD marked x 0 ≡ getD marks x 0
     at-mark = getD-set-same here x (getD marks x 0) 0 (let n = s .here-length in omega arith)
 
-    pub mark-start : (e : ℕ) → Stretch v (getD marks x 0) e → Stretch v (getD (set here x (getD marks x 0)) x 0) e
+    pub mark-start : (e : ℕ) → Stretch v (getD marks x 0) e → Stretch v (getD marked x 0) e
     mark-start e t = rw at-mark t
 
     module _ (here′ ps′ : List ℕ) where
-      reached : Jumped v d (getD ends x 0) (getD lows x 0) x (set here x (getD marks x 0)) ps true here′ ps′ → Standing-to v d ends lows marks here₀ ps₀ here′ ps′ (x + 1)
+      abbrev Jumps : Bool → Type 0
+      Jumps r = Jumped v d (getD ends x 0) (getD lows x 0) x marked ps r here′ ps′
+
+      reached : Jumps true → Standing-to v d order ends lows marks here₀ ps₀ here′ ps′ (i + 1)
       reached j =
-          let i = soughtFrom v d ends lows marks x in
+          let to = soughtFrom v d ends lows marks x in
           let w = rw at-mark at j in
+          let a = length-set here x (getD marks x 0) ∙ s .here-length in
+          let b = s .ps-length in
           rw (w .1 .1 .0, w .1 .1 .1) (record {
-            here-length = length-set (set here x (getD marks x 0)) x i ∙ length-set here x (getD marks x 0) ∙ s .here-length;
-            ps-length = length-set ps x (posOf (word v i)) ∙ s .ps-length;
-            stood = λ y k. ⊎-elim
-                (λ (g : y ≡ x). rw (g, getD-set-same (set here x (getD marks x 0)) x i 0 (let a = length-set here x (getD marks x 0) in let n = s .here-length in omega arith), getD-set-same ps x (posOf (word v i)) 0 (let n = s .ps-length in omega arith)) (refl, (w .0, (w .1 .0, refl))))
-                (λ (g : y ≢ x). rw (getD-set-other (set here x (getD marks x 0)) x y i 0 g, getD-set-other here x y (getD marks x 0) 0 g, getD-set-other ps x y (posOf (word v i)) 0 g) (s .stood y (omega arith)))
-                (decided (eqb-decides y x));
+            here-length = length-set marked x to ∙ a;
+            ps-length = length-set ps x (posOf (word v to)) ∙ b;
+            stood = λ k m. ⊎-elim
+                (λ (g : getD order k 0 ≡ x).
+                let here-is = getD-set-same marked x to 0 (omega arith) in
+                let ps-is = getD-set-same ps x (posOf (word v to)) 0 (omega arith) in
+                rw (g, here-is, ps-is) (refl, (w .0, (w .1 .0, refl))))
+                (λ (g : getD order k 0 ≢ x).
+                let y = getD order k 0 in
+                let last : i ≤ k → ⊥ = λ f. let q : k ≡ i = omega arith in g (ap (λ t. getD order t 0) q) in
+                let earlier : k < i = ⊎-elim (λ f. f) (λ f. absurd (last f)) (below-or k i) in
+                let here-is = getD-set-other marked x y to 0 g ∙ getD-set-other here x y (getD marks x 0) 0 g in
+                let ps-is = getD-set-other ps x y (posOf (word v to)) 0 g in
+                rw (here-is, ps-is) (s .stood k earlier))
+                (decided (eqb-decides (getD order k 0) x));
           })
 
-      pub standing-next : (r : Bool) → Jumped v d (getD ends x 0) (getD lows x 0) x (set here x (getD marks x 0)) ps r here′ ps′ → r ≡ true → Standing-to v d ends lows marks here₀ ps₀ here′ ps′ (x + 1)
-      standing-next r j e = reached (subst (λ (t : Bool). Jumped v d (getD ends x 0) (getD lows x 0) x (set here x (getD marks x 0)) ps t here′ ps′) e j)
+      pub standing-next : (r : Bool) → Jumps r → r ≡ true → Standing-to v d order ends lows marks here₀ ps₀ here′ ps′ (i + 1)
+      standing-next r j e = reached (subst (λ (t : Bool). Jumps t) e j)
 
-      none-there : Jumped v d (getD ends x 0) (getD lows x 0) x (set here x (getD marks x 0)) ps false here′ ps′
-          → soughtFrom v d ends lows marks x < getD ends x 0 → docOf (word v (soughtFrom v d ends lows marks x)) ≢ d
+      none-there : Jumps false → soughtFrom v d ends lows marks x < getD ends x 0 → docOf (word v (soughtFrom v d ends lows marks x)) ≢ d
       none-there j inside =
+          let to = soughtFrom v d ends lows marks x in
           let w = rw at-mark at j in
           ⊎-elim
-          (λ (o : getD ends x 0 ≤ soughtFrom v d ends lows marks x). absurd (let z : ⊥ = omega arith in z))
-          (λ (o : (soughtFrom v d ends lows marks x < getD ends x 0) × (docOf (word v (soughtFrom v d ends lows marks x)) ≢ d)). o .1)
+          (λ (o : getD ends x 0 ≤ to). absurd (let z : ⊥ = omega arith in z))
+          (λ (o : (to < getD ends x 0) × (docOf (word v to) ≢ d)). o .1)
           (w .0)
 
-      pub standing-out : (n : ℕ) → x < n → (r : Bool) → Jumped v d (getD ends x 0) (getD lows x 0) x (set here x (getD marks x 0)) ps r here′ ps′ → r ≡ false → StoodFrom v d n ends lows marks false here′ ps′
+      pub standing-out : (n : ℕ) → x < n → (r : Bool) → Jumps r → r ≡ false → StoodFrom v d n ends lows marks false here′ ps′
       standing-out n k r j e = record {
         each = λ f. absurd (true≢false (sym f));
-        out = λ f. (x, (k, none-there (subst (λ (t : Bool). Jumped v d (getD ends x 0) (getD lows x 0) x (set here x (getD marks x 0)) ps t here′ ps′) e j)));
+        out = λ f. (x, (k, none-there (subst (λ (t : Bool). Jumps t) e j)));
       }
 
-  pub standing-done : (here ps : List ℕ) (x n : ℕ) → n ≤ x → Standing-to v d ends lows marks here₀ ps₀ here ps x → StoodFrom v d n ends lows marks true here ps
-  standing-done here ps x n h s = record { each = λ e y l. s .stood y (omega arith); out = λ f. absurd (true≢false f) }
+  -- each variable is one of the order
+  pub standing-done : (here ps : List ℕ) (i n : ℕ) → n ≤ i → Order n order → Standing-to v d order ends lows marks here₀ ps₀ here ps i
+      → StoodFrom v d n ends lows marks true here ps
+  standing-done here ps i n h o s = record {
+    each = λ e y l. let c = o .covers y l in let k = c .1 .0 in rw (c .1 .1) at (s .stood (c .0) (omega arith));
+    out = λ f. absurd (true≢false f);
+  }
 
 -- a pattern in a document, from marks in front of its bounds
 module _ (v p : List ℕ) (o : Outline) (doc : Document) (ends : List ℕ) (q : Posed v p o doc ends) where

@@ -1,4 +1,5 @@
 -- A cursor for each variable of a pattern, in front of a document. No contract cites this file.
+--     starts-cursor                        the cursor on a list, by the starts of all lists
 --     cursor-stretch, cursor-placed        a cursor on a list, brought in front of a document
 --     cursor-mark                          it has passed nothing of the document
 --     document-at                          a document, with such a cursor on list 0
@@ -6,7 +7,7 @@
 -- Assumes nothing.
 use Prim.Native.Nat.{ℕ, _+_, _*_, _<_, _≤_}
 use native.Mathlib.Omega.{arith}
-use mathlib.Core.Path.{_≡_, refl, ap, _∙_}
+use mathlib.Core.Path.{_≡_, refl, ap, ap₂, _∙_}
 use mathlib.Core.Logic.{⊎-elim, _≢_}
 use mathlib.Core.List.{List}
 use lib.ListN.{length, getD, set, length-set}
@@ -15,6 +16,7 @@ use Rattle.seq.proofs.Laws.Decides.{decided, eqb-decides}
 use Rattle.volume.specs.Layout.{listCount, start}
 use Rattle.volume.specs.Check.{Accepted}
 use Rattle.volume.proofs.Laws.Check.{good}
+use Rattle.volume.proofs.Laws.Starts.{start-next}
 use Rattle.plan.specs.Patterns.{Pattern}
 use Rattle.matcher.specs.declared.cursor.Cursor.{Cursor}
 use Rattle.matcher.specs.Inner.Cursors.{Stretch, sought, listEnd, listCursor, AtDocument}
@@ -22,6 +24,13 @@ use Rattle.matcher.proofs.Laws.Volume.{list-stretch}
 use Rattle.matcher.proofs.Laws.Cursors.{seek-ge, seek-le, seek-below}
 use Rattle.matcher.specs.Inner.Tables.{cursorOn}
 use Rattle.enumeration.specs.Inner.Attempts.{Mark}
+
+-- a list lies from its start up to the next one's
+pub starts-cursor : (v starts : List ℕ) (n : ℕ) → ((i : ℕ) → i ≤ n → getD starts i 0 ≡ start v i) → (l : ℕ) → l < n
+    → record { at = getD starts l 0; end = getD starts (l + 1) 0 } ≡ listCursor v l
+starts-cursor v starts n each l h =
+    let next = each (l + 1) (omega arith) ∙ start-next v l in
+    ap₂ (λ (i e : ℕ). record { at = i; end = e }) (each l (omega arith)) next
 
 module _ (v : List ℕ) (ok : Accepted v) (l : ℕ) (there : l < listCount v) (first : Cursor) (is : first ≡ listCursor v l) where
   pub cursor-stretch : Stretch v (first .at) (first .end)

@@ -119,7 +119,8 @@ pub record Writing (v : List ℕ) (d : ℕ) (f : Pattern) (n : ℕ) (from out₀
   pub room : count * n ≤ length out₀
   pub laid : out ≡ joined (take count (matchesFrom (listsOf v) d f from)) ++ drop (count * n) out₀
 
-module _ (v p : List ℕ) (o : Outline) (doc : Document) (firsts ends : List ℕ) (s : Sought v p o doc firsts ends) (from out₀ : List ℕ) where
+module _ (v p : List ℕ) (o : Outline) (doc : Document) (order firsts ends : List ℕ)
+    (s : Sought v p o doc order firsts ends) (from out₀ : List ℕ) where
   abbrev d : ℕ
   d = doc .doc
 

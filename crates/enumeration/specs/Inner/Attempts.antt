@@ -13,6 +13,7 @@ use Rattle.plan.specs.Accepted.{patternAt}
 use Rattle.matcher.specs.declared.cursor.Document.{Document}
 use Rattle.matcher.specs.Inner.Cursors.{seekFrom, listEnd}
 use Rattle.matcher.specs.Inner.Settling.{Posed}
+use Rattle.matcher.specs.Inner.Order.{Order}
 
 -- stream index i lies in list l, or at its end, and all postings of the list in front of it stand before position b of document d
 pub record Mark (v : List ℕ) (l d b i : ℕ) : Type 0 where
@@ -24,9 +25,11 @@ pub record Mark (v : List ℕ) (l d b i : ℕ) : Type 0 where
 abbrev pub Marked : List ℕ → ℕ → Pattern → List ℕ → List ℕ → Type 0
 Marked v d f lows marks = (x : ℕ) → x < length (f .vars) → Mark v (getD (f .vars) x 0) d (getD lows x 0) (getD marks x 0)
 
--- what the search for a pattern's next match asks: the ends of its variables' lists, and for each a mark in front of the document
-pub record Sought (v p : List ℕ) (o : Outline) (doc : Document) (firsts ends : List ℕ) : Type 0 where
+-- what the search for a pattern's next match asks: an order of its variables, the ends of their lists, and for each a mark in front of the
+-- document
+pub record Sought (v p : List ℕ) (o : Outline) (doc : Document) (order firsts ends : List ℕ) : Type 0 where
   pub posed : Posed v p o doc ends
+  pub order-is : Order (o .vars) order
   pub firsts-room : o .vars ≤ length firsts
   pub firsts-are : (x : ℕ) → x < o .vars → Mark v (getD (patternAt p (o .pattern) .vars) x 0) (doc .doc) 0 (getD firsts x 0)
 

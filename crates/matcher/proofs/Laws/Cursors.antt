@@ -2,14 +2,13 @@
 --     seek-ge, seek-le           a sought index is not in front of where it was, nor behind the end
 --     seek-at, seek-below        the word there is not below the target; those passed are
 --     seek-is                    the only such index
---     seek-here                  where the first word is not below the target
 --     Narrowed                   what a search by halves knows
 --     Galloped                   what a search in doubling steps knows
---     window-hit, window-all     what the number of words below the target tells
+--     window-hit, window-passed  what a word tells of those in front of it
 -- Assumes nothing.
 use Prim.Native.Nat.{ℕ, zero, suc, _+_, _-_, _<_, _≤_}
 use native.Mathlib.Omega.{arith}
-use mathlib.Core.Path.{_≡_, refl, ap}
+use mathlib.Core.Path.{_≡_, refl, ap, _∙_}
 use mathlib.Core.List.{List}
 use mathlib.Core.Logic.{⊎-elim}
 use lib.Dec.{leb}
@@ -47,9 +46,6 @@ module _ (v : List ℕ) (target i e : ℕ) where
 
       late : k < seekFrom v target i e → seekFrom v target i e ≡ k
       late a = let x = seek-below k h a in let m = seek-le (omega arith) in let y = here (omega arith) in absurd (let z : ⊥ = omega arith in z)
-
-  pub seek-here : i ≤ e → target ≤ word v i → i ≡ seekFrom v target i e
-  seek-here h w = let q : seekFrom v target i e ≡ i = seek-is i (omega arith) h (λ j a b. absurd (let z : ⊥ = omega arith in z)) (λ l. w) in omega arith
 
   -- where a search by halves stands: words in front of low are below the target, those from high on are not
   pub record Narrowed (low high : ℕ) : Type 0 where
@@ -159,19 +155,16 @@ module _ (v : List ℕ) (target i e m : ℕ) (s : Stretch v i e) (h : i + m ≤ 
           let above : target ≤ word v (i + j) = ⊎-elim (λ (c : k < i + j). let r = s .rising k (i + j) g c (omega arith) in omega arith) (λ (c : i + j ≤ k). let d : i + j ≡ k = omega arith in rw d w) (below-or k (i + j)) in
           rw (le-ltb (word v (i + j)) target above)
 
-  -- not all are below the target
-  pub window-hit : belowCount v target i m < m → i + belowCount v target i m ≡ seekFrom v target i e
-  window-hit a =
-      let c = below-count in
-      let k = seekFrom v target i (i + m) in
-      let q : seekFrom v target i e ≡ k = seek-is v target i e k (seek-ge v target i (i + m)) (omega arith) (seek-below v target i (i + m)) (λ l. seek-at v target i (i + m) (omega arith) (omega arith)) in
-      omega arith
+-- the word behind m words that rise is not below the target: the sought index is found by counting those that are
+pub window-hit : (v : List ℕ) (target i e m : ℕ) → Stretch v i e → i + m < e → target ≤ word v (i + m)
+    → i + belowCount v target i m ≡ seekFrom v target i e
+window-hit v target i e m s h w =
+    below-count v target i e m s (omega arith) ∙ galloped-hit v target i e s i (i + m) (galloped-first v target i e s) (omega arith) h w
 
-  -- all are
-  pub window-all : m ≤ belowCount v target i m → Galloped v target i e (i + m)
-  window-all a =
-      let c = below-count in
-      record { from = omega arith; to = h; below = λ j x y. seek-below v target i (i + m) j x (omega arith) }
+-- it is below the target: so are all of them
+pub window-passed : (v : List ℕ) (target i e m : ℕ) → Stretch v i e → i + m < e → word v (i + m) < target
+    → Galloped v target i e (i + m + 1)
+window-passed v target i e m s h w = galloped-next v target i e s i (i + m) (galloped-first v target i e s) (omega arith) h w
 
 -- a cursor set to a sought index is the sought cursor, and has moved forward only
 pub sought-is : (v : List ℕ) (target : ℕ) (c : Cursor) (i : ℕ) → i ≡ seekFrom v target (c .at) (c .end) → (record { at = i; end = c .end } ≡ sought v target c) × Forward c (record { at = i; end = c .end })

@@ -1,5 +1,6 @@
 -- The start of a position's paragraph, the first start, and the start that SAME TITLE needs, over plain starts. No contract cites this file.
 --     ParaAt, para-told, para-is        the greatest start not above p, or 65,536 where there is none: `paraStart` is so, and nothing else is
+--     para-none                         where it is 65,536, no start is up to p
 --     FirstAt, first-told, first-is     the least start, or 65,536 where there is none: `firstStart` is so, and nothing else is
 --     first-most, first-in, first-least     it is at most 65,536, it is a start where it is below that, and no start is in front of it
 --     needed-bare, needed-para          `neededStart` is the first start where p stands in no paragraph, else that of its paragraph
@@ -75,6 +76,10 @@ module _ (ss : List ℕ) (p : ℕ) where
       (λ x. ⊎-elim (λ y. absurd (y .1 r (x .0) (x .1 .0))) (λ y. let h = x .1 .1 (paraStart ss p) (y .0) (y .1 .0) in let k = y .1 .1 r (x .0) (x .1 .0) in omega arith) para-told)
       a
 
+  -- where it is 65,536, no start is up to a position p
+  pub para-none : p < limit → paraStart ss p ≡ limit → (s : ℕ) → In s ss → s ≤ p → ⊥
+  para-none small e = ⊎-elim (λ x. x .1) (λ x. absurd (let h : paraStart ss p ≤ p = x .1 .0 in let z : ⊥ = omega arith in z)) para-told
+
 -- r is the least of some starts, or 65,536 where there is none
 abbrev FirstAt : List ℕ → ℕ → Type 0
 FirstAt ss r = ((r ≡ limit) × ((s : ℕ) → In s ss → ⊥)) ⊎ (In r ss × ((s : ℕ) → In s ss → r ≤ s))
@@ -105,15 +110,15 @@ module _ (ss : List ℕ) where
       a
 
   -- where starts are positions it is at most 65,536
-  pub first-most : ((s : ℕ) → In s ss → s < limit) → firstStart ss ≤ limit
+  first-most : ((s : ℕ) → In s ss → s < limit) → firstStart ss ≤ limit
   first-most below = ⊎-elim (λ x. let e : firstStart ss ≡ limit = x .0 in omega arith) (λ x. let l = below (firstStart ss) (x .0) in omega arith) first-told
 
   -- below that it is a start
-  pub first-in : firstStart ss < limit → In (firstStart ss) ss
+  first-in : firstStart ss < limit → In (firstStart ss) ss
   first-in h = ⊎-elim (λ x. let e : firstStart ss ≡ limit = x .0 in absurd (let z : ⊥ = omega arith in z)) (λ x. x .0) first-told
 
   -- no start is in front of it
-  pub first-least : (s : ℕ) → In s ss → firstStart ss ≤ s
+  first-least : (s : ℕ) → In s ss → firstStart ss ≤ s
   first-least s i = ⊎-elim (λ x. absurd (x .1 s i)) (λ x. x .1 s i) first-told
 
 -- what is needed beside p, which is r: where r is not above p, it is a start and none follows up to p; else no start is in front of r

@@ -4,7 +4,7 @@
 --     low-jump        a variable that a predicate leaves short jumps to the first position that it needs at least
 --     low-out         where there is none, nothing matches
 --     low-done        where all predicates hold, the match is least
---     Copied, Shown   cursors and positions copied; a row with positions stored in it
+--     Shown           a row with positions stored in it
 -- Assumes nothing.
 use Prim.Native.Nat.{ℕ, suc, _+_, _*_, _<_, _≤_}
 use native.Mathlib.Omega.{arith}
@@ -205,26 +205,6 @@ module _ (v : List ℕ) (ok : Accepted v) (d : ℕ) (f : Pattern) (there : (x : 
                 (λ (q : y ≢ x). rw (getD-set-other ps x y (posOf (word v i)) 0 q) (l .low qs m y h))
                 (decided (eqb-decides y x))
 
--- the first x cursors from `first` on, and their positions, are stored
-pub record Copied (v ats : List ℕ) (first : ℕ) (here₀ ps₀ here ps : List ℕ) (x : ℕ) : Type 0 where
-  pub here-length : length here ≡ length here₀
-  pub ps-length : length ps ≡ length ps₀
-  pub stored : (y : ℕ) → y < x → (getD here y 0 ≡ getD ats (first + y) 0) × (getD ps y 0 ≡ posOf (word v (getD ats (first + y) 0)))
-
-pub copied-first : (v ats : List ℕ) (first : ℕ) (here₀ ps₀ : List ℕ) → Copied v ats first here₀ ps₀ here₀ ps₀ 0
-copied-first v ats first here₀ ps₀ = record { here-length = refl; ps-length = refl; stored = λ y h. absurd (let z : ⊥ = omega arith in z) }
-
-pub copied-next : (v ats : List ℕ) (first : ℕ) (here₀ ps₀ here ps : List ℕ) (x q : ℕ) → Copied v ats first here₀ ps₀ here ps x → x < length here₀ → x < length ps₀ → q ≡ posOf (word v (getD ats (first + x) 0))
-    → Copied v ats first here₀ ps₀ (set here x (getD ats (first + x) 0)) (set ps x q) (x + 1)
-copied-next v ats first here₀ ps₀ here ps x q c h l e = record {
-  here-length = length-set here x _ ∙ c .here-length;
-  ps-length = length-set ps x q ∙ c .ps-length;
-  stored = λ y k. ⊎-elim
-      (λ (s : y ≡ x). rw (s, getD-set-same here x (getD ats (first + x) 0) 0 (let n = c .here-length in omega arith), getD-set-same ps x q 0 (let n = c .ps-length in omega arith)) (refl, e))
-      (λ (s : y ≢ x). rw (getD-set-other here x y (getD ats (first + x) 0) 0 s, getD-set-other ps x y q 0 s) (c .stored y (omega arith)))
-      (decided (eqb-decides y x));
-}
-
 -- of a row, from i on, the first x of some numbers are stored, and the rest is as it was
 pub record Shown (xs row₀ : List ℕ) (i : ℕ) (row : List ℕ) (x : ℕ) : Type 0 where
   pub same-length : length row ≡ length row₀
@@ -245,8 +225,3 @@ shown-next xs row₀ i row x s h room = record {
   where
     size : length (take i row₀ ++ take x xs) ≡ i + x
     size = length-append (take i row₀) (take x xs) ∙ let a = length-take-le i row₀ (omega arith) in let b = length-take-le x xs (omega arith) in omega arith
-
--- behind a flag that was stored in front of them
-pub shown-flag : (xs d : List ℕ) (flag n : ℕ) → 1 ≤ length d → (take 1 (set d 0 flag) ++ xs) ++ drop (1 + n) (set d 0 flag) ≡ (flag ∷ xs) ++ drop (1 + n) d
-shown-flag xs [] flag n h = absurd (let z : ⊥ = omega arith in z)
-shown-flag xs (w ∷ ws) flag n h = let e : 1 + n ≡ suc n = omega arith in rw e refl

@@ -1,17 +1,15 @@
 -- What `src/predicates.rt` tells of each predicate, over plain positions. No contract cites this file.
 --     distance-first, distance-second, ordered-second     the variable that a predicate leaves short
 --     samepara-first, samepara-behind     by the start that is needed beside the later position
---     samepara-unbegun, samepara-begun     at one position, by the first start
 --     samepara-second              whichever of a and b is named first
 --     proximity-alone, proximity-behind, proximity-second, proximity-first     by how far b stands behind a
---     Spread                       the smallest and the largest of the first positions
---     spread-first, spread-low, spread-high, spread-within, spread-least     it is kept from turn to turn
---     window-short, window-kept    what it tells
+--     largest-first, largest-next  the largest of the first positions
+--     window-short, window-few, window-kept     what it tells, where the variables are looked at in an order
 --     distance-asked, ordered-asked, samepara-asked, window-asked, proximity-asked     what `falls_short` hands on
 -- Assumes nothing.
-use Prim.Native.Nat.{ℕ, _+_, _-_, _<_, _≤_}
+use Prim.Native.Nat.{ℕ, _+_, _-_, _<_, _≤_, min, max}
 use native.Mathlib.Omega.{arith}
-use mathlib.Core.Path.{_≡_, refl, _∙_}
+use mathlib.Core.Path.{_≡_, refl, subst, _∙_}
 use mathlib.Core.Bool.{true, _&&_}
 use mathlib.Core.Logic.{⊎-elim}
 use mathlib.Core.List.{List}
@@ -31,12 +29,13 @@ use Rattle.fulltext.specs.Positions.{limit}
 use Rattle.fulltext.specs.Calculus.{at, In}
 use Rattle.fulltext.specs.Matches.{holds}
 use Rattle.fulltext.specs.Inner.Bounds.{Needs}
-use Rattle.fulltext.specs.Inner.Paragraphs.{firstStart, neededStart}
-use Rattle.matcher.specs.Inner.Shortfall.{InDocument, LeftShort}
+use Rattle.fulltext.specs.Inner.Paragraphs.{neededStart}
+use Rattle.matcher.specs.Inner.Shortfall.{InDocument, Largest, LeftShort}
+use Rattle.matcher.specs.Inner.Order.{Order}
 use Rattle.matcher.specs.declared.cursor.Document.{Document}
 use Rattle.matcher.specs.Inner.Cursors.{AtDocument}
 use Rattle.fulltext.proofs.Laws.Needs.{distance-needs-first, distance-needs-second, ordered-needs, samepara-holds, samepara-turned, samepara-needs, samepara-needs-start, window-holds, window-needs, proximity-needs-first, proximity-needs-second, proximity-never}
-use Rattle.matcher.proofs.Laws.Paragraphs.{first-most, first-in, first-least, Needed, needed-told}
+use Rattle.matcher.proofs.Laws.Paragraphs.{Needed, needed-told}
 
 module _ (ss ps : List ℕ) (small : InDocument ps) where
   -- a variable that needs 65,536 has no position left
@@ -74,110 +73,69 @@ module _ (ss ps : List ℕ) (small : InDocument ps) where
 
     -- no start is behind the last position
     module _ (below : (s : ℕ) → In s ss → s < limit) where
-      -- a stands in front of b, beside which r is needed
-      module _ (l : at ps a < at ps b) (r : ℕ) (e : r ≡ neededStart ss (at ps b)) where
-        asked : Needed ss (at ps b) r
-        asked = let m = small b k in rw e (needed-told ss (at ps b) below (omega arith))
+      -- r is needed beside the later position, which is p
+      module _ (p : ℕ) (far : p ≡ max (at ps a) (at ps b)) (r : ℕ) (e : r ≡ neededStart ss p) where
+        asked : Needed ss p r
+        asked = let m = small a h in let n = small b k in rw e (needed-told ss p below (omega arith))
 
-        pub samepara-first : at ps a < r → LeftShort ss (Samepara a b) ps a r
-        samepara-first f = record { there = h; before = f; most = asked .most; needs = needs }
+        pub samepara-first : at ps a ≤ at ps b → at ps a < r → LeftShort ss (Samepara a b) ps a r
+        samepara-first l f = record { there = h; before = f; most = asked .most; needs = needs }
           where
             needs : Needs ss (Samepara a b) ps a r
             needs =
                 ⊎-elim
-                (λ (g : at ps b < r). samepara-needs-start ss ps a b r (asked .none-before g))
-                (λ (g : r ≤ at ps b). samepara-needs ss ps a b r (asked .start g) g)
-                (below-or (at ps b) r)
+                (λ (g : p < r). samepara-needs-start ss ps a b r (asked .none-before g))
+                (λ (g : r ≤ p). samepara-needs ss ps a b r (asked .start g) (omega arith))
+                (below-or p r)
 
-        pub samepara-behind : r ≤ at ps a → holds ss (Samepara a b) ps ≡ true
-        samepara-behind f = samepara-holds ss ps a b r (asked .start (omega arith)) f (omega arith) (λ t i g m. omega (arith, asked .last t i (omega arith)))
-
-      -- both stand at one position, and the first start is r
-      module _ (l : at ps a ≡ at ps b) (r : ℕ) (e : r ≡ firstStart ss) where
-        pub samepara-unbegun : at ps a < r → LeftShort ss (Samepara a b) ps a r
-        samepara-unbegun f = record { there = h; before = f; most = rw e (first-most ss below); needs = samepara-needs-start ss ps a b r (λ s i. rw e (first-least ss s i)) }
-
-        pub samepara-begun : r ≤ at ps a → holds ss (Samepara a b) ps ≡ true
-        samepara-begun f = let m = small a h in samepara-holds ss ps a b r (rw e (first-in ss (omega arith))) f (omega arith) (λ t i g k. omega arith)
+        pub samepara-behind : r ≤ min (at ps a) (at ps b) → holds ss (Samepara a b) ps ≡ true
+        samepara-behind f =
+            samepara-holds ss ps a b r (asked .start (omega arith)) (omega arith) (omega arith)
+            (λ t i g m. omega (arith, asked .last t i (omega arith)))
 
 -- whichever of a and b is named first
 pub samepara-second : {ss ps : List ℕ} {a b x r : ℕ} → LeftShort ss (Samepara b a) ps x r → LeftShort ss (Samepara a b) ps x r
 samepara-second {ss} {ps} {a} {b} h = record { there = h .there; before = h .before; most = h .most; needs = λ qs n le e. h .needs qs n le (samepara-turned ss qs b a ∙ e) }
 
--- of the first x positions the smallest, which is variable var's, and the largest
-pub record Spread (ps : List ℕ) (var least most x : ℕ) : Type 0 where
-  pub there : var < x
-  pub low : at ps var ≡ least
-  pub high : (y : ℕ) × ((y < x) × (at ps y ≡ most))
-  pub above : (y : ℕ) → y < x → least ≤ at ps y
-  pub below : (y : ℕ) → y < x → at ps y ≤ most
+-- of the first x positions the largest
+pub largest-first : (ps : List ℕ) → Largest ps 1 (getD ps 0 0)
+largest-first ps = record { most = λ y h. let e : y ≡ 0 = omega arith in rw e (omega arith); one = (0, (omega arith, refl)) }
 
-module _ (ps : List ℕ) where
-  pub spread-first : Spread ps 0 (at ps 0) (at ps 0) 1
-  spread-first = record {
-    there = omega arith;
-    low = refl;
-    high = (0, (omega arith, refl));
-    above = λ y h. let e : y ≡ 0 = omega arith in rw e (omega arith);
-    below = λ y h. let e : y ≡ 0 = omega arith in rw e (omega arith);
-  }
+pub largest-next : (ps : List ℕ) (x m : ℕ) → Largest ps x m → Largest ps (x + 1) (max m (getD ps x 0))
+largest-next ps x m g = record {
+  most = λ y h. ⊎-elim (λ (l : y < x). let a = g .most y l in omega arith) (λ (l : x ≤ y). let e : y ≡ x = omega arith in rw e (omega arith)) (below-or y x);
+  one = ⊎-elim
+      (λ (a : m < getD ps x 0). (x, (omega arith, let e : getD ps x 0 ≡ max m (getD ps x 0) = omega arith in e)))
+      (λ (a : getD ps x 0 ≤ m). let w = g .one in let l : w .0 < x = w .1 .0 in (w .0, (omega arith, w .1 .1 ∙ let e : m ≡ max m (getD ps x 0) = omega arith in e)))
+      (below-or m (getD ps x 0));
+}
 
-  module _ (var least most x : ℕ) (s : Spread ps var least most x) where
-    wider : (Q : ℕ → Type 0) → ((y : ℕ) → y < x → Q (at ps y)) → Q (at ps x) → (y : ℕ) → y < x + 1 → Q (at ps y)
-    wider Q f q y h = ⊎-elim (λ (l : y < x). f y l) (λ (l : x ≤ y). let e : y ≡ x = omega arith in rw e q) (below-or y x)
+module _ (ss ps : List ℕ) (small : InDocument ps) (order : List ℕ) (o : Order (length ps) order) (largest c : ℕ) (g : Largest ps (length ps) largest) where
+  -- a variable that stands too far in front of the largest is left short
+  pub window-short : (x : ℕ) → x < length ps → at ps x < largest - (c - 1) → c ≤ largest → LeftShort ss (Window c) ps x (largest - (c - 1))
+  window-short x h l few =
+      let w = g .one in
+      let e : at ps (w .0) ≡ largest = w .1 .1 in
+      let k : w .0 < length ps = w .1 .0 in
+      let m = small (w .0) k in
+      record { there = h; before = l; most = omega arith; needs = rw (← e) (window-needs ss ps c x (w .0) h k) }
 
-    high-wider : (y : ℕ) × ((y < x + 1) × (at ps y ≡ most))
-    high-wider = let w = s .high in let l : w .0 < x = w .1 .0 in (w .0, (omega arith, w .1 .1))
+  -- the largest is within the limit by itself
+  pub window-few : 1 ≤ c → largest < c → holds ss (Window c) ps ≡ true
+  window-few some few = window-holds ss ps c (λ y z a b. let p = g .most y a in omega arith)
 
-    pub spread-low : at ps x < least → Spread ps x (at ps x) most (x + 1)
-    spread-low h = record {
-      there = omega arith;
-      low = refl;
-      high = high-wider;
-      above = wider (λ q. at ps x ≤ q) (λ y l. let a = s .above y l in omega arith) (omega arith);
-      below = wider (λ q. q ≤ most) (s .below) (let b = s .below var (s .there) in let e = s .low in omega arith);
-    }
-
-    pub spread-high : most < at ps x → Spread ps var least (at ps x) (x + 1)
-    spread-high h = record {
-      there = let t = s .there in omega arith;
-      low = s .low;
-      high = (x, (omega arith, refl));
-      above = wider (λ q. least ≤ q) (s .above) (let b = s .below var (s .there) in let e = s .low in omega arith);
-      below = wider (λ q. q ≤ at ps x) (λ y l. let a = s .below y l in omega arith) (omega arith);
-    }
-
-    pub spread-within : least ≤ at ps x → at ps x ≤ most → Spread ps var least most (x + 1)
-    spread-within h l = record {
-      there = let t = s .there in omega arith;
-      low = s .low;
-      high = high-wider;
-      above = wider (λ q. least ≤ q) (s .above) h;
-      below = wider (λ q. q ≤ most) (s .below) l;
-    }
-
-  module _ (small : InDocument ps) (var least most x : ℕ) (s : Spread ps var least most x) (full : x ≡ length ps) where
-    pub spread-least : least ≤ 65535
-    spread-least = let t = s .there in let e = s .low in let m = small var (omega arith) in omega arith
-
-    pub window-short : (ss : List ℕ) (c : ℕ) → least + (c - 1) < most → LeftShort ss (Window c) ps var (most - (c - 1))
-    window-short ss c h =
-        let w = s .high in
-        let e : at ps (w .0) ≡ most = w .1 .1 in
-        let l : w .0 < x = w .1 .0 in
-        let t = s .there in
-        let m = small (w .0) (omega arith) in
-        let low = s .low in
-        record { there = omega arith; before = omega arith; most = omega arith; needs = rw (← e) (window-needs ss ps c var (w .0) (omega arith) (omega arith)) }
-
-    pub window-kept : (ss : List ℕ) (c : ℕ) → most ≤ least + (c - 1) → holds ss (Window c) ps ≡ true
-    window-kept ss c h = window-holds ss ps c (λ y z a b. let p = s .below y (omega arith) in let q = s .above z (omega arith) in omega arith)
+  -- none does
+  pub window-kept : c ≤ largest → ((i : ℕ) → i < length ps → largest - (c - 1) ≤ at ps (getD order i 0)) → holds ss (Window c) ps ≡ true
+  window-kept few all = window-holds ss ps c (λ y z a b. let p = g .most y a in let q = reached z b in omega arith)
+    where
+      reached : (z : ℕ) → z < length ps → largest - (c - 1) ≤ at ps z
+      reached z h = let w = o .covers z h in subst (λ (i : ℕ). largest - (c - 1) ≤ at ps i) (w .1 .1) (all (w .0) (w .1 .0))
 
 -- what `falls_short` requires of a predicate on the first n positions, and what it hands on
-abbrev Asked : List ℕ → Document → List ℕ → ℕ → Predicate → Type 0
-Asked v doc ps n p = Accepted v × (AtDocument v doc × ((1 ≤ n) × ((n ≤ length ps) × (((x : ℕ) → x < n → getD ps x 0 ≤ 65535) × ((namesBelow n p ≡ true) × InRange (kind.Condition p))))))
+abbrev Asked : List ℕ → Document → List ℕ → List ℕ → ℕ → ℕ → Predicate → Type 0
+Asked v doc order ps n largest p = Accepted v × (AtDocument v doc × ((1 ≤ n) × ((n ≤ length ps) × (((x : ℕ) → x < n → getD ps x 0 ≤ 65535) × ((namesBelow n p ≡ true) × (InRange (kind.Condition p) × (Order n order × Largest ps n largest)))))))
 
-module _ {v : List ℕ} {doc : Document} {n : ℕ} (ps : List ℕ) (p : Predicate) (asked : Asked v doc ps n p) where
+module _ {v : List ℕ} {doc : Document} {order : List ℕ} {n largest : ℕ} (ps : List ℕ) (p : Predicate) (asked : Asked v doc order ps n largest p) where
   room : n ≤ length ps
   room = asked .1 .1 .1 .0
 
@@ -203,7 +161,7 @@ module _ {v : List ℕ} {doc : Document} {n : ℕ} (ps : List ℕ) (p : Predicat
   names q e = rw e at (asked .1 .1 .1 .1 .1 .0)
 
   range : (q : Predicate) → p ≡ q → InRange (kind.Condition q)
-  range q e = rw e at (asked .1 .1 .1 .1 .1 .1)
+  range q e = rw e at (asked .1 .1 .1 .1 .1 .1 .0)
 
   pub distance-asked : {a b c : ℕ} → p ≡ Distance a b c → InDocument (take n ps) × ((a < length (take n ps)) × ((b < length (take n ps)) × (c ≤ 65535)))
   distance-asked {a} {b} {c} e = let w = named a b (names (Distance a b c) e) in (in-document, (w .0, (w .1, range (Distance a b c) e)))
@@ -214,8 +172,18 @@ module _ {v : List ℕ} {doc : Document} {n : ℕ} (ps : List ℕ) (p : Predicat
   pub samepara-asked : {a b : ℕ} → p ≡ Samepara a b → Accepted v × (AtDocument v doc × (InDocument (take n ps) × ((a < length (take n ps)) × (b < length (take n ps)))))
   samepara-asked {a} {b} e = let w = named a b (names (Samepara a b) e) in (asked .0, (asked .1 .0, (in-document, (w .0, w .1))))
 
-  pub window-asked : {c : ℕ} → p ≡ Window c → InDocument (take n ps) × ((1 ≤ length (take n ps)) × ((1 ≤ c) × (c ≤ 65536)))
-  window-asked {c} e = let q = size in let h = asked .1 .1 .0 in (in-document, (omega arith, range (Window c) e))
+  -- the largest of the first n positions, and an order of them
+  largest-asked : Largest (take n ps) (length (take n ps)) largest
+  largest-asked = rw size (record {
+    most = λ x h. let e = getD-take n ps x 0 h in let m = g .most x h in omega arith;
+    one = let w = g .one in (w .0, (w .1 .0, getD-take n ps (w .0) 0 (w .1 .0) ∙ w .1 .1));
+  })
+    where
+      g : Largest ps n largest
+      g = asked .1 .1 .1 .1 .1 .1 .1 .1
+
+  pub window-asked : {c : ℕ} → p ≡ Window c → InDocument (take n ps) × (Order (length (take n ps)) order × (Largest (take n ps) (length (take n ps)) largest × ((1 ≤ c) × (c ≤ 65536))))
+  window-asked {c} e = (in-document, (rw size (asked .1 .1 .1 .1 .1 .1 .1 .0), (largest-asked, range (Window c) e)))
 
   pub proximity-asked : {a b least most : ℕ} → p ≡ Proximity a b least most → InDocument (take n ps) × ((a < length (take n ps)) × (b < length (take n ps)))
   proximity-asked {a} {b} {least} {most} e = let w = named a b (names (Proximity a b least most) e) in (in-document, (w .0, w .1))

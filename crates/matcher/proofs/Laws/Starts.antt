@@ -1,10 +1,9 @@
 -- The start of a position's paragraph and the first start, by a cursor on list 0. No contract cites this file.
 --     starts-below                    no start is behind the last position
 --     stands-stretch                  the postings of list 0 from the cursor on
---     past-from, past-within          the first posting behind position p of the document
+--     past-from, past-to              the first posting behind position p of the document
 --     para-first, para-other, para-last     the paragraph's start, by the posting in front of that one
---     sought-within                   the first posting in the document or behind
---     first-none, first-other, first-here     the first start, by that one
+--     first-none, first-other, first-here     the first start, by that one, where p stands in no paragraph
 -- Assumes nothing.
 use Prim.Native.Nat.{ℕ, _+_, _-_, _*_, _/_, _%_, _<_, _≤_}
 use native.Mathlib.Omega.{arith}
@@ -12,20 +11,19 @@ use mathlib.Core.Path.{_≡_, refl, ap, _∙_}
 use mathlib.Core.Logic.{inl, inr, ⊎-elim, _≢_}
 use mathlib.Core.List.{List}
 use Rattle.seq.proofs.Laws.Tests.{below-or}
-use Rattle.volume.specs.Layout.{streamLength, word, start, listCount, listsOf}
+use Rattle.volume.specs.Layout.{word, start, listCount, listsOf}
 use Rattle.volume.specs.Check.{Accepted}
 use Rattle.volume.proofs.Laws.Check.{good}
 use Rattle.fulltext.specs.Positions.{limit, listOf}
 use Rattle.fulltext.specs.Calculus.{In}
 use Rattle.fulltext.specs.Matches.{startsIn}
 use Rattle.fulltext.specs.Inner.Paragraphs.{paraStart, firstStart}
-use Rattle.matcher.specs.declared.cursor.Cursor.{Cursor}
 use Rattle.matcher.specs.declared.cursor.Document.{Document}
-use Rattle.matcher.specs.Inner.Cursors.{seekFrom, Stretch, sought, listEnd, Stands, AtDocument}
+use Rattle.matcher.specs.Inner.Cursors.{seekFrom, Stretch, listEnd, Stands, AtDocument}
 use Rattle.fulltext.proofs.Laws.Positions.{in-positions, positions-in}
 use Rattle.matcher.proofs.Laws.Cursors.{seek-ge, seek-le, seek-at, seek-below, stretch-within}
 use Rattle.matcher.proofs.Laws.Volume.{list-stretch, held, holds-at}
-use Rattle.matcher.proofs.Laws.Paragraphs.{para-is, first-is}
+use Rattle.matcher.proofs.Laws.Paragraphs.{para-is, para-none, first-is}
 
 pub starts-below : (lists : List (List ℕ)) (d s : ℕ) → In s (startsIn lists d) → s < limit
 starts-below lists d s i = positions-in d s (listOf lists 0) i .0
@@ -93,10 +91,6 @@ module _ {v : List ℕ} {doc : Document} (ok : Accepted v) (placed : AtDocument 
     sought-le : sought-at ≤ listEnd v 0
     sought-le = seek-le v t i (listEnd v 0) (st .to)
 
-    -- as a cursor is moved to it
-    cursor-at : {moved : Cursor} → moved ≡ sought v t (doc .starts) → moved .at ≡ sought-at
-    cursor-at found = ap (λ (r : Cursor). r .at) found ∙ ap (seekFrom v t i) (placed .starts-end)
-
     -- a start at or behind t stands there or further on
     from-there : (s : ℕ) (m : In s (startsIn (listsOf v) d)) → t ≤ d * 65536 + s → sought-at ≤ ahead s m .0
     from-there s m h = ⊎-elim (λ k. absurd (early k)) (λ k. k) (below-or (ahead s m .0) sought-at)
@@ -119,16 +113,13 @@ module _ {v : List ℕ} {doc : Document} (ok : Accepted v) (placed : AtDocument 
             let r = up-to sought-at (ahead s m .0) sought-ge k l in
             omega arith
 
-  -- the first index behind position p of the document, as a cursor is advanced to it
-  module _ {p : ℕ} (small : p ≤ 65535) {moved : Cursor} (found : moved ≡ sought v (d * 65536 + p + 1) (doc .starts)) where
-    abbrev stop : ℕ
-    stop = moved .at
-
+  -- the first index behind position p of the document
+  module _ {p : ℕ} (small : p ≤ 65535) {stop : ℕ} (found : stop ≡ seekFrom v (d * 65536 + p + 1) i end) where
     abbrev past : ℕ
     past = sought-at (d * 65536 + p + 1)
 
     at-past : stop ≡ past
-    at-past = cursor-at (d * 65536 + p + 1) found
+    at-past = found ∙ ap (seekFrom v (d * 65536 + p + 1) i) (placed .starts-end)
 
     past-ge : i ≤ past
     past-ge = sought-ge (d * 65536 + p + 1)
@@ -143,8 +134,8 @@ module _ {v : List ℕ} {doc : Document} (ok : Accepted v) (placed : AtDocument 
     pub past-from : i ≤ stop
     past-from = let q = at-past in let g = past-ge in omega arith
 
-    pub past-within : stop ≤ streamLength v
-    past-within = let q = at-past in let a = past-le in let b = whole .within in omega arith
+    pub past-to : stop ≤ end
+    past-to = let q = at-past in let a = past-le in let e = placed .starts-end in omega arith
 
     -- nothing stands between
     pub para-first : stop ≡ i → 65536 ≡ paraStart (startsIn (listsOf v) d) p
@@ -193,64 +184,66 @@ module _ {v : List ℕ} {doc : Document} (ok : Accepted v) (placed : AtDocument 
             (omega arith, λ s m h. let u = up-to-last s m h in omega arith),
           ))
 
-  -- the first index in the document or behind, as a cursor is moved to it
-  module _ {moved : Cursor} (found : moved ≡ sought v (d * 65536) (doc .starts)) where
-    abbrev there : ℕ
-    there = sought-at (d * 65536)
+    -- p stands in no paragraph
+    module _ (bare : paraStart (startsIn (listsOf v) d) p ≡ limit) where
+      -- each start of the document stands at that index or behind it
+      from-first : (s : ℕ) (m : In s (startsIn (listsOf v) d)) → past ≤ ahead s m .0
+      from-first s m =
+          let b = para-none (startsIn (listsOf v) d) p (omega arith) bare s m in
+          from-there (d * 65536 + p + 1) s m (omega arith)
 
-    at-there : moved .at ≡ there
-    at-there = cursor-at (d * 65536) found
+      -- no start follows
+      pub first-none : stop ≡ end → 65536 ≡ firstStart (startsIn (listsOf v) d)
+      first-none h = first-is (startsIn (listsOf v) d) 65536 (inl (
+        refl,
+        λ s m.
+            let e = placed .starts-end in
+            let q = at-past in
+            let a = from-first s m in
+            let l = ahead s m .1 .1 .0 in
+            omega arith,
+      ))
 
-    from-first : (s : ℕ) (m : In s (startsIn (listsOf v) d)) → there ≤ ahead s m .0
-    from-first s m = from-there (d * 65536) s m (omega arith)
+      -- w is the word there
+      module _ {w : ℕ} (more : stop ≢ end) (x : w ≡ word v stop) where
+        inside : past < listEnd v 0
+        inside = let e = placed .starts-end in let q = at-past in let l = past-le in omega (arith, more)
 
-    -- no start follows
-    pub first-none : moved .at ≡ end → 65536 ≡ firstStart (startsIn (listsOf v) d)
-    first-none h = first-is (startsIn (listsOf v) d) 65536 (inl (
-      refl,
-      λ s m.
-          let e = placed .starts-end in
-          let q = at-there in
-          let a = from-first s m in
-          let l = ahead s m .1 .1 .0 in
-          omega arith,
-    ))
+        here : w ≡ word v past
+        here = x ∙ ap (word v) at-past
 
-    -- w is the word there
-    module _ {w : ℕ} (more : moved .at ≢ end) (x : w ≡ word v (moved .at)) where
-      inside : there < listEnd v 0
-      inside = let e = placed .starts-end in let q = at-there in let l = sought-le (d * 65536) in omega (arith, more)
+        from-doc : d * 65536 ≤ w
+        from-doc = let e = here in let a = seek-at v (d * 65536 + p + 1) i (listEnd v 0) (st .to) inside in omega arith
 
-      pub sought-within : moved .at < streamLength v
-      sought-within = let q = at-there in let l = inside in let b = whole .within in omega arith
+        -- no start of the document is in front of it
+        up-from : (s : ℕ) → In s (startsIn (listsOf v) d) → w ≤ d * 65536 + s
+        up-from s m =
+            let e : word v (ahead s m .0) ≡ d * 65536 + s = ahead s m .1 .1 .1 in
+            let f = here in
+            let r = up-to past (ahead s m .0) past-ge (from-first s m) (ahead s m .1 .1 .0) in
+            omega arith
 
-      here : w ≡ word v there
-      here = x ∙ ap (word v) at-there
+        -- it is of another document
+        pub first-other : w / 65536 ≢ d → 65536 ≡ firstStart (startsIn (listsOf v) d)
+        first-other n = first-is (startsIn (listsOf v) d) 65536 (inl (
+          refl,
+          λ s m.
+              let a = from-doc in
+              let u = up-from s m in
+              let l = starts-below (listsOf v) d s m in
+              n (omega arith),
+        ))
 
-      from-doc : d * 65536 ≤ w
-      from-doc = let e = here in let a = seek-at v (d * 65536) i (listEnd v 0) (st .to) inside in omega arith
-
-      -- no start of the document is in front of it
-      up-from : (s : ℕ) → In s (startsIn (listsOf v) d) → w ≤ d * 65536 + s
-      up-from s m =
-          let e : word v (ahead s m .0) ≡ d * 65536 + s = ahead s m .1 .1 .1 in
-          let f = here in
-          let r = up-to there (ahead s m .0) (sought-ge (d * 65536)) (from-first s m) (ahead s m .1 .1 .0) in
-          omega arith
-
-      -- it is of another document
-      pub first-other : w / 65536 ≢ d → 65536 ≡ firstStart (startsIn (listsOf v) d)
-      first-other n = first-is (startsIn (listsOf v) d) 65536 (inl (refl, λ s m. let a = from-doc in let u = up-from s m in let l = starts-below (listsOf v) d s m in n (omega arith)))
-
-      -- it is of this document
-      pub first-here : w / 65536 ≡ d → w % 65536 ≡ firstStart (startsIn (listsOf v) d)
-      first-here e =
-          let a = from-doc in
-          let f = here in
-          let g = sought-ge (d * 65536) in
-          let k = st .from in
-          first-is (startsIn (listsOf v) d) (w % 65536)
-          (inr (
-            in-positions d (w % 65536) (listOf (listsOf v) 0) (holds-at v ok 0 some d (w % 65536) there (omega arith) (omega arith) inside (omega arith)),
-            λ s m. let u = up-from s m in omega arith,
-          ))
+        -- it is of this document
+        pub first-here : w / 65536 ≡ d → w % 65536 ≡ firstStart (startsIn (listsOf v) d)
+        first-here e =
+            let a = from-doc in
+            let f = here in
+            let g = past-ge in
+            let k = st .from in
+            let m = holds-at v ok 0 some d (w % 65536) past (omega arith) (omega arith) inside (omega arith) in
+            first-is (startsIn (listsOf v) d) (w % 65536)
+            (inr (
+              in-positions d (w % 65536) (listOf (listsOf v) 0) m,
+              λ s m. let u = up-from s m in omega arith,
+            ))

@@ -1,38 +1,36 @@
 -- What `src/testing.rt` finds. No contract cites this file.
 --     small-decides                       no position is over 65,535
---     list-passed, list-without, list-with     whether a list holds a position, by the posting in front of the first one behind it
---     told-short                          a predicate that leaves a variable short does not hold
---     posed-given, vars-order, condition-order     what is posed of a pattern
---     Voice, voice-of                     the VOICE row of a variable
---     Listed, listed-next, listed-all, listed-not     the variables whose lists hold their positions
---     Stated, stated, stated-asks, predicate-asked     the row of a predicate
---     Kept, kept-next, kept-all, kept-not     the predicates that hold
---     match-not, match-rest               a match, by its two parts
+--     list-before, found-there, found-not     a cursor on a list at a position, or at its end
+--     posed-given, vars-order             what is posed of a pattern
+--     voice-of, voice-few                 the VOICE row of a variable
+--     Brought, at-next, at-not, at-all    the variables that stand at their positions
+--     at-posed                            what the search from there asks
+--     front-take, front-standing          the positions at the front of an array
+--     held-match                          with every variable held it finds them, or they do not match
+--     match-not                           positions that the lists do not hold
 --     test-refused, test-missing, test-number, test-doc, test-small, test-answer     the answer, by the verdict and the first test that fails
 -- Assumes nothing.
 use Prim.Native.Nat.{ℕ, _+_, _-_, _*_, _<_, _≤_}
 use native.Mathlib.Omega.{arith}
-use mathlib.Core.Path.{_≡_, refl, sym, ap, _∙_}
-use mathlib.Core.Bool.{Bool, true, false, cond}
+use mathlib.Core.Path.{_≡_, refl, sym, ap, subst, _∙_}
+use mathlib.Core.Bool.{Bool, true, false, cond, true≢false}
 use mathlib.Core.Logic.{⊎-elim, _≢_, _↔_}
-use mathlib.Core.List.{List}
-use lib.ListN.{length, getD}
-use lib.Dec.{eqb, leb}
-use borrow.Author.Tests.{le-leb, leb-true, eq-eqb, ne-eqb}
-use Rattle.seq.specs.Lists.{all, elem}
+use mathlib.Core.List.{List, _++_}
+use lib.ListN.{length, getD, set, take, drop}
+use lib.Seq.{getD-set-same, getD-set-other, getD-take, take-at, take-length, ext-getD}
+use lib.Dec.{leb}
+use borrow.Author.Tests.{le-leb, leb-true}
+use Rattle.seq.specs.Lists.{all}
 use Rattle.seq.specs.Refusals.{refused, answered}
 use Rattle.seq.proofs.Laws.Tests.{below-or, true-or, contrary}
 use Rattle.seq.proofs.Laws.Decides as decides
 use Rattle.seq.proofs.Laws.Decides.{Decides, eqb-decides}
 use Rattle.seq.proofs.Laws.Lists.{all-each}
-use Rattle.volume.specs.Layout.{streamLength, word, listCount, start, listsOf}
+use Rattle.volume.specs.Layout.{word, listCount, start, listsOf}
 use Rattle.volume.specs.Check as volume
-use Rattle.plan.specs.declared.row.Predicate.{Predicate}
-use Rattle.plan.specs.declared.row.Predicate.the-variants.{Window}
 use Rattle.plan.specs.declared.row.Kind.the-variants as kind
 use Rattle.plan.specs.Limits.{mostRows}
-use Rattle.plan.specs.Rows.{rowCount, rowAt, formWrongAt, InRange}
-use Rattle.plan.specs.State.{namesBelow}
+use Rattle.plan.specs.Rows.{rowAt}
 use Rattle.plan.specs.Patterns.{Pattern}
 use Rattle.plan.specs.Answers.{Sizes}
 use Rattle.plan.specs.Check.{verdict, Accepted}
@@ -40,16 +38,18 @@ use Rattle.plan.specs.Accepted.{patternAt, Given}
 use Rattle.plan.specs.declared.outline.Outline.{Outline}
 use Rattle.plan.proofs.Laws.Accepted.{given}
 use Rattle.matcher.specs.declared.cursor.Cursor.{Cursor}
-use Rattle.fulltext.specs.Positions.{limit, listOf, positionsIn}
+use Rattle.matcher.specs.declared.cursor.Reached.{Reached}
+use Rattle.fulltext.specs.Positions.{limit, listOf}
 use Rattle.fulltext.specs.Calculus.{at, Holds}
-use Rattle.fulltext.specs.Matches.{holds, allHold, fits, startsIn, varsIn, matchesAt}
-use Rattle.matcher.specs.Inner.Shortfall.{InDocument, LeftShort}
-use Rattle.matcher.specs.Inner.Cursors.{seekFrom, Stretch, sought, listEnd, listCursor, Stands, AtDocument}
+use Rattle.fulltext.specs.Matches.{fits, varsIn, matchesAt}
+use Rattle.fulltext.specs.Inner.Bounds.{HeldMatch}
+use Rattle.matcher.specs.Inner.Shortfall.{InDocument}
+use Rattle.matcher.specs.Inner.Cursors.{seekFrom, Stretch, Arrived, listEnd, listCursor, Stands}
 use Rattle.matcher.specs.Testing.{outOfRange, testBy, testAnswer}
-use Rattle.matcher.specs.Inner.Settling.{Asked}
-use Rattle.fulltext.proofs.Laws.Positions.{positions-hold}
-use Rattle.fulltext.proofs.Laws.Least.{fits-iff, allHold-iff}
-use Rattle.matcher.proofs.Laws.Cursors.{seek-ge, seek-le, seek-at, seek-below}
+use Rattle.matcher.specs.Inner.Settling.{AtPos, Standing, Posed, Asked, Found, StoodAt}
+use Rattle.fulltext.proofs.Laws.Positions.{positions-hold, lists-rise}
+use Rattle.fulltext.proofs.Laws.Least.{fits-iff, leastFrom-iff}
+use Rattle.matcher.proofs.Laws.Cursors.{seek-ge, seek-at, seek-below}
 use Rattle.matcher.proofs.Laws.Volume.{list-stretch, held, holds-at}
 use Rattle.matcher.proofs.Laws.Placed.{Voiced, voiced, voiced-list}
 use Rattle.matcher.proofs.Laws.Range.{range-missing, range-number, range-doc, range-small}
@@ -68,27 +68,20 @@ module _ (v : List ℕ) (ok : volume.Accepted v) (l : ℕ) (h : l < listCount v)
   pub list-before : Stretch v (first .at) (first .end)
   list-before = rw e (list-stretch v ok l h)
 
-  -- it is advanced past position p of document d
-  module _ (d p : ℕ) (moved : Cursor) (small : p ≤ 65535) (found : moved ≡ sought v (d * 65536 + p + 1) first) where
-    abbrev past : ℕ
-    past = moved .at
+  -- it reaches position p of document d
+  module _ (d p : ℕ) (r : Reached) (small : p ≤ 65535) (arrived : Arrived v (d * 65536 + p) (first .at) (first .end) r) where
+    abbrev there : ℕ
+    there = r .at
 
-    past-is : past ≡ seekFrom v (d * 65536 + p + 1) (start v l) (listEnd v l)
-    past-is = ap (λ (r : Cursor). r .at) found ∙ rw e refl
+    there-is : there ≡ seekFrom v (d * 65536 + p) (start v l) (listEnd v l)
+    there-is = arrived .at-is ∙ rw e refl
 
-    start-is : first .at ≡ start v l
-    start-is = rw e refl
+    end-is : first .end ≡ listEnd v l
+    end-is = rw e refl
 
-    within : (start v l ≤ past) × (past ≤ listEnd v l)
-    within =
-        let q = past-is in
-        let a = seek-ge v (d * 65536 + p + 1) (start v l) (listEnd v l) in
-        let b = seek-le v (d * 65536 + p + 1) (start v l) (listEnd v l) (omega arith) in
-        omega arith
-
-    -- a posting of the position stands right in front of it
-    there : Holds d p (listOf (listsOf v) l) → (start v l < past) × (word v (past - 1) ≡ d * 65536 + p)
-    there w = (let a = front in let b = from in omega arith, let a = not-above in let b = not-below in omega arith)
+    -- a posting of the position stands there
+    stands : Holds d p (listOf (listsOf v) l) → (there < listEnd v l) × (word v there ≡ d * 65536 + p)
+    stands w = (let a = back in let b = to in omega arith, let a = above in let b = not-above in omega arith)
       where
         k : (p < limit) × ((j : ℕ) × ((start v l ≤ j) × ((j < listEnd v l) × (word v j ≡ d * 65536 + p))))
         k = held v ok l h d p w
@@ -105,83 +98,60 @@ module _ (v : List ℕ) (ok : volume.Accepted v) (l : ℕ) (h : l < listCount v)
         same : word v j ≡ d * 65536 + p
         same = k .1 .1 .1 .1
 
-        beyond : past ≤ j → ⊥
-        beyond m =
-            let q = past-is in
+        front : j < there → ⊥
+        front m = let q = there-is in let b = from in let x = same in let r = seek-below v (d * 65536 + p) (start v l) (listEnd v l) j b (omega arith) in omega arith
+
+        back : there ≤ j
+        back = ⊎-elim (λ (m : j < there). absurd (front m)) (λ m. m) (below-or j there)
+
+        above : d * 65536 + p ≤ word v there
+        above =
+            let q = there-is in
+            let a = back in
             let b = to in
-            let x = same in
-            let r = seek-at v (d * 65536 + p + 1) (start v l) (listEnd v l) (omega arith) (omega arith) in
+            let r = seek-at v (d * 65536 + p) (start v l) (listEnd v l) (omega arith) (omega arith) in
             let y = ap (word v) q in
-            ⊎-elim
-            (λ (c : past < j). let o = list-stretch v ok l h .rising past j (within .0) c b in omega arith)
-            (λ (c : j ≤ past). let f : past ≡ j = omega arith in let g = ap (word v) f in omega arith)
-            (below-or past j)
-
-        front : j < past
-        front = ⊎-elim (λ m. m) (λ (m : past ≤ j). absurd (beyond m)) (below-or j past)
-
-        not-above : word v (past - 1) ≤ d * 65536 + p
-        not-above =
-            let q = past-is in
-            let a = front in
-            let b = from in
-            let r = seek-below v (d * 65536 + p + 1) (start v l) (listEnd v l) (past - 1) (omega arith) (omega arith) in
             omega arith
 
-        not-below : d * 65536 + p ≤ word v (past - 1)
-        not-below =
-            let a = front in
-            let b = from in
+        not-above : word v there ≤ d * 65536 + p
+        not-above =
+            let q = there-is in
             let x = same in
-            let m = within .1 in
+            let a = back in
+            let g = seek-ge v (d * 65536 + p) (start v l) (listEnd v l) in
             ⊎-elim
-            (λ (c : j < past - 1). let o = list-stretch v ok l h .rising j (past - 1) b c (omega arith) in omega arith)
-            (λ (c : past - 1 ≤ j). let f : past - 1 ≡ j = omega arith in let g = ap (word v) f in omega arith)
-            (below-or j (past - 1))
+            (λ (c : there < j). let o = list-stretch v ok l h .rising there j (omega arith) c to in omega arith)
+            (λ (c : j ≤ there). let f : there ≡ j = omega arith in let g = ap (word v) f in omega arith)
+            (below-or there j)
 
-    -- where it has moved there is a posting in front of it
-    pub list-passed : past ≢ first .at → (1 ≤ past) × (past - 1 < streamLength v)
-    list-passed n = let a = within in let b = start-is in let c = list-stretch v ok l h .within in (omega arith, omega arith)
+    -- the posting there is that of the position
+    pub found-there : r .bits ≡ d * 65536 + p → Found v l d p (record { at = r .at; end = first .end })
+    found-there same = record {
+      end-is = end-is;
+      at-is = λ m.
+          let q = there-is in
+          let g = seek-ge v (d * 65536 + p) (start v l) (listEnd v l) in
+          let f = end-is in
+          let b = arrived .bits-are m in
+          record { from = omega arith; inside = omega arith; small = small; word-is = omega arith };
+      out = λ m. let f = end-is in sym (decides.fails (positions-hold d p (listOf (listsOf v) l)) (λ w. let t = stands w .0 in omega arith));
+    }
 
-    pub list-without : past ≡ first .at → false ≡ elem p (positionsIn d (listOf (listsOf v) l))
-    list-without q = let b = start-is in sym (decides.fails (positions-hold d p (listOf (listsOf v) l)) (λ w. let t = there w .0 in omega arith))
-
-    pub list-with : (w : ℕ) → w ≡ word v (past - 1) → past ≢ first .at → eqb w (d * 65536 + p) ≡ elem p (positionsIn d (listOf (listsOf v) l))
-    list-with w x n =
-        ⊎-elim
-        (λ (y : w ≡ d * 65536 + p).
-        let a = within in
-        let b = start-is in
-        eq-eqb w (d * 65536 + p) y ∙ sym (decides.holds (positions-hold d p (listOf (listsOf v) l)) (holds-at v ok l h d p (past - 1) (omega arith) (omega arith) (omega arith) (sym x ∙ y))))
-        (λ (y : w ≢ d * 65536 + p). ne-eqb w (d * 65536 + p) y ∙ sym (decides.fails (positions-hold d p (listOf (listsOf v) l)) (λ t. y (x ∙ there t .1))))
-        (decides.decided (eqb-decides w (d * 65536 + p)))
-
-pub told-short : (ss : List ℕ) (c : Predicate) (ps : List ℕ) (x b : ℕ) → LeftShort ss c ps x b → false ≡ holds ss c ps
-told-short ss c ps x b s =
-    ⊎-elim
-    (λ (e : holds ss c ps ≡ true). let n = s .needs ps refl (λ y. omega arith) e in let m = s .before in absurd (let z : ⊥ = omega arith in z))
-    (λ (e : holds ss c ps ≡ false). sym e)
-    (true-or (holds ss c ps))
+    -- it is another
+    pub found-not : r .bits ≢ d * 65536 + p → Found v l d p (record { at = first .end; end = first .end })
+    found-not other = record {
+      end-is = end-is;
+      at-is = λ m. absurd (let z : ⊥ = omega arith in z);
+      out = λ m. sym (decides.fails (positions-hold d p (listOf (listsOf v) l)) (λ w. let t = stands w in let f = end-is in other (arrived .bits-are (let a = t .0 in omega arith) ∙ t .1)));
+    }
 
 starts-stand : (v : List ℕ) (d : ℕ) → Stands v 0 d (start v 0)
 starts-stand v d = record { from = omega arith; to = omega arith; behind = λ j a b. absurd (let z : ⊥ = omega arith in z) }
 
--- the row of predicate c, for n variables
-pub record Stated (p : List ℕ) (row n : ℕ) (c : Predicate) : Type 0 where
-  pub inside : row < rowCount p
-  pub few : row < mostRows
-  pub formed : formWrongAt p row ≡ false
-  pub kind-is : rowAt p row .kind ≡ kind.Condition c
-  pub names : namesBelow n c ≡ true
-  pub range : InRange (kind.Condition c)
-
--- the lists of the first x variables of pattern k hold their positions
-abbrev pub Listed : List ℕ → List ℕ → ℕ → ℕ → List ℕ → ℕ → Type 0
-Listed v p k d ps x = (y : ℕ) → y < x → Holds d (at ps y) (listOf (listsOf v) (getD (patternAt p k .vars) y 0))
-
--- its first m predicates hold
-abbrev pub Kept : List ℕ → List ℕ → ℕ → ℕ → List ℕ → ℕ → Type 0
-Kept v p k d ps m = (j : ℕ) → j < m → holds (startsIn (listsOf v) d) (getD (patternAt p k .predicates) j (Window 1)) ps ≡ true
+-- the first x variables, of these lists, stand at their positions
+pub record Brought (v : List ℕ) (d : ℕ) (vars ps ends here : List ℕ) (x : ℕ) : Type 0 where
+  pub at-are : (y : ℕ) → y < x → AtPos v (getD vars y 0) d (getD here y 0) (getD ps y 0)
+  pub ends-are : (y : ℕ) → y < x → getD ends y 0 ≡ listEnd v (getD vars y 0)
 
 -- positions ps for the variables of a pattern, in document d
 module _ {v p : List ℕ} {o : Outline} {d : ℕ} {ps : List ℕ} (posed : Asked v p o d ps) where
@@ -194,18 +164,12 @@ module _ {v p : List ℕ} {o : Outline} {d : ℕ} {ps : List ℕ} (posed : Asked
   abbrev vars : List ℕ
   vars = patternAt p k .vars
 
-  abbrev predicates : List Predicate
-  predicates = patternAt p k .predicates
-
-  -- the rows of its first variable, of its first predicate, and of its END
+  -- the rows of its first variable and of its first predicate
   abbrev firstVar : ℕ
   firstVar = o .condition - o .vars
 
   abbrev condition : ℕ
   condition = o .condition
-
-  abbrev last : ℕ
-  last = o .last
 
   pub vars-order : o .vars ≤ condition
   vars-order = posed .outlines .room
@@ -220,101 +184,96 @@ module _ {v p : List ℕ} {o : Outline} {d : ℕ} {ps : List ℕ} (posed : Asked
   pub voice-few : (x : ℕ) → x < length ps → firstVar + x < mostRows
   voice-few x h = let i = voice-of x h .inside in let r = posed-given .most-rows in omega arith
 
-  -- the list that is read of the VOICE row of variable x, and what it is told to hold
-  module _
-      (x : ℕ) (h : x < length ps) (l : ℕ) (r : rowAt p (firstVar + x) .kind ≡ kind.Voice l)
-      (t : Bool) (e : t ≡ elem (at ps x) (positionsIn d (listOf (listsOf v) l))) where
-    variable : t ≡ elem (at ps x) (positionsIn d (listOf (listsOf v) (getD vars x 0)))
-    variable = e ∙ ap (λ (l : ℕ). elem (at ps x) (positionsIn d (listOf (listsOf v) l))) (voiced-list (voice-of x h) l r)
+  -- the list that is read of the VOICE row of variable x, and a cursor on it
+  module _ (x : ℕ) (h : x < length ps) (l : ℕ) (r : rowAt p (firstVar + x) .kind ≡ kind.Voice l) (c : Cursor) (found : Found v l d (at ps x) c) where
+    variable : Found v (getD vars x 0) d (at ps x) c
+    variable = subst (λ (i : ℕ). Found v i d (at ps x) c) (voiced-list (voice-of x h) l r) found
 
-    pub listed-next : Listed v p k d ps x → t ≡ true → Listed v p k d ps (x + 1)
-    listed-next l q y m =
-        ⊎-elim (λ (a : y < x). l y a)
-        (λ (a : x ≤ y). let f : y ≡ x = omega arith in rw f (positions-hold d (at ps x) (listOf (listsOf v) (getD vars x 0)) .yes (sym variable ∙ q)))
-        (below-or y x)
+    pub at-next : (ends here : List ℕ) → Brought v d vars ps ends here x → x < length ends → x < length here → c .at < c .end → Brought v d vars ps (set ends x (c .end)) (set here x (c .at)) (x + 1)
+    at-next ends here b e g m = record {
+      at-are = λ y k. ⊎-elim
+          (λ (f : y ≡ x). rw (f, getD-set-same here x (c .at) 0 g) (variable .at-is m))
+          (λ (f : y ≢ x). rw (getD-set-other here x y (c .at) 0 f) (b .at-are y (omega arith)))
+          (decides.decided (eqb-decides y x));
+      ends-are = λ y k. ⊎-elim
+          (λ (f : y ≡ x). rw (f, getD-set-same ends x (c .end) 0 e) (variable .end-is))
+          (λ (f : y ≢ x). rw (getD-set-other ends x y (c .end) 0 f) (b .ends-are y (omega arith)))
+          (decides.decided (eqb-decides y x));
+    }
 
-    pub listed-not : t ≡ false → false ≡ fits (varsIn (listsOf v) d vars) ps
-    listed-not q =
-        let n = posed .number in
-        ⊎-elim
-        (λ (g : fits (varsIn (listsOf v) d vars) ps ≡ true). absurd (positions-hold d (at ps x) (listOf (listsOf v) (getD vars x 0)) .no (sym variable ∙ q) (fits-iff (listsOf v) d vars ps .0 g .1 x (omega arith))))
-        (λ (g : fits (varsIn (listsOf v) d vars) ps ≡ false). sym g)
-        (true-or (fits (varsIn (listsOf v) d vars) ps))
+    pub at-not : c .end ≤ c .at → (ends here : List ℕ) → StoodAt v d (patternAt p k) ps false ends here
+    at-not m ends here = record { fits-are = unfit; standing = λ t. absurd (true≢false (sym t)); ends-are = λ t. absurd (true≢false (sym t)) }
+      where
+        unfit : false ≡ fits (varsIn (listsOf v) d vars) ps
+        unfit =
+            let n = posed .number in
+            ⊎-elim
+            (λ (g : fits (varsIn (listsOf v) d vars) ps ≡ true). absurd (positions-hold d (at ps x) (listOf (listsOf v) (getD vars x 0)) .no (sym (variable .out m)) (fits-iff (listsOf v) d vars ps .0 g .1 x (omega arith))))
+            (λ (g : fits (varsIn (listsOf v) d vars) ps ≡ false). sym g)
+            (true-or (fits (varsIn (listsOf v) d vars) ps))
 
-  pub listed-all : (x : ℕ) → length ps ≤ x → Listed v p k d ps x → true ≡ fits (varsIn (listsOf v) d vars) ps
-  listed-all x h l = let n = posed .number in sym (fits-iff (listsOf v) d vars ps .1 (n, λ y m. l y (omega arith)))
+  pub at-all : (x : ℕ) (ends here : List ℕ) → length ps ≤ x → Brought v d vars ps ends here x → StoodAt v d (patternAt p k) ps true ends here
+  at-all x ends here h b =
+      let n = posed .number in
+      record {
+        fits-are = sym (fits-iff (listsOf v) d vars ps .1 (n, λ y m. holding y (omega arith)));
+        standing = λ t. record { each = λ y m. b .at-are y (omega arith) };
+        ends-are = λ t y m. b .ends-are y (omega arith);
+      }
+    where
+      holding : (y : ℕ) → y < length ps → Holds d (at ps y) (listOf (listsOf v) (getD vars y 0))
+      holding y m =
+          let w = b .at-are y (omega arith) in
+          let f = voice-of y m in
+          let s = w .small in
+          holds-at v (posed-given .volume-accepted) (getD vars y 0) (f .there) d (at ps y) (getD here y 0) (omega arith) (w .from) (w .inside) (w .word-is)
 
-  pub condition-order : condition ≤ last
-  condition-order = let e = posed .outlines .last-is in omega arith
+  -- the pattern in that document, with a cursor on list 0 at its first posting
+  pub at-posed : (ends : List ℕ) → length ps ≤ length ends → ((x : ℕ) → x < length vars → getD ends x 0 ≡ listEnd v (getD vars x 0)) → (s : Cursor) → s ≡ listCursor v 0 → Posed v p o (record { doc = d; starts = s }) ends
+  at-posed ends room are s q =
+      let n = posed .number in
+      let m = posed .outlines .vars-are in
+      record {
+        accepted = posed .accepted;
+        pattern = posed .pattern;
+        outlines = posed .outlines;
+        document = rw q (record { small = posed .doc-small; starts-at = starts-stand v d; starts-end = refl });
+        room = omega arith;
+        ends-are = λ x h. are x (omega arith);
+      }
 
-  module _ (row : ℕ) (from : condition ≤ row) (to : row < last) where
-    pub stated : Stated p row (length ps) (getD predicates (row - condition) (Window 1))
-    stated =
-        let e = posed .outlines in
-        let l = e .last-is in
-        let i = e .inside in
-        let j : row - condition < length predicates = omega arith in
-        let g = posed-given in
-        let w = g .well-made k (posed .pattern) in
-        let q : condition + (row - condition) ≡ row = omega arith in
-        record {
-          inside = omega arith;
-          few = let m = g .most-rows in omega arith;
-          formed = g .formed row (omega arith);
-          kind-is = rw q at (e .conditions (row - condition) j);
-          names = rw (posed .number) (w .names (row - condition) j);
-          range = w .ranges (row - condition) j;
-        }
+  pub few-vars : length ps ≤ 8
+  few-vars = let n = posed .number in let m = posed-given .well-made k (posed .pattern) .most-vars in omega arith
 
-    -- what `predicate_at` requires
-    pub stated-asks : (row < rowCount p) × ((formWrongAt p row ≡ false) × ((c : Predicate) × (rowAt p row .kind ≡ kind.Condition c)))
-    stated-asks = let w = stated in (w .inside, (w .formed, (getD predicates (row - condition) (Window 1), w .kind-is)))
+-- positions at the front of an array
+pub front-take : (ps out moved : List ℕ) → moved ≡ take (length ps) ps ++ drop (0 + length ps) out → take (length ps) moved ≡ ps
+front-take ps out moved e = ap (take (length ps)) e ∙ take-at (take (length ps) ps) (drop (0 + length ps) out) (length ps) (ap length (take-length ps)) ∙ take-length ps
 
-    -- the predicate that the row states
-    stated-as : (c : Predicate) → rowAt p row .kind ≡ kind.Condition c → getD predicates (row - condition) (Window 1) ≡ c
-    stated-as c e = let q : kind.Condition (getD predicates (row - condition) (Window 1)) ≡ kind.Condition c = sym (stated .kind-is) ∙ e in cc
+pub front-standing : (v : List ℕ) (d : ℕ) (f : Pattern) (here ps moved : List ℕ) → length ps ≡ length (f .vars) → take (length ps) moved ≡ ps → Standing v d f here ps → Standing v d f here moved
+front-standing v d f here ps moved n e s = record {
+  each = λ x h.
+      let a = getD-take (length ps) moved x 0 (omega arith) in
+      let b = ap (λ (qs : List ℕ). getD qs x 0) e in
+      let q : getD moved x 0 ≡ getD ps x 0 = omega arith in
+      rw q (s .each x h);
+}
 
-    stated-of : (c : Predicate) → rowAt p row .kind ≡ kind.Condition c → Stated p row (length ps) c
-    stated-of c e = rw (stated-as c e) at stated
+-- a search with every variable held finds the positions themselves, or they do not match
+module _ (v : List ℕ) (ok : volume.Accepted v) (d : ℕ) (f : Pattern) (ps : List ℕ) where
+  pub held-match : (r : Bool) (qs : List ℕ) → length qs ≡ length ps → HeldMatch (listsOf v) d f ps (length ps) r qs → r ≡ matchesAt (listsOf v) d f ps
+  held-match true qs size h =
+      let same : qs ≡ ps = ext-getD 0 qs ps size (λ i k. h .same refl i (omega arith)) in
+      sym (subst (λ (rs : List ℕ). matchesAt (listsOf v) d f rs ≡ true) same (leastFrom-iff (listsOf v) (lists-rise v ok) d f ps qs .0 (h .least refl) .0 .0))
+  held-match false qs size h =
+      ⊎-elim
+      (λ (e : matchesAt (listsOf v) d f ps ≡ true). absurd (h .missed refl ps (e, λ x. omega arith) (λ x l. refl)))
+      (λ (e : matchesAt (listsOf v) d f ps ≡ false). sym e)
+      (true-or (matchesAt (listsOf v) d f ps))
 
-    -- what `predicate_holds` requires, with a cursor at the first posting of list 0
-    pub predicate-asked : (c : Predicate) → rowAt p row .kind ≡ kind.Condition c → (s : Cursor) → s ≡ listCursor v 0
-        → volume.Accepted v × (AtDocument v (record { doc = d; starts = s }) × ((1 ≤ length ps) × (InDocument ps × ((namesBelow (length ps) c ≡ true) × InRange (kind.Condition c)))))
-    predicate-asked c e s q =
-        let w = stated-of c e in
-        let g = posed-given in
-        let m = g .well-made k (posed .pattern) .some-vars in
-        let n = posed .number in
-        rw q (g .volume-accepted, (record { small = posed .doc-small; starts-at = starts-stand v d; starts-end = refl }, (omega arith, (posed .small, (w .names, w .range)))))
-
-  module _ (row : ℕ) (from : condition ≤ row) (to : row < last) (c : Predicate) (e : rowAt p row .kind ≡ kind.Condition c) (t : Bool) (f : t ≡ holds (startsIn (listsOf v) d) c ps) where
-    predicate : t ≡ holds (startsIn (listsOf v) d) (getD predicates (row - condition) (Window 1)) ps
-    predicate = rw (stated-as row from to c e) f
-
-    pub kept-next : Kept v p k d ps (row - condition) → t ≡ true → Kept v p k d ps (row + 1 - condition)
-    kept-next l q j m =
-        ⊎-elim (λ (a : j < row - condition). l j a)
-        (λ (a : row - condition ≤ j). let g : j ≡ row - condition = omega arith in rw g (sym predicate ∙ q))
-        (below-or j (row - condition))
-
-    pub kept-not : t ≡ false → false ≡ allHold (startsIn (listsOf v) d) predicates ps
-    kept-not q =
-        let l = posed .outlines .last-is in
-        ⊎-elim
-        (λ (g : allHold (startsIn (listsOf v) d) predicates ps ≡ true). absurd (contrary (allHold-iff (startsIn (listsOf v) d) predicates ps .0 g (row - condition) (omega arith)) (sym predicate ∙ q)))
-        (λ (g : allHold (startsIn (listsOf v) d) predicates ps ≡ false). sym g)
-        (true-or (allHold (startsIn (listsOf v) d) predicates ps))
-
-  pub kept-all : (row : ℕ) → last ≤ row → Kept v p k d ps (row - condition) → true ≡ allHold (startsIn (listsOf v) d) predicates ps
-  kept-all row h l = let e = posed .outlines .last-is in sym (allHold-iff (startsIn (listsOf v) d) predicates ps .1 (λ j m. l j (omega arith)))
-
--- a match, by its two parts
+-- positions that the lists do not hold do not match
 module _ (lists : List (List ℕ)) (d : ℕ) (f : Pattern) (ps : List ℕ) where
   pub match-not : (t : Bool) → t ≡ fits (varsIn lists d (f .vars)) ps → t ≡ false → false ≡ matchesAt lists d f ps
   match-not t e q = let w : fits (varsIn lists d (f .vars)) ps ≡ false = sym e ∙ q in rw w
-
-  pub match-rest : (t u : Bool) → t ≡ fits (varsIn lists d (f .vars)) ps → t ≡ true → u ≡ allHold (startsIn lists d) (f .predicates) ps → u ≡ matchesAt lists d f ps
-  match-rest t u e q g = let w : fits (varsIn lists d (f .vars)) ps ≡ true = sym e ∙ q in rw w g
 
 -- the answer, by the verdict
 module _ (v p : List ℕ) (k d : ℕ) (ps : List ℕ) where

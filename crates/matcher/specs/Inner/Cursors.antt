@@ -8,6 +8,7 @@ use Rattle.seq.specs.Numbers.{firstFrom}
 use Rattle.volume.specs.Layout.{streamLength, word, count, start}
 use Rattle.matcher.specs.declared.cursor.Cursor.{Cursor}
 use Rattle.matcher.specs.declared.cursor.Document.{Document}
+use Rattle.matcher.specs.declared.cursor.Reached.{Reached}
 
 -- the first stream index from i up to e whose word is not below target; e where there is none
 unfoldable pub seekFrom : List ℕ → ℕ → ℕ → ℕ → ℕ
@@ -28,6 +29,11 @@ sought v target c = record { at = seekFrom v target (c .at) (c .end); end = c .e
 pub record Forward (c r : Cursor) : Type 0 where
   pub same-end : r .end ≡ c .end
   pub not-back : c .at ≤ r .at
+
+-- a cursor has come behind the words below target, and has read the word there
+pub record Arrived (v : List ℕ) (target i e : ℕ) (r : Reached) : Type 0 where
+  pub at-is : r .at ≡ seekFrom v target i e
+  pub bits-are : r .at < e → r .bits ≡ word v (r .at)
 
 -- the stream index behind list l
 abbrev pub listEnd : List ℕ → ℕ → ℕ

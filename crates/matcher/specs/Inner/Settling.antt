@@ -1,10 +1,12 @@
 -- One pattern in one document: where its variables stand on the way to its least match. Assumes nothing.
 use Prim.Native.Nat.{ℕ, _+_, _*_, _<_, _≤_}
 use mathlib.Core.Path.{_≡_}
-use mathlib.Core.Bool.{Bool, true, false}
+use mathlib.Core.Bool.{Bool, true, false, cond}
 use mathlib.Core.List.{List}
 use mathlib.Core.Option.{Option, none, some}
 use mathlib.Core.Logic.{_⊎_, _≢_}
+use lib.Dec.{eqb}
+use Rattle.seq.specs.Lists.{elem}
 use lib.ListN.{length, getD, set}
 use Rattle.volume.specs.Posting.{docOf, posOf}
 use Rattle.volume.specs.Layout.{word, start, listsOf}
@@ -13,29 +15,14 @@ use Rattle.plan.specs.Check.{Accepted, sizes}
 use Rattle.plan.specs.Accepted.{patternAt}
 use Rattle.fulltext.specs.Calculus.{at}
 use Rattle.fulltext.specs.Inner.Bounds.{MatchFrom}
+use Rattle.matcher.specs.declared.cursor.Cursor.{Cursor}
 use Rattle.matcher.specs.declared.cursor.Document.{Document}
-use Rattle.matcher.specs.Inner.Cursors.{seekFrom, listEnd, Stands, AtDocument}
+use Rattle.matcher.specs.Inner.Cursors.{seekFrom, listEnd, AtDocument}
 use Rattle.matcher.specs.Inner.Shortfall.{InDocument}
 use Rattle.plan.specs.declared.outline.Outline.{Outline}
-use Rattle.plan.specs.Inner.Outline.{varsBefore, Outlines, Entry}
-use Rattle.matcher.specs.Inner.Tables.{varAt}
-use Rattle.fulltext.specs.Positions.{limit}
-use Rattle.fulltext.specs.Documents.{found}
-
--- x is one of n variables from `first` on
-abbrev pub Among : ℕ → ℕ → ℕ → Type 0
-Among first n x = (first ≤ x) × (x < first + n)
-
--- pattern k can be found in document r and in none from document d up to r; its cursors stand there. r is 65,536 where no document is
--- left
-pub record Candidate (v p ats ends : List ℕ) (k d r : ℕ) : Type 0 where
-  pub from : d ≤ r
-  pub to : r ≤ limit
-  pub absent : (e : ℕ) → d ≤ e → e < r → found (listsOf v) e (patternAt p k) ≡ false
-  pub stands : (x : ℕ) → Among (varsBefore p k) (length (patternAt p k .vars)) x
-      → Stands v (varAt p x) r (getD ats x 0) × (getD ends x 0 ≡ listEnd v (varAt p x))
-  pub here : r < limit → (x : ℕ) → Among (varsBefore p k) (length (patternAt p k .vars)) x
-      → (getD ats x 0 < getD ends x 0) × (docOf (word v (getD ats x 0)) ≡ r)
+use Rattle.plan.specs.Inner.Outline.{Outlines}
+use Rattle.fulltext.specs.Positions.{listOf, positionsIn}
+use Rattle.fulltext.specs.Matches.{fits, varsIn}
 
 -- stream index i is that of position q of document d in list l
 pub record AtPos (v : List ℕ) (l d i q : ℕ) : Type 0 where
@@ -61,6 +48,15 @@ Jumped v d e b x here ps false here′ ps′ =
 pub record Standing (v : List ℕ) (d : ℕ) (f : Pattern) (here ps : List ℕ) : Type 0 where
   pub each : (x : ℕ) → x < length (f .vars) → AtPos v (getD (f .vars) x 0) d (getD here x 0) (getD ps x 0)
 
+-- the first n of some numbers may have changed, and no other
+pub record Within (n : ℕ) (before after : List ℕ) : Type 0 where
+  pub same-length : length after ≡ length before
+  pub rest : (x : ℕ) → n ≤ x → getD after x 0 ≡ getD before x 0
+
+-- the turn behind turn i of n
+abbrev pub turned : ℕ → ℕ → ℕ
+turned i n = cond (eqb (i + 1) n) 0 (i + 1)
+
 -- they stand at bs or behind, and no match from bs on is in front of them
 pub record Low (v : List ℕ) (d : ℕ) (f : Pattern) (bs here ps : List ℕ) : Type 0 where
   pub standing : (x : ℕ) → x < length (f .vars) → AtPos v (getD (f .vars) x 0) d (getD here x 0) (getD ps x 0)
@@ -82,15 +78,18 @@ pub record Posed (v p : List ℕ) (o : Outline) (doc : Document) (ends : List �
   pub room : o .vars ≤ length ends
   pub ends-are : (x : ℕ) → x < o .vars → getD ends x 0 ≡ listEnd v (getD (patternAt p (o .pattern) .vars) x 0)
 
--- a pattern, given by its outline and the cursors of all variables, can be found next in document r, which is this one or a later one
-pub record Ready (v p : List ℕ) (o : Outline) (doc : Document) (ats ends : List ℕ) (r : ℕ) : Type 0 where
-  pub accepted : Accepted v p
-  pub pattern : o .pattern < sizes p .patterns
-  pub entry : Entry p o
-  pub document : AtDocument v doc
-  pub ats-room : sizes p .vars ≤ length ats
-  pub ends-room : sizes p .vars ≤ length ends
-  pub candidate : Candidate v p ats ends (o .pattern) (doc .doc) r
+-- a cursor on list l at position q of document d; at the list's end where the list does not hold it
+pub record Found (v : List ℕ) (l d q : ℕ) (c : Cursor) : Type 0 where
+  pub end-is : c .end ≡ listEnd v l
+  pub at-is : c .at < c .end → AtPos v l d (c .at) q
+  pub out : c .end ≤ c .at → false ≡ elem q (positionsIn d (listOf (listsOf v) l))
+
+-- the variables of a pattern are brought to positions ps of document d, and `ends` has the ends of their lists; or a list does not hold its
+-- position
+pub record StoodAt (v : List ℕ) (d : ℕ) (f : Pattern) (ps : List ℕ) (r : Bool) (ends here : List ℕ) : Type 0 where
+  pub fits-are : r ≡ fits (varsIn (listsOf v) d (f .vars)) ps
+  pub standing : r ≡ true → Standing v d f here ps
+  pub ends-are : r ≡ true → (x : ℕ) → x < length (f .vars) → getD ends x 0 ≡ listEnd v (getD (f .vars) x 0)
 
 -- positions for the variables of a pattern of an accepted plan, in document d
 pub record Asked (v p : List ℕ) (o : Outline) (d : ℕ) (ps : List ℕ) : Type 0 where

@@ -2,8 +2,8 @@
 --     tabled-part, cursors-part     the parts of what is laid out that the walk is handed
 --     walking-first             before the first document
 --     seen-from, seen-none      it is not in front of the document that was reached; no document between is true
---     seen-out, seen-in         there is none; its found patterns, its row, and where the walk goes on
---     seen-ready                what its row asks
+--     seen-here                 each pattern in the document
+--     seen-out, seen-in         there is none; its found patterns, their positions, and where the walk goes on
 --     seen-true                 whether it is true
 --     starts-later, starts-sought, starts-stretch     the cursor on list 0
 -- Assumes nothing.
@@ -26,17 +26,16 @@ use Rattle.plan.specs.Check.{sizes}
 use Rattle.plan.proofs.Laws.Accepted.{given}
 use Rattle.matcher.specs.declared.cursor.Cursor.{Cursor}
 use Rattle.fulltext.specs.Positions.{limit}
-use Rattle.fulltext.specs.Documents.{found, matching, rowIn, workOf, work}
+use Rattle.fulltext.specs.Documents.{found, matching, workOf, work}
 use Rattle.fulltext.proofs.Laws.Skips.{matching-none}
 use Rattle.matcher.specs.Inner.Cursors.{seekFrom, Stretch, listEnd, Stands, listCursor}
-use Rattle.plan.specs.Inner.Outline.{outlineAt, Tabled}
+use Rattle.plan.specs.Inner.Outline.{Tabled}
 use Rattle.matcher.specs.Inner.Tables.{varAt, Placed, Cursors}
-use Rattle.matcher.specs.Inner.Settling.{Candidate, Ready}
 use Rattle.matcher.proofs.Laws.Cursors.{seek-ge, seek-le, seek-below}
 use Rattle.matcher.proofs.Laws.Volume.{list-stretch}
 use Rattle.plan.proofs.Laws.Outline.{vars-within}
 use Rattle.plan.specs.Inner.Stack.{foundBits}
-use Rattle.search.specs.Inner.Walk.{Stood, Pending, Brought, LeastDoc, Walks, Walking, Visited}
+use Rattle.search.specs.Inner.Walk.{Stood, Candidate, Pending, Brought, LeastDoc, Walks, SettledAll, Walking, Visited}
 use Rattle.search.proofs.Laws.Tally.{var-there}
 
 -- the words of a row, by the plan's sizes
@@ -70,7 +69,7 @@ pub seen-true : (v p : List ℕ) (bits doc : ℕ) (r : Bool) → ((found : Patte
 unfolding work workOf matching
 seen-true v p bits doc r told f = sym (told (found (listsOf v) doc) f)
 
-module _ (v p table ends : List ℕ) (w : Walks v p table ends) where
+module _ (v p table orders ends : List ℕ) (w : Walks v p table orders ends) where
   -- the words that the cursor on list 0 has before it
   pub starts-stretch : (from : ℕ) (c : Cursor) → Stands v 0 from (c .at) → c .end ≡ listEnd v 0 → Stretch v (c .at) (c .end)
   starts-stretch from c s e =
@@ -78,12 +77,14 @@ module _ (v p table ends : List ℕ) (w : Walks v p table ends) where
       let l = list-stretch v g 0 (good v g .lists-some) in
       rw e (record { order = s .to; within = l .within; rising = λ i j a b k. let f = s .from in l .rising i j (omega arith) b k })
 
-  pub walking-first : (start : ℕ) (firsts ats docs : List ℕ) → start ≤ limit → sizes p .vars ≤ length firsts → Cursors v p start firsts ends → ats ≡ firsts → length docs ≡ sizes p .patterns
-      → (starts : Cursor) → starts ≡ listCursor v 0 → Walking v p ends ats docs start true starts
-  walking-first start firsts ats docs low room placed same d starts e = record {
+  pub walking-first : (start : ℕ) (firsts ats ps docs : List ℕ) → start ≤ limit → sizes p .vars ≤ length firsts → sizes p .vars ≤ length ps
+      → Cursors v p start firsts ends → ats ≡ firsts → length docs ≡ sizes p .patterns
+      → (starts : Cursor) → starts ≡ listCursor v 0 → Walking v p ends ats ps docs start true starts
+  walking-first start firsts ats ps docs low room reach placed same d starts e = record {
     to = low;
     docs-length = d;
     ats-room = rw same room;
+    positions-room = reach;
     pending = λ k h. record { due = λ c. stood k h; ahead = λ n. absurd (true≢false n) };
     starts-at = rw e (record { from = omega arith; to = omega arith; behind = λ j a b. absurd (let z : ⊥ = omega arith in z) });
     starts-end = ap (λ (c : Cursor). c .end) e;
@@ -108,7 +109,8 @@ module _ (v p table ends : List ℕ) (w : Walks v p table ends) where
             behind = λ j b c. seek-below v (start * 65536) (layout.start v (varAt p x)) (listEnd v (varAt p x)) j b c;
           })
 
-  module _ (ats₀ docs₀ ats docs : List ℕ) (from doc : ℕ) (b : Brought v p ends ats₀ docs₀ from ats docs) (l : LeastDoc docs (length docs) doc) (size : length docs₀ ≡ sizes p .patterns) where
+  module _ (ats₀ ps₀ docs₀ ats ps docs : List ℕ) (from doc : ℕ) (b : Brought v p ends ats₀ ps₀ docs₀ from ats ps docs)
+      (l : LeastDoc docs (length docs) doc) (size : length docs₀ ≡ sizes p .patterns) where
     docs-size : length docs ≡ sizes p .patterns
     docs-size = b .docs-length ∙ size
 
@@ -128,61 +130,58 @@ module _ (v p table ends : List ℕ) (w : Walks v p table ends) where
     seen-none j f h = matching-none (listsOf v) (rowsOf p) j (λ k i. b .each k i .absent j f (let m = least k i in omega arith))
 
     -- each pattern in the document
-    here : (k : ℕ) → k < sizes p .patterns → Candidate v p ats ends k doc (getD docs k 0)
-    here k i = let c = b .each k i in record {
+    pub seen-here : (k : ℕ) → k < sizes p .patterns → Candidate v p ats ends ps k doc (getD docs k 0)
+    seen-here k i = let c = b .each k i in record {
       from = least k i;
       to = c .to;
       absent = λ e f h. c .absent e (let z = seen-from in omega arith) h;
       stands = c .stands;
       here = c .here;
+      pos = c .pos;
     }
 
-    pub seen-ready : doc < limit → (starts : Cursor) → Stands v 0 doc (starts .at) → starts .end ≡ listEnd v 0 → sizes p .vars ≤ length ats → (k : ℕ) → k < sizes p .patterns
-        → Ready v p (outlineAt table k) (record { doc = doc; starts = starts }) ats ends (getD docs k 0)
-    seen-ready h starts s e room k i = record {
-      accepted = w .accepted;
-      pattern = i;
-      entry = w .tabled k i;
-      document = record { small = omega arith; starts-at = s; starts-end = e };
-      ats-room = room;
-      ends-room = w .ends-room;
-      candidate = here k i;
-    }
-
-    pub seen-out : (starts : Cursor) (row : List ℕ) → doc ≡ limit → Visited v p ends from (record { doc = doc; found = 0; starts = starts }) ats docs row
-    seen-out starts row e = record {
+    pub seen-out : (starts : Cursor) → doc ≡ limit → Visited v p ends from (record { doc = doc; found = 0; starts = starts }) ats ps docs
+    seen-out starts e = record {
       later = seen-from;
       most = l .most;
       none = seen-none;
       found-are = λ h. absurd (let z : ⊥ = omega arith in z);
-      shown = λ h. absurd (let z : ⊥ = omega arith in z);
+      least = λ h. absurd (let z : ⊥ = omega arith in z);
       walking = λ h. absurd (let z : ⊥ = omega arith in z);
     }
 
-    pub seen-in : (bits : ℕ) (starts : Cursor) (row : List ℕ) → bits ≡ foundBits (found (listsOf v) doc) p → take (rowWords (sizes p .patterns) (sizes p .vars)) row ≡ rowIn (listsOf v) (rowsOf p) doc
-        → Stands v 0 doc (starts .at) → starts .end ≡ listEnd v 0 → sizes p .vars ≤ length ats → Visited v p ends from (record { doc = doc; found = bits; starts = starts }) ats docs row
-    unfolding work workOf
-    seen-in bits starts row f shown s e room = record {
+    pub seen-in : (bits : ℕ) (starts : Cursor) (nexts qs : List ℕ) → SettledAll v p ends docs doc ats ps bits nexts qs
+        → Stands v 0 doc (starts .at) → starts .end ≡ listEnd v 0 → sizes p .vars ≤ length ats → sizes p .vars ≤ length ps
+        → Visited v p ends from (record { doc = doc; found = bits; starts = starts }) nexts qs docs
+    seen-in bits starts nexts qs t s e room reach = record {
       later = seen-from;
       most = l .most;
       none = seen-none;
-      found-are = λ h. f;
-      shown = λ h. ap (λ (n : ℕ). take n row) (work-words v p) ∙ shown;
+      found-are = λ h. t .bits-are;
+      least = λ h. t .least;
       walking = λ h. record {
         to = omega arith;
         docs-length = docs-size;
-        ats-room = room;
+        ats-room = let m = t .ats-length in omega arith;
+        positions-room = let m = t .positions-length in omega arith;
         pending = pending;
         starts-at = starts-later v 0 doc (doc + 1) (starts .at) (omega arith) s;
         starts-end = e;
       };
     }
       where
-        near : (k : ℕ) → k < sizes p .patterns → getD docs k 0 < doc + 1 → Stood v p ats ends k (doc + 1)
-        near k i h x a = let q = here k i .stands x a in (starts-later v (varAt p x) (getD docs k 0) (doc + 1) (getD ats x 0) (omega arith) (q .0), q .1)
+        near : (k : ℕ) → k < sizes p .patterns → getD docs k 0 < doc + 1 → Stood v p nexts ends k (doc + 1)
+        near k i h = t .stood k i (let m = least k i in omega arith)
 
-        pending : (k : ℕ) → k < sizes p .patterns → Pending v p ats ends k (doc + 1) (getD docs k 0) false
+        pending : (k : ℕ) → k < sizes p .patterns → Pending v p nexts ends qs k (doc + 1) (getD docs k 0) false
         pending k i = record {
           due = λ c. ⊎-elim (λ (f : false ≡ true). absurd (true≢false (sym f))) (near k i) c;
-          ahead = λ n m. let c = here k i in record { from = m; to = c .to; absent = λ j f h. c .absent j (omega arith) h; stands = c .stands; here = c .here };
+          ahead = λ n m. let c = t .kept k i (λ q. omega arith) in record {
+            from = m;
+            to = c .to;
+            absent = λ j f h. c .absent j (omega arith) h;
+            stands = c .stands;
+            here = c .here;
+            pos = c .pos;
+          };
         }

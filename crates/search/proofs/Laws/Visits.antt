@@ -3,6 +3,7 @@
 --     visiting-first                before the first document
 --     visiting-part, part-length     the patterns' documents at the front of an array
 --     visit-reached                 the rows that are laid when the next document in which a pattern can be found is reached
+--     visit-row, visit-wide         its row from its bits and positions, and how many words it has
 --     visit-passed, visit-put       behind it, with or without its row
 --     visit-room, visit-words       one more row fits; the words of all rows are few
 --     visit-rows                    the rows are no more than the documents
@@ -11,7 +12,7 @@
 use Prim.Native.Nat.{ℕ, _+_, _-_, _*_, _/_, _<_, _≤_}
 use native.Mathlib.Omega.{arith}
 use native.Mathlib.Nat.{add-mul, one-mul, mul-le-mul-left, mul-le-mul-right, le-div-iff-mul-le}
-use mathlib.Core.Path.{_≡_, refl, sym, ap, subst, _∙_}
+use mathlib.Core.Path.{_≡_, refl, sym, ap, ap₂, subst, _∙_}
 use mathlib.Core.Bool.{true, false}
 use mathlib.Core.Logic.{_≢_}
 use mathlib.Core.List.{List, _++_}
@@ -35,22 +36,28 @@ use Rattle.fulltext.proofs.Laws.Counts.{work-even, work-wide}
 use Rattle.search.specs.declared.walk.Seen.{Seen}
 use Rattle.search.specs.Answers.{done, more}
 use Rattle.search.specs.Search.{Kept}
+use Rattle.search.specs.Inner.Rows.{rowBy}
 use Rattle.search.specs.Inner.Walk.{Walks, Walking, Visited}
 use Rattle.search.proofs.Laws.Loop.{Progress, begins, same-size, room-rows, over, wrote}
 use Rattle.search.proofs.Laws.Listing.{stops-kept, ends-kept}
+use Rattle.search.proofs.Laws.Rows.{row-is}
 use Rattle.search.proofs.Laws.Seen.{work-words}
 
-pub record Visiting (v p ends : List ℕ) (start : ℕ) (out₀ ats docs out : List ℕ) (from rows : ℕ) (starts : Cursor) : Type 0 where
+pub record Visiting (v p ends : List ℕ) (start : ℕ) (out₀ ats ps docs out : List ℕ) (from rows : ℕ) (starts : Cursor) : Type 0 where
   pub progress : Progress (work v p) start out₀ from rows out
-  pub walking : Walking v p ends ats docs from (eqb from start) starts
+  pub walking : Walking v p ends ats ps docs from (eqb from start) starts
 
-pub visiting-first : (v p ends : List ℕ) (start : ℕ) (out₀ ats docs : List ℕ) (starts : Cursor) → start ≤ limit → Walking v p ends ats docs start true starts → Visiting v p ends start out₀ ats docs out₀ start 0 starts
-visiting-first v p ends start out₀ ats docs starts h w = record { progress = begins (work v p) start out₀ h; walking = rw (eq-eqb start start refl) w }
+pub visiting-first : (v p ends : List ℕ) (start : ℕ) (out₀ ats ps docs : List ℕ) (starts : Cursor) → start ≤ limit
+    → Walking v p ends ats ps docs start true starts → Visiting v p ends start out₀ ats ps docs out₀ start 0 starts
+visiting-first v p ends start out₀ ats ps docs starts h w =
+    record { progress = begins (work v p) start out₀ h; walking = rw (eq-eqb start start refl) w }
 
 -- the patterns' documents stand at the front of an array
-pub visiting-part : (v p ends : List ℕ) (start : ℕ) (out₀ ats part rest out : List ℕ) (from rows : ℕ) (starts : Cursor) (n : ℕ) → n ≡ sizes p .patterns
-    → Visiting v p ends start out₀ ats part out from rows starts → Visiting v p ends start out₀ ats (take n (part ++ rest)) out from rows starts
-visiting-part v p ends start out₀ ats part rest out from rows starts n e i = rw (take-at part rest n (i .walking .docs-length ∙ sym e)) i
+pub visiting-part : (v p ends : List ℕ) (start : ℕ) (out₀ ats ps part rest out : List ℕ) (from rows : ℕ) (starts : Cursor) (n : ℕ)
+    → n ≡ sizes p .patterns → Visiting v p ends start out₀ ats ps part out from rows starts
+    → Visiting v p ends start out₀ ats ps (take n (part ++ rest)) out from rows starts
+visiting-part v p ends start out₀ ats ps part rest out from rows starts n e i =
+    rw (take-at part rest n (i .walking .docs-length ∙ sym e)) i
 
 pub part-length : (xs part : List ℕ) (n m : ℕ) → length part ≡ length (take n xs) → length xs ≡ m → length (part ++ drop n xs) ≡ m
 part-length xs part n m e l = length-append part (drop n xs) ∙ ap (λ (k : ℕ). k + length (drop n xs)) e ∙ sym (length-append (take n xs) (drop n xs)) ∙ ap length (take-append-drop n xs) ∙ l
@@ -64,39 +71,59 @@ docs-few w a b = let k = keep-le (w .isTrue) (run (λ d. d) a (b - a)) in let l 
 pub visit-rows : (v p : List ℕ) (start : ℕ) (out₀ out : List ℕ) (d n : ℕ) → Progress (work v p) start out₀ d n out → n ≤ 65536
 visit-rows v p start out₀ out d n g = let l = docs-few (work v p) start d in let t = g .to in let r = g .rows in omega arith
 
-module _ (v p ends : List ℕ) (start : ℕ) (out₀ : List ℕ) (from : ℕ) (seen : Seen) (ats docs row : List ℕ) (s : Visited v p ends from seen ats docs row) (rows : ℕ) (out : List ℕ) (g : Progress (work v p) start out₀ from rows out) where
+-- the row of the document, from its bits and positions, and its words
+module _ (v p table orders ends : List ℕ) (w : Walks v p table orders ends) (from : ℕ) (seen : Seen) (ats ps docs : List ℕ)
+    (s : Visited v p ends from seen ats ps docs) (inside : seen .doc < limit) (n : ℕ) (e : n ≡ sizes p .patterns) where
+  visit-row : rowBy table (seen .doc) (seen .found) ps n ≡ work v p .rowOf (seen .doc)
+  visit-row =
+      let room = s .walking inside .positions-room in
+      row-is v p table (w .tabled) (seen .doc) (seen .found) ps (s .found-are inside) (s .least inside) room n e
+
+  pub visit-wide : length (rowBy table (seen .doc) (seen .found) ps n) ≡ rowWords (sizes p .patterns) (sizes p .vars)
+  visit-wide = ap length visit-row ∙ work-even v p (seen .doc) ∙ work-words v p
+
+module _ (v p ends : List ℕ) (start : ℕ) (out₀ : List ℕ) (from : ℕ) (seen : Seen) (ats ps docs : List ℕ)
+    (s : Visited v p ends from seen ats ps docs) (rows : ℕ) (out : List ℕ) (g : Progress (work v p) start out₀ from rows out) where
   pub visit-reached : Progress (work v p) start out₀ (seen .doc) rows out
   visit-reached = over (work v p) (work-even v p) g (seen .doc) (s .later) (s .most) (s .none)
 
   module _ (inside : seen .doc < limit) where
     -- it is behind the first document
-    onward : Walking v p ends ats docs (seen .doc + 1) (eqb (seen .doc + 1) start) (seen .starts)
+    onward : Walking v p ends ats ps docs (seen .doc + 1) (eqb (seen .doc + 1) start) (seen .starts)
     onward = rw (ne-eqb (seen .doc + 1) start (λ e. let f = g .from in let l = s .later in omega arith)) (s .walking inside)
 
-    pub visit-passed : work v p .isTrue (seen .doc) ≡ false → Visiting v p ends start out₀ ats docs out (seen .doc + 1) rows (seen .starts)
+    pub visit-passed : work v p .isTrue (seen .doc) ≡ false
+        → Visiting v p ends start out₀ ats ps docs out (seen .doc + 1) rows (seen .starts)
     visit-passed t = record {
       progress = over (work v p) (work-even v p) visit-reached (seen .doc + 1) (omega arith) (omega arith) (λ j a b. let q : j ≡ seen .doc = omega arith in rw q t);
       walking = onward;
     }
 
     -- the row is put behind the others, where one more fits
-    pub visit-put : work v p .isTrue (seen .doc) ≡ true → (wide : ℕ) → wide ≡ rowWords (sizes p .patterns) (sizes p .vars) → rows ≢ length out₀ / wide → (out′ : List ℕ)
-        → out′ ≡ take (rows * wide) out ++ take wide row ++ drop (rows * wide + wide) out
-        → Visiting v p ends start out₀ ats docs out′ (seen .doc + 1) (rows + 1) (seen .starts)
-    visit-put t wide e less out′ put = record {
+    pub visit-put : work v p .isTrue (seen .doc) ≡ true → (wide : ℕ) → wide ≡ rowWords (sizes p .patterns) (sizes p .vars)
+        → rows ≢ length out₀ / wide → (table orders : List ℕ) → Walks v p table orders ends → (n : ℕ) → n ≡ sizes p .patterns
+        → (out′ : List ℕ)
+        → out′ ≡ take (rows * wide) out ++ rowBy table (seen .doc) (seen .found) ps n
+        ++ drop (rows * wide + length (rowBy table (seen .doc) (seen .found) ps n)) out
+        → Visiting v p ends start out₀ ats ps docs out′ (seen .doc + 1) (rows + 1) (seen .starts)
+    visit-put t wide e less table orders w n many out′ put = record {
       progress = wrote (work v p) (work-even v p) visit-reached (work-wide v p) inside t fits out′
-          (put ∙ ap (λ (n : ℕ). take (rows * n) out ++ take n row ++ drop (rows * n + n) out) same
-          ∙ ap (λ (xs : List ℕ). take (rows * work v p .width) out ++ xs ++ drop (rows * work v p .width + work v p .width) out) (s .shown inside));
+          (put ∙ ap₂ (λ (m : ℕ) (xs : List ℕ). take (rows * m) out ++ xs ++ drop (rows * m + length xs) out) same row
+          ∙ ap (λ (m : ℕ). take (rows * work v p .width) out ++ work v p .rowOf (seen .doc) ++ drop (rows * work v p .width + m) out)
+          (work-even v p (seen .doc)));
       walking = onward;
     }
       where
         same : wide ≡ work v p .width
         same = e ∙ sym (work-words v p)
 
+        row : rowBy table (seen .doc) (seen .found) ps n ≡ work v p .rowOf (seen .doc)
+        row = visit-row v p table orders ends w from seen ats ps docs s inside n many
+
         fits : rows < length out₀ / work v p .width
         fits = let r = room-rows (work v p) (work-even v p) g (work-wide v p) in let q = ap (λ (n : ℕ). length out₀ / n) same in omega arith
 
-module _ (v p table ends : List ℕ) (w : Walks v p table ends) where
+module _ (v p table orders ends : List ℕ) (w : Walks v p table orders ends) where
   -- a plan's patterns, and the words of a row
   pub visit-few : (sizes p .patterns ≤ mostPatterns) × (rowWords (sizes p .patterns) (sizes p .vars) ≤ mostRowWords)
   visit-few = let g = given v p (w .accepted) in (g .most-patterns, g .width)

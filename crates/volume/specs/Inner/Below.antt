@@ -1,4 +1,5 @@
--- How many words of the stream are below a number: what `stream::below_in_window` counts, by which a cursor of `matcher` moves.
+-- How many words of the stream are below a number: what `stream::below_in_window` and `stream::below_across` count, by which a cursor of
+-- `matcher` moves.
 -- No call's promise rests on this file. Assumes nothing.
 use Prim.Native.Nat.{ℕ, _+_}
 use mathlib.Core.Bool.{cond}

@@ -14,13 +14,14 @@ abbrev stood : tie.After-same-front → tie.After-stand-from
 stood f = f .before .before .before .before .before .before .before
 
 abbrev start : tie.After-stand-from → tie.Start
-start s = s .before .before .before .before .before .before .before .before .before .before
+start s = s .before .before .before .before .before .before .before .before .before .before .before
 
 stand-from-requires : tie.Need-stand-from-requires
 stand-from-requires c κs =
-    let s = c .before .before .before .before .before .before .before .before .before in
+    let s = c .before .before .before .before .before .before .before .before .before .before in
     let p = s .pre in
-    (p .0 .room, (p .1 .0, (p .1 .1 .0, (p .1 .1 .1 .0, (p .1 .1 .1 .1 .0, mark-stretch _ _ _ _ _ (p .0) (now (s .args .lows)) (now (s .args .marks)) (p .1 .1 .1 .1 .1 .0))))))
+    let m = mark-stretch _ _ _ _ _ (p .0) (now (s .args .lows)) (now (s .args .marks)) (p .1 .1 .1 .1 .1 .0) in
+    (p .0 .room, (p .1 .0, (p .1 .1 .0, (p .1 .1 .1 .0, (p .1 .1 .1 .1 .0, (m, p .1 .1 .1 .1 .1 .1 .1))))))
 
 same-length : tie.Need-same-length
 same-length c = search needs
@@ -36,7 +37,11 @@ returns c =
     (stood-none _ _ _ _ _ (p .0) _ _ (p .1 .1 .1 .1 .1 .0) (s .stand-from .result) _ _ (e .0) (not-true _ (c .if1 .taken)) _ _, (e .1 .0, (e .1 .1, λ t. absurd (true≢false (sym t)))))
 
 same-front-requires : tie.Need-same-front-requires
-same-front-requires c κs = search needs
+same-front-requires c κs =
+    let s = c .before .before .before .before .before .before in
+    let p = start s .pre in
+    let e = s .stand-from .ensures .1 .1 in
+    (omega arith, omega arith)
 
 same-length-3 : tie.Need-same-length-3
 same-length-3 c = search needs
@@ -51,9 +56,10 @@ returns-2 c =
     let p = start s .pre in
     let e = s .stand-from .ensures in
     let q = e .1 .1 in
-    let b = p .1 .1 .1 .1 .0 in (
-      stood-apart _ _ _ _ _ (p .0) _ _ (p .1 .1 .1 .1 .1 .0) (s .stand-from .result) _ _ (e .0) (not-false _ (f .before .before .if1 .left)) (p .1 .0) (omega arith) _ (p .1 .1 .1 .1 .1 .1)
-          (f .same-front .result) (f .same-front .ensures) (not-true _ (c .if2 .taken)) _,
+    let b = p .1 .1 .1 .1 .0 in
+    let ok = not-false _ (f .before .before .if1 .left) in (
+      stood-apart _ _ _ _ _ (p .0) _ _ (p .1 .1 .1 .1 .1 .0) (s .stand-from .result) _ _ (e .0) ok (p .1 .0) (omega arith) _
+          (p .1 .1 .1 .1 .1 .1 .0) (f .same-front .result) (f .same-front .ensures) (not-true _ (c .if2 .taken)) _,
       (e .1 .0, (e .1 .1, λ t. absurd (true≢false (sym t)))),
     )
 
@@ -67,8 +73,10 @@ match-from-requires c κs =
     let q = e .1 .1 in
     let a = p .1 .1 .1 .0 in
     let b = p .1 .1 .1 .1 .0 in
-    let few = p .1 .1 .1 .1 .1 .1 in
-    (p .0, (omega arith, (omega arith, (stood-standing _ _ _ _ _ (p .0) _ _ (p .1 .1 .1 .1 .1 .0) (s .stand-from .result) _ _ (e .0) (not-false _ (f .before .before .if1 .left)), omega arith))))
+    let few = p .1 .1 .1 .1 .1 .1 .0 in
+    let ok = not-false _ (f .before .before .if1 .left) in
+    let t = stood-standing _ _ _ _ _ (p .0) _ _ (p .1 .1 .1 .1 .1 .0) (s .stand-from .result) _ _ (e .0) ok in
+    (p .0, (p .1 .1 .1 .1 .1 .1 .1, (omega arith, (omega arith, (t, omega arith)))))
 
 same-length-5 : tie.Need-same-length-5
 same-length-5 c = search needs
@@ -85,10 +93,12 @@ returns-3 c =
     let e = s .stand-from .ensures in
     let g = m .match-from .ensures in
     let q = e .1 .1 in
-    let b = p .1 .1 .1 .1 .0 in (
-      stood-on _ _ _ _ _ (p .0) _ _ (p .1 .1 .1 .1 .1 .0) (s .stand-from .result) _ _ (e .0) (not-false _ (f .before .before .if1 .left)) (p .1 .0) (omega arith) _ (p .1 .1 .1 .1 .1 .1)
-          (f .same-front .result) (f .same-front .ensures) (not-false _ (m .before .before .before .if2 .left)) (m .match-from .result) _ (g .0),
-      (g .1 .1 .0 ∙ e .1 .0, (g .1 .0 ∙ e .1 .1, g .1 .1 .1)),
+    let b = p .1 .1 .1 .1 .0 in
+    let ok = not-false _ (f .before .before .if1 .left) in
+    let same = not-false _ (m .before .before .before .if2 .left) in (
+      stood-on _ _ _ _ _ (p .0) _ _ (p .1 .1 .1 .1 .1 .0) (s .stand-from .result) _ _ (e .0) ok (p .1 .0) (omega arith) _
+          (p .1 .1 .1 .1 .1 .1 .0) (f .same-front .result) (f .same-front .ensures) same (m .match-from .result) _ (g .0),
+      (g .1 .1 .0 .same-length ∙ e .1 .0, (g .1 .1 .1 .same-length ∙ e .1 .1, λ t. g .1 .0)),
     )
 
 pub match-held-spec : {M : Type 1} → statement M

@@ -135,12 +135,27 @@ seek-requires c κs =
     let ok = given _ _ (start-of (outline-of (c .before .before .before)) .pre .0) .volume-accepted in
     cursor-stretch _ ok 0 (good _ ok .lists-some) (c .starts-of .result) (c .starts-of .ensures)
 
+slice-aggregate-rarest-first : tie.Need-slice-aggregate-rarest-first
+slice-aggregate-rarest-first c = omega arith
+
+rarest-first-requires : tie.Need-rarest-first-requires
+rarest-first-requires c κs =
+    let b = outline-of (c .before .before .before .before .before) in
+    let o = outline b in
+    let m = few b in
+    (start-of b .pre .0, (o .there, (o .entry .outlines, omega arith)))
+
 slice-aggregate-write-matches : tie.Need-slice-aggregate-write-matches
 slice-aggregate-write-matches c = search needs
 
+slice-aggregate-write-matches-2 : tie.Need-slice-aggregate-write-matches-2
+slice-aggregate-write-matches-2 c = search needs
+
 write-matches-requires : tie.Need-write-matches-requires
 write-matches-requires c κs =
-    let q = c .before .before .before .before .before .before in
+    let r = c .before .before .before .before in
+    let i = r .before .before in
+    let q = i .before .before .before .before in
     let b = outline-of q in
     let s = start-of b in
     let o = outline b in
@@ -159,10 +174,12 @@ write-matches-requires c κs =
           accepted = s .pre .0;
           pattern = o .there;
           outlines = o .entry .outlines;
-          document = document-at _ ok (s .args .doc) (omega arith) (c .before .before .before .starts-of .result) (c .before .before .seek .result) (c .before .before .before .starts-of .ensures) (c .before .before .seek .ensures .0);
+          document = document-at _ ok (s .args .doc) (omega arith) (i .before .starts-of .result) (i .seek .result)
+              (i .before .starts-of .ensures) (i .seek .ensures .0);
           room = omega arith;
           ends-are = λ i h. ap (λ (k : Cursor). k .end) (e .1 .1 i h);
         };
+        order-is = rw v (r .rarest-first .ensures .0 .each);
         firsts-room = omega arith;
         firsts-are = λ i h. cursor-mark _ ok _ (given _ _ (s .pre .0) .well-made _ (o .there) .lists i (omega arith) .1) _ _ (e .1 .1 i h);
       },
@@ -175,10 +192,18 @@ same-length c = search needs
 returns-5 : tie.Need-returns-5
 returns-5 c =
     let w = c .before .before .write-matches .ensures in
-    let b = outline-of (c .before .before .before .before .before .before .before .before .before) in
+    let b = outline-of (c .before .before .before .before .before .before .before .before .before .before .before .before .before) in
     let a = start-of b .args in
     let r = c .before .before .write-matches in
-    (subst (λ (k : ℕ). Kept (now (a .volume)) (now (a .plan)) k (a .doc) (now (a .from)) (record { lent = now (a .out); says = saidMatched (r .result); back = r .last .1 .1 .1 .1 .1 .1 .1 .0 })) (outline b .pattern-is) (w .0), w .1)
+    let back = r .last .1 .1 .1 .1 .1 .1 .1 .1 .0 in (
+      subst
+          (λ (k : ℕ).
+          Kept (now (a .volume)) (now (a .plan)) k (a .doc) (now (a .from))
+          (record { lent = now (a .out); says = saidMatched (r .result); back = back }))
+          (outline b .pattern-is)
+          (w .0),
+      w .1,
+    )
 
 pub matches-of-spec : {M : Type 1} → statement M
 matches-of-spec =
@@ -202,7 +227,10 @@ matches-of-spec =
     set-cursors-requires
     starts-of-requires
     seek-requires
+    slice-aggregate-rarest-first
+    rarest-first-requires
     slice-aggregate-write-matches
+    slice-aggregate-write-matches-2
     write-matches-requires
     same-length
     returns-5)

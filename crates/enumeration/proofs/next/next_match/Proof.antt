@@ -8,31 +8,34 @@ use lib.Seq.{getD-set-other}
 use borrow.Author.Tests.{not-true, not-false}
 use denote.Ref.{now}
 use Rattle.plan.specs.Accepted.{patternAt}
-use Rattle.enumeration.proofs.Laws.Attempts.{posed-vars, posed-some, posed-rise}
+use Rattle.enumeration.proofs.Laws.Attempts.{posed-vars, posed-some, posed-few, posed-rise}
 use Rattle.enumeration.proofs.Laws.Carries.{Carried, carried-first, carried-hit, carried-out, carried-next}
 use Rattle.enumeration.proofs.next.next_match.Statement.{statement}
 use Rattle.enumeration.proofs.next.next_match.Tie as tie
 
 abbrev Inv-loop : tie.InvT-loop
-Inv-loop volume plan outline document firsts ends lows₀ marks₀ here₀ positions₀ held₀ lows marks here positions held =
+Inv-loop volume plan outline document order firsts ends lows₀ marks₀ here₀ positions₀ held₀ lows marks here positions held =
     Carried volume (document .doc) (patternAt plan (outline .pattern)) (outline .vars) lows₀ marks₀ here₀ positions₀ lows marks here positions held
 
 abbrev μ-loop : tie.MeasureT-loop
-μ-loop volume plan outline document firsts ends lows₀ marks₀ here₀ positions₀ held₀ lows marks here positions held = held
+μ-loop volume plan outline document order firsts ends lows₀ marks₀ here₀ positions₀ held₀ lows marks here positions held = held
 
 -- the places that the answers speak of: from an attempt to its turn, and from a turn to the function's start
 abbrev turn : tie.After-match-held Inv-loop μ-loop → tie.At-loop Inv-loop μ-loop
 turn m = m .before .before .before .before .before
 
 abbrev start : tie.At-loop Inv-loop μ-loop → tie.Start Inv-loop μ-loop
-start l = l .before .before .before .before .before .before .before .before .before .before
+start l = l .before .before .before .before .before .before .before .before .before .before .before
 
 sub-held : tie.Need-sub-held Inv-loop μ-loop
-sub-held c = let s = posed-some _ _ _ _ _ (c .before .before .before .before .before .before .before .before .before .pre .0 .posed) in omega arith
+sub-held c =
+    let p = c .before .before .before .before .before .before .before .before .before .before .pre in
+    let s = posed-some _ _ _ _ _ (p .0 .posed) in
+    omega arith
 
 loop-holds : tie.Need-loop-holds Inv-loop μ-loop
 loop-holds c =
-    let p = c .before .before .before .before .before .before .before .before .before .pre in
+    let p = c .before .before .before .before .before .before .before .before .before .before .pre in
     let q = p .0 .posed in
     let s = posed-some _ _ _ _ _ q in
     carried-first _ (posed-rise _ _ _ _ _ q) _ _ _ (posed-vars _ _ _ _ _ q) _ _ _ _ (p .1 .0) (p .1 .1 .0) _ (omega arith) (p .1 .1 .1 .1 .1 .1) (p .1 .1 .1 .1 .1 .0)
@@ -50,13 +53,15 @@ match-held-requires c κs =
     let g = p .1 .1 .0 in
     let h = p .1 .1 .1 .0 in
     let k = p .1 .1 .1 .1 .0 in
-    (p .0 .posed, (omega arith, (omega arith, (omega arith, (omega arith, (i .marked, i .var))))))
+    (p .0 .posed, (omega arith, (omega arith, (omega arith, (omega arith, (i .marked, (i .var, p .0 .order-is)))))))
 
 -- the buffers keep their lengths over an attempt
-here-kept : (m : tie.After-match-held Inv-loop μ-loop) → length (m .match-held .last .1 .1 .1 .1 .1 .1 .1 .1 .0) ≡ length (now (start (turn m) .args .here))
+here-kept : (m : tie.After-match-held Inv-loop μ-loop)
+    → length (m .match-held .last .1 .1 .1 .1 .1 .1 .1 .1 .1 .0) ≡ length (now (start (turn m) .args .here))
 here-kept m = m .match-held .ensures .1 .0 ∙ turn m .loop .inv .here-length
 
-positions-kept : (m : tie.After-match-held Inv-loop μ-loop) → length (m .match-held .last .1 .1 .1 .1 .1 .1 .1 .1 .1 .0) ≡ length (now (start (turn m) .args .positions))
+positions-kept : (m : tie.After-match-held Inv-loop μ-loop)
+    → length (m .match-held .last .1 .1 .1 .1 .1 .1 .1 .1 .1 .1 .0) ≡ length (now (start (turn m) .args .positions))
 positions-kept m = m .match-held .ensures .1 .1 .0 ∙ turn m .loop .inv .ps-length
 
 same-length : tie.Need-same-length Inv-loop μ-loop
@@ -82,8 +87,15 @@ returns c =
       (l .inv .lows-length, (l .inv .marks-length, (here-kept m, (positions-kept m, λ e. absurd (true≢false (sym e)))))),
     )
 
+-- a pattern has at most eight variables
+held-few : (m : tie.After-match-held Inv-loop μ-loop) → turn m .loop .held < 8
+held-few m =
+    let f = posed-few _ _ _ _ _ (start (turn m) .pre .0 .posed) in
+    let v = turn m .loop .inv .var in
+    omega arith
+
 mul-lows : tie.Need-mul-lows Inv-loop μ-loop
-mul-lows c = omega arith
+mul-lows c = let r = held-few (c .before .before .before .before .before .before) in omega arith
 
 -- the variable moved on has room in each buffer
 lows-room : (m : tie.After-match-held Inv-loop μ-loop) → turn m .loop .held < length (turn m .loop .lows)
@@ -93,7 +105,7 @@ slice-write-lows : tie.Need-slice-write-lows Inv-loop μ-loop
 slice-write-lows c = let r = lows-room (c .before .before .before .before .before .before) in omega arith
 
 mul-marks : tie.Need-mul-marks Inv-loop μ-loop
-mul-marks c = omega arith
+mul-marks c = let r = held-few (c .before .before .before .before .before .before) in omega arith
 
 shared-slice-read-marks : tie.Need-shared-slice-read-marks Inv-loop μ-loop
 shared-slice-read-marks c =
@@ -103,7 +115,7 @@ shared-slice-read-marks c =
     omega arith
 
 mul-marks-2 : tie.Need-mul-marks-2 Inv-loop μ-loop
-mul-marks-2 c = omega arith
+mul-marks-2 c = let r = held-few (c .before .before .before .before .before .before .before) in omega arith
 
 slice-write-marks : tie.Need-slice-write-marks Inv-loop μ-loop
 slice-write-marks c =
@@ -117,7 +129,7 @@ sub-held-2 : tie.Need-sub-held-2 Inv-loop μ-loop
 sub-held-2 c = omega arith
 
 mul-lows-2 : tie.Need-mul-lows-2 Inv-loop μ-loop
-mul-lows-2 c = omega arith
+mul-lows-2 c = let r = held-few (c .before .before .before .before .before .before .before) in omega arith
 
 slice-read-lows : tie.Need-slice-read-lows Inv-loop μ-loop
 slice-read-lows c =

@@ -1,86 +1,68 @@
--- The first word is not below the target, or those of the next eight words that are below it are counted; where all eight are, the search
--- goes on behind them.
+-- Where the eighth word is of the same block and not below the target, the words below it are counted.
 use Rattle.matcher.proofs.cursor.gallop.Statement.{statement}
 use Rattle.matcher.proofs.cursor.gallop.Tie as tie
-use Prim.Native.Nat.{_<_, _≤_}
+use Prim.Native.Nat.{_%_, _≤_}
 use native.Mathlib.Omega.{arith}
-use borrow.Author.Needs.{needs}
-use mathlib.Core.Path.{_∙_}
+use borrow.Author.Tests.{leb-true}
 use denote.Ref.{now}
-use Rattle.volume.specs.Inner.Below.{belowCount}
-use Rattle.matcher.proofs.Laws.Cursors.{seek-here, galloped-end, stretch-within, window-hit, window-all}
-
--- the places that the answers speak of, each from the one behind it
-abbrev start-of : tie.After-word-at → tie.Start
-start-of c = c .before .before .before .before .before
-
-abbrev word-of : tie.After-below-in-window → tie.After-word-at
-word-of c = c .before .before
+use Rattle.matcher.proofs.Laws.Cursors.{window-hit}
 
 sub-if1 : tie.Need-sub-if1
 sub-if1 c = let o = c .before .pre .order in omega arith
 
-word-at-requires : tie.Need-word-at-requires
-word-at-requires c κs = let w = c .before .before .before .before .pre .within in omega arith
+-- how far into its block the first word lies
+near : (c : tie.Then2) → c .before .before .before .args .from % 126 ≤ 118
+near c = leb-true _ _ (c .if2 .taken)
 
-cast-if4 : tie.Need-cast-if4
-cast-if4 c = omega arith
+word-behind-requires : tie.Need-word-behind-requires
+word-behind-requires c κs =
+    let w = c .before .before .before .pre .within in
+    let m = near c in
+    (omega arith, omega arith)
+
+cast-if3 : tie.Need-cast-if3
+cast-if3 c = omega arith
+
+below-in-window-requires : tie.Need-below-in-window-requires
+below-in-window-requires c κs =
+    let w = c .before .before .before .before .before .pre .within in
+    let m = near (c .before .before) in
+    (omega arith, omega arith)
+
+add-at : tie.Need-add-at
+add-at c = let w = c .before .before .before .before .before .before .pre .within in omega arith
+
+word-behind-requires-2 : tie.Need-word-behind-requires-2
+word-behind-requires-2 c κs =
+    let w = c .before .before .before .before .before .before .pre .within in
+    let m = near (c .before .before .before) in
+    (omega arith, omega arith)
 
 returns : tie.Need-returns
 returns c =
-    let w = c .before .word-at .ensures in
-    seek-here _ _ _ _ (start-of (c .before) .pre .order) (omega arith)
+    let start = c .before .before .before .before .before .before .before in
+    let a = start .args in
+    let w = c .before .before .before .word-behind .ensures in
+    let n = c .before .below-in-window .ensures .0 in
+    let hit = window-hit (now (a .volume)) (a .target) (a .from) (a .end) 7 (start .pre) (omega arith) (omega arith) in
+    record { at-is = omega (arith, n, hit); bits-are = λ h. c .word-behind2 .ensures }
 
-cast-below-in-window : tie.Need-cast-below-in-window
-cast-below-in-window c = search needs
-
-below-in-window-requires : tie.Need-below-in-window-requires
-below-in-window-requires c κs = search needs
-
-add-result : tie.Need-add-result
-add-result c = let w = start-of (word-of (c .before)) .pre .within in omega arith
+leap-on-requires : tie.Need-leap-on-requires
+leap-on-requires c κs = c .before .before .pre
 
 returns-2 : tie.Need-returns-2
-returns-2 c =
-    let start = start-of (word-of (c .before)) in
-    let n = c .before .below-in-window .ensures .0 in
-    let few : belowCount (now (start .args .volume)) (start .args .target) (start .args .from) 8 < 8 = omega arith in
-    let hit = window-hit (now (start .args .volume)) (start .args .target) (start .args .from) (start .args .end) 8 (start .pre) (omega arith) few in
-    omega arith
-
-add-leap : tie.Need-add-leap
-add-leap c = let w = start-of (word-of (c .before)) .pre .within in omega arith
-
-leap-requires : tie.Need-leap-requires
-leap-requires c κs = (stretch-within _ _ _ _ _ (start-of (word-of (c .before)) .pre) (omega arith) (omega arith) (omega arith), omega arith)
-
-returns-3 : tie.Need-returns-3
-returns-3 c =
-    let start = start-of (word-of (c .before .before)) in
-    let n = c .before .before .below-in-window .ensures .0 in
-    let most : 8 ≤ belowCount (now (start .args .volume)) (start .args .target) (start .args .from) 8 = omega arith in
-    c .leap .ensures ∙ galloped-end _ _ _ _ (start .pre) _ (window-all _ _ _ _ 8 (start .pre) (omega arith) most)
-
-leap-requires-2 : tie.Need-leap-requires-2
-leap-requires-2 c κs = (c .before .before .pre, omega arith)
-
-returns-4 : tie.Need-returns-4
-returns-4 c = c .leap2 .ensures
+returns-2 c = c .leap-on .ensures
 
 pub gallop-spec : {M : Type 1} → statement M
 gallop-spec =
     tie.close
     (tie.spec
     sub-if1
-    word-at-requires
-    cast-if4
-    returns
-    cast-below-in-window
+    word-behind-requires
+    cast-if3
     below-in-window-requires
-    add-result
-    returns-2
-    add-leap
-    leap-requires
-    returns-3
-    leap-requires-2
-    returns-4)
+    add-at
+    word-behind-requires-2
+    returns
+    leap-on-requires
+    returns-2)

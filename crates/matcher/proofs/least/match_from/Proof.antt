@@ -1,28 +1,34 @@
--- The predicates in front of `row` hold of the positions, and no match from the first ones on is in front of them (`Tried`). A jump moves a position on; else the row grows.
+-- All predicates hold of the positions but so many in turn, `largest` is the largest position, and no match from the first positions on is in front of
+-- them (`Tried`). A jump moves a position on; else one predicate less is left. Assumes nothing.
 use Rattle.matcher.proofs.least.match_from.Statement.{statement}
 use Rattle.matcher.proofs.least.match_from.Tie as tie
-use Prim.Native.Nat.{_+_, _-_, _*_, _<_}
+use Prim.Native.Nat.{ℕ, _+_, _-_, _*_, _<_, max}
 use native.Mathlib.Omega.{arith}
 use borrow.Author.Needs.{needs}
-use mathlib.Core.Path.{sym, subst, _∙_}
-use mathlib.Core.Bool.{true≢false}
-use lib.ListN.{take}
-use borrow.Author.Tests.{not-true, not-false}
+use mathlib.Core.Path.{_≡_, sym, subst, _∙_}
+use mathlib.Core.Bool.{false}
+use lib.ListN.{length, getD, set, take}
+use lib.Seq.{getD-set-same}
 use denote.Ref.{now}
 use Rattle.volume.specs.Layout.{listsOf}
+use Rattle.plan.specs.Accepted.{patternAt}
 use Rattle.fulltext.specs.Matches.{startsIn}
+use Rattle.fulltext.specs.Inner.Bounds.{HeldMatch}
 use Rattle.matcher.specs.Inner.Shortfall.{LeftShort, Told}
-use Rattle.matcher.proofs.Laws.Tried.{slack, Tried, tried-first, tried-last, tried-asks, predicate-asks, tried-holds, jump-var, jump-stretch, tried-held, tried-out, tried-jump, tried-done}
+use Rattle.matcher.specs.Inner.Settling.{Jumped, Standing, Within}
+use Rattle.matcher.proofs.Laws.Tried.{slack, Tried, some-vars, few-vars, tried-first, tried-last, tried-asks, predicate-asks, tried-holds, jump-var, jump-stretch, tried-held, tried-out, tried-jump, tried-done, arrived-out, arrived-away, arrived-jump}
 
 abbrev Inv-loop : tie.InvT-loop
-Inv-loop volume plan outline document held ends here₀ positions₀ row₀ here positions row = Tried volume plan outline (document .doc) held here₀ positions₀ here positions row
+Inv-loop volume plan outline document held order ends here₀ positions₀ n count largest₀ turn₀ left₀ here positions largest turn left =
+    Tried volume plan outline (document .doc) held here₀ positions₀ here positions largest turn left
 
 abbrev μ-loop : tie.MeasureT-loop
-μ-loop volume plan outline document held ends here₀ positions₀ row₀ here positions row = 128 * slack positions + (outline .last - row)
+μ-loop volume plan outline document held order ends here₀ positions₀ n count largest₀ turn₀ left₀ here positions largest turn left =
+    128 * slack positions + left
 
--- The places that the answers speak of: from the loop to the function's start, from a turn to its loop, and from a jump to the predicate that asks for it
+-- The places that the answers speak of: from the loop to the function's start, from a turn to its loop, and from where a cursor has come to, to the predicate that asks for it
 abbrev start : tie.At-loop Inv-loop μ-loop → tie.Start Inv-loop μ-loop
-start l = l .before .before .before .before .before .before
+start l = l .before .before .before .before .before .before .before .before .before .before
 
 abbrev turn : tie.After-predicate-at Inv-loop μ-loop → tie.At-loop Inv-loop μ-loop
 turn p = p .before .before .before
@@ -30,8 +36,12 @@ turn p = p .before .before .before
 abbrev asked : tie.After-known-told Inv-loop μ-loop → tie.After-predicate-at Inv-loop μ-loop
 asked c = c .before .before .before .before .before
 
-abbrev jumping : tie.After-jump Inv-loop μ-loop → tie.After-known-told Inv-loop μ-loop
-jumping j = j .before .before .before .before .before
+abbrev moving : tie.After-reach Inv-loop μ-loop → tie.After-known-told Inv-loop μ-loop
+moving r = r .before .before .before .before
+
+-- the predicate that is tried is one of the pattern's
+inside : (p : tie.After-predicate-at Inv-loop μ-loop) → let a = start (turn p) .args in turn p .loop .turn < a .outline .last - a .outline .condition
+inside p = let l = turn p .loop in let m = l .inv .most in l .inv .next (let t = p .before .before .loop-test .taken in omega arith)
 
 -- the variable that is left short
 short : (c : tie.After-known-told Inv-loop μ-loop)
@@ -45,44 +55,67 @@ var c =
     let p = asked c in
     let l = turn p .loop in
     let s = start (turn p) .pre in
-    jump-var _ _ _ _ _ (s .0) (l .row) (l .inv .from) (p .before .if1 .taken) _ (p .predicate-at .ensures) _ _ _ _ _ (l .inv) (s .1 .0) (s .1 .1 .0) _ _ (short c)
+    jump-var _ _ _ _ _ (s .0) (l .turn) (inside p) _ (p .predicate-at .ensures) _ _ _ _ _ _ _ (l .inv) (s .1 .1 .0) (s .1 .1 .1 .0) _ _ (short c)
+
+sub-count : tie.Need-sub-count Inv-loop μ-loop
+sub-count c = let e = c .before .before .before .before .before .before .before .pre .0 .outlines .last-is in omega arith
+
+largest-of-requires : tie.Need-largest-of-requires Inv-loop μ-loop
+largest-of-requires c κs = let s = c .before .before .before .before .before .before .before .before .pre in (some-vars _ _ _ _ _ (s .0), s .1 .1 .1 .0)
 
 loop-holds : tie.Need-loop-holds Inv-loop μ-loop
-loop-holds c = let s = c .before .before .before .before .before .pre in tried-first _ _ _ _ _ (s .0) _ _ _ (s .1 .1 .0) (s .1 .1 .1 .0)
+loop-holds c = let s = c .before .before .before .before .before .before .before .before .before .pre in tried-first _ _ _ _ _ (s .0) _ _ _ (s .1 .1 .1 .0) (s .1 .1 .1 .1 .0) _ (c .largest-of .ensures)
+
+add-predicate-at : tie.Need-add-predicate-at Inv-loop μ-loop
+add-predicate-at c =
+    let l = c .before .before .loop in
+    let m = l .inv .most in
+    let t = c .before .loop-test .taken in
+    let w = l .inv .next (omega arith) in
+    let most = tried-last _ _ _ _ _ (start (c .before .before) .pre .0) in
+    omega arith
 
 predicate-at-requires : tie.Need-predicate-at-requires Inv-loop μ-loop
-predicate-at-requires c κs = let l = c .before .before .loop in tried-asks _ _ _ _ _ (start (c .before .before) .pre .0) (l .row) (l .inv .from) (c .if1 .taken)
+predicate-at-requires c κs =
+    let l = c .before .before .loop in
+    let m = l .inv .most in
+    tried-asks _ _ _ _ _ (start (c .before .before) .pre .0) (l .turn) (l .inv .next (let t = c .before .loop-test .taken in omega arith))
 
 falls-short-requires : tie.Need-falls-short-requires Inv-loop μ-loop
 falls-short-requires c κs =
     let p = c .before in
     let l = turn p .loop in
     let s = start (turn p) .pre in
-    predicate-asks _ _ _ _ _ (s .0) (l .row) (l .inv .from) (p .before .if1 .taken) _ (p .predicate-at .ensures) _ _ _ _ _ (l .inv) (s .1 .1 .0)
+    predicate-asks _ _ _ _ _ (s .0) (l .turn) (inside p) _ (p .predicate-at .ensures) _ _ _ _ _ _ _ (l .inv) (s .1 .1 .1 .0) _ (s .1 .0)
 
 enum-told : tie.Need-enum-told Inv-loop μ-loop
 enum-told c = search needs
 
-add-row : tie.Need-add-row Inv-loop μ-loop
-add-row c = omega arith
+sub-left : tie.Need-sub-left Inv-loop μ-loop
+sub-left c = omega arith
+
+next-turn-requires : tie.Need-next-turn-requires Inv-loop μ-loop
+next-turn-requires c κs = inside (c .before .before .before .before)
 
 loop-less : tie.Need-loop-less Inv-loop μ-loop
 loop-less c = omega arith
 
 loop-again : tie.Need-loop-again Inv-loop μ-loop
 loop-again c =
-    let p = c .before .before .before .before in
+    let p = c .before .before .before .before .before in
     let l = turn p .loop in
-    tried-holds _ _ _ _ _ (start (turn p) .pre .0) (l .row) (l .inv .from) (p .before .if1 .taken) _ (p .predicate-at .ensures) _ _ _ _ _ (l .inv) (subst (Told _ _ _) (c .enum-told .given .1) (c .before .before .falls-short .ensures))
+    rw (c .next-turn .ensures)
+    (tried-holds _ _ _ _ _ (start (turn p) .pre .0) (l .turn) (inside p) _ (p .predicate-at .ensures) _ _ _ _ _ _ _ (l .inv) (p .before .before .loop-test .taken)
+    (subst (Told _ _ _) (c .before .enum-told .given .1) (c .before .before .before .falls-short .ensures)))
 
 enum-known-told : tie.Need-enum-known-told Inv-loop μ-loop
 enum-known-told c = search needs
 
 same-length : tie.Need-same-length Inv-loop μ-loop
-same-length c = turn (asked (c .before)) .loop .inv .here-length
+same-length c = turn (asked (c .before)) .loop .inv .here-within .same-length
 
 same-length-2 : tie.Need-same-length-2 Inv-loop μ-loop
-same-length-2 c = turn (asked (c .before)) .loop .inv .ps-length
+same-length-2 c = turn (asked (c .before)) .loop .inv .ps-within .same-length
 
 returns : tie.Need-returns Inv-loop μ-loop
 returns c =
@@ -90,78 +123,143 @@ returns c =
     let p = asked k in
     let l = turn p .loop in
     let s = start (turn p) .pre in (
-      tried-held _ _ _ _ _ (s .0) (l .row) (l .inv .from) (p .before .if1 .taken) _ (p .predicate-at .ensures) _ _ _ _ _ (l .inv) (s .1 .0) (s .1 .1 .0) _ _ (short k) (c .if2 .taken) _,
-      (l .inv .ps-length, (l .inv .here-length, λ e. absurd (true≢false (sym e)))),
+      tried-held _ _ _ _ _ (s .0) (l .turn) (inside p) _ (p .predicate-at .ensures) _ _ _ _ _ _ _ (l .inv) (s .1 .1 .0) (s .1 .1 .1 .0) _ _ (short k) (c .if1 .taken) _,
+      (record { each = l .inv .low .standing }, (l .inv .here-within, l .inv .ps-within)),
     )
 
 mul-end : tie.Need-mul-end Inv-loop μ-loop
-mul-end c = let x = var (c .before) in let q = start (turn (asked (c .before))) .pre .0 .room in omega arith
+mul-end c = let x = var (c .before) in let q = few-vars _ _ _ _ _ (start (turn (asked (c .before))) .pre .0) in omega arith
 
 shared-slice-read-end : tie.Need-shared-slice-read-end Inv-loop μ-loop
 shared-slice-read-end c = let x = var (c .before .before) in let q = start (turn (asked (c .before .before))) .pre .0 .room in omega arith
 
-jump-requires : tie.Need-jump-requires Inv-loop μ-loop
-jump-requires c κs =
-    let k = c .before .before .before .before in
+mul-here : tie.Need-mul-here Inv-loop μ-loop
+mul-here c = let x = var (c .before .before) in let q = few-vars _ _ _ _ _ (start (turn (asked (c .before .before))) .pre .0) in omega arith
+
+slice-read-here : tie.Need-slice-read-here Inv-loop μ-loop
+slice-read-here c =
+    let k = c .before .before .before in
+    let x = var k in
+    let w = turn (asked k) .loop .inv .here-within .same-length in
+    let r = start (turn (asked k)) .pre .1 .1 .0 in
+    omega arith
+
+reach-requires : tie.Need-reach-requires Inv-loop μ-loop
+reach-requires c κs =
+    let k = c .before .before .before in
     let p = asked k in
     let l = turn p .loop in
     let s = start (turn p) .pre in
-    let x = var k in
-    let h = l .inv .here-length in
-    let w = l .inv .ps-length in
-    let stretch = jump-stretch _ _ _ _ _ (s .0) (l .row) (l .inv .from) (p .before .if1 .taken) _ (p .predicate-at .ensures) _ _ _ _ _ (l .inv) (s .1 .0) (s .1 .1 .0) _ _ (short k) in
-    (omega arith, (omega arith, stretch))
+    jump-stretch _ _ _ _ _ (s .0) (l .turn) (inside p) _ (p .predicate-at .ensures) _ _ _ _ _ _ _ (l .inv) (s .1 .1 .0) (s .1 .1 .1 .0) _ _ (short k)
 
-same-length-3 : tie.Need-same-length-3 Inv-loop μ-loop
-same-length-3 c = let j = c .before .before .before .before .before in j .jump .kept .1 .1 .1 .1 .1 .0 ∙ turn (asked (jumping j)) .loop .inv .here-length
-
-same-length-4 : tie.Need-same-length-4 Inv-loop μ-loop
-same-length-4 c = let j = c .before .before .before .before .before in j .jump .kept .1 .1 .1 .1 .1 .1 .0 ∙ turn (asked (jumping j)) .loop .inv .ps-length
-
-returns-2 : tie.Need-returns-2 Inv-loop μ-loop
-returns-2 c =
-    let j = c .before .before .before .before .before in
-    let p = asked (jumping j) in
+-- a variable that finds no position
+missed : (r : tie.After-reach Inv-loop μ-loop)
+    → let p = asked (moving r) in let l = turn p .loop in let a = start (turn p) .args in let t = moving r .before .told .given .0 in
+    Jumped (now (a .volume)) (a .document .doc) (getD (now (a .ends)) (t .0) 0) (t .1 .0) (t .0) (l .here) (l .positions) false (l .here) (l .positions)
+    → HeldMatch (listsOf (now (a .volume))) (a .document .doc) (patternAt (now (a .plan)) (a .outline .pattern)) (take (a .outline .vars) (now (a .positions))) (a .held) false (take (a .outline .vars) (l .positions))
+    × (Standing (now (a .volume)) (a .document .doc) (patternAt (now (a .plan)) (a .outline .pattern)) (l .here) (l .positions)
+    × (Within (a .outline .vars) (now (a .here)) (l .here) × Within (a .outline .vars) (now (a .positions)) (l .positions)))
+missed r j =
+    let p = asked (moving r) in
     let l = turn p .loop in
     let s = start (turn p) .pre in (
-      tried-out _ _ _ _ _ (s .0) (l .row) (l .inv .from) (p .before .if1 .taken) _ (p .predicate-at .ensures) _ _ _ _ _ (l .inv) (s .1 .0) (s .1 .1 .0) _ _ (short (jumping j))
-          (j .jump .result) (j .jump .last .1 .1 .1 .1 .1 .0) (j .jump .last .1 .1 .1 .1 .1 .1 .0) (j .jump .ensures) (not-true _ (c .if3 .taken)) _,
-      (j .jump .kept .1 .1 .1 .1 .1 .1 .0 ∙ l .inv .ps-length, (j .jump .kept .1 .1 .1 .1 .1 .0 ∙ l .inv .here-length, λ e. absurd (true≢false (sym e)))),
+      tried-out _ _ _ _ _ (s .0) (l .turn) (inside p) _ (p .predicate-at .ensures) _ _ _ _ _ _ _ (l .inv) (s .1 .1 .0) (s .1 .1 .1 .0) _ _ (short (moving r)) _ _ j _,
+      (record { each = l .inv .low .standing }, (l .inv .here-within, l .inv .ps-within)),
     )
 
--- behind a jump
-moved : (c : tie.Else3 Inv-loop μ-loop)
-    → let j = c .before .before .before .before .before in let p = asked (jumping j) in let l = turn p .loop in let a = start (turn p) .args in
-    Tried (now (a .volume)) (now (a .plan)) (a .outline) (a .document .doc) (a .held) (now (a .here)) (now (a .positions)) (j .jump .last .1 .1 .1 .1 .1 .0) (j .jump .last .1 .1 .1 .1 .1 .1 .0) (a .outline .condition)
-    × (slack (j .jump .last .1 .1 .1 .1 .1 .1 .0) < slack (l .positions))
-moved c =
-    let j = c .before .before .before .before .before in
-    let p = asked (jumping j) in
-    let l = turn p .loop in
-    let s = start (turn p) .pre in
-    tried-jump _ _ _ _ _ (s .0) (l .row) (l .inv .from) (p .before .if1 .taken) _ (p .predicate-at .ensures) _ _ _ _ _ (l .inv) (s .1 .0) (s .1 .1 .0) _ _ (short (jumping j)) (j .before .before .before .before .if2 .left)
-    (j .jump .result) (j .jump .last .1 .1 .1 .1 .1 .0) (j .jump .last .1 .1 .1 .1 .1 .1 .0) (j .jump .ensures) (not-false _ (c .if3 .left))
+same-length-3 : tie.Need-same-length-3 Inv-loop μ-loop
+same-length-3 c = turn (asked (moving (c .before .before))) .loop .inv .here-within .same-length
 
-loop-less-2 : tie.Need-loop-less-2 Inv-loop μ-loop
-loop-less-2 c =
-    let less = moved c .1 in
-    let most = tried-last _ _ _ _ _ (start (turn (asked (jumping (c .before .before .before .before .before)))) .pre .0) in
-    omega arith
+same-length-4 : tie.Need-same-length-4 Inv-loop μ-loop
+same-length-4 c = turn (asked (moving (c .before .before))) .loop .inv .ps-within .same-length
 
-loop-again-2 : tie.Need-loop-again-2 Inv-loop μ-loop
-loop-again-2 c = moved c .0
+returns-2 : tie.Need-returns-2 Inv-loop μ-loop
+returns-2 c = let r = c .before .before in missed r (arrived-out _ _ _ _ _ _ _ _ (r .reach .ensures) (c .if2 .taken))
+
+doc-requires : tie.Need-doc-requires Inv-loop μ-loop
+doc-requires c κs = search needs
 
 same-length-5 : tie.Need-same-length-5 Inv-loop μ-loop
-same-length-5 c = c .before .before .loop .inv .here-length
+same-length-5 c = turn (asked (moving (c .before .before .before .before .before))) .loop .inv .here-within .same-length
 
 same-length-6 : tie.Need-same-length-6 Inv-loop μ-loop
-same-length-6 c = c .before .before .loop .inv .ps-length
+same-length-6 c = turn (asked (moving (c .before .before .before .before .before))) .loop .inv .ps-within .same-length
 
 returns-3 : tie.Need-returns-3 Inv-loop μ-loop
 returns-3 c =
-    let l = c .before .before .loop in
-    let s = start (c .before .before) .pre in
-    (tried-done _ _ _ _ _ (s .0) _ _ _ (l .here) (l .positions) (l .row) (s .1 .1 .1 .1) (s .1 .1 .0) (l .inv) (c .if1 .left), (l .inv .ps-length, (l .inv .here-length, λ e. record { each = l .inv .low .standing })))
+    let r = c .before .before .before .before .before in
+    missed r (arrived-away _ _ _ _ _ _ _ _ (r .reach .ensures) (c .before .before .before .if2 .left) (λ e. c .if3 .taken (c .before .before .doc .ensures ∙ e)))
+
+mul-here-2 : tie.Need-mul-here-2 Inv-loop μ-loop
+mul-here-2 c = let k = moving (c .before .before .before .before .before) in let x = var k in let q = few-vars _ _ _ _ _ (start (turn (asked k)) .pre .0) in omega arith
+
+slice-write-here : tie.Need-slice-write-here Inv-loop μ-loop
+slice-write-here c =
+    let k = moving (c .before .before .before .before .before) in
+    let x = var k in
+    let w = turn (asked k) .loop .inv .here-within .same-length in
+    let r = start (turn (asked k)) .pre .1 .1 .0 in
+    omega arith
+
+pos-requires : tie.Need-pos-requires Inv-loop μ-loop
+pos-requires c κs = search needs
+
+mul-positions : tie.Need-mul-positions Inv-loop μ-loop
+mul-positions c = let k = moving (c .before .before .before .before .before .before) in let x = var k in let q = few-vars _ _ _ _ _ (start (turn (asked k)) .pre .0) in omega arith
+
+-- the variable has a position
+there : (r : tie.After-reach Inv-loop μ-loop) → let k = moving r in k .before .told .given .0 .0 < length (turn (asked k) .loop .positions)
+there r =
+    let k = moving r in
+    let x = var k in
+    let w = turn (asked k) .loop .inv .ps-within .same-length in
+    let q = start (turn (asked k)) .pre .1 .1 .1 .0 in
+    omega arith
+
+slice-write-positions : tie.Need-slice-write-positions Inv-loop μ-loop
+slice-write-positions c = there (c .before .before .before .before .before .before)
+
+later-requires : tie.Need-later-requires Inv-loop μ-loop
+later-requires c κs = search needs
+
+-- behind a move
+moved : (c : tie.After-pos Inv-loop μ-loop)
+    → let r = c .before .before .before .before .before .before in let p = asked (moving r) in let l = turn p .loop in let a = start (turn p) .args in let x = moving r .before .told .given .0 .0 in
+    Tried (now (a .volume)) (now (a .plan)) (a .outline) (a .document .doc) (a .held) (now (a .here)) (now (a .positions)) (set (l .here) x (r .reach .result .at)) (set (l .positions) x (c .pos .result))
+    (max (l .largest) (c .pos .result)) (l .turn) (a .outline .last - a .outline .condition)
+    × (slack (set (l .positions) x (c .pos .result)) < slack (l .positions))
+moved c =
+    let r = c .before .before .before .before .before .before in
+    let p = asked (moving r) in
+    let l = turn p .loop in
+    let s = start (turn p) .pre in
+    let x = moving r .before .told .given .0 .0 in
+    let j = arrived-jump _ _ _ _ x (l .here) (l .positions) _ (r .reach .ensures) (c .before .before .before .before .if2 .left) (sym (c .before .before .before .doc .ensures) ∙ c .before .if3 .left) in
+    let w = tried-jump _ _ _ _ _ (s .0) (l .turn) (inside p) _ (p .predicate-at .ensures) _ _ _ _ _ _ _ (l .inv) (s .1 .1 .0) (s .1 .1 .1 .0) _ _ (short (moving r)) (r .before .before .before .if1 .left) _ _ j in
+    rw (c .pos .ensures) (rw (getD-set-same (l .positions) x _ 0 (there r)) at w)
+
+loop-less-2 : tie.Need-loop-less-2 Inv-loop μ-loop
+loop-less-2 c =
+    let less = moved (c .before) .1 in
+    let most = tried-last _ _ _ _ _ (start (turn (asked (moving (c .before .before .before .before .before .before .before)))) .pre .0) in
+    omega arith
+
+loop-again-2 : tie.Need-loop-again-2 Inv-loop μ-loop
+loop-again-2 c = rw (c .later .ensures) (moved (c .before) .0)
+
+same-length-7 : tie.Need-same-length-7 Inv-loop μ-loop
+same-length-7 c = c .before .loop .inv .here-within .same-length
+
+same-length-8 : tie.Need-same-length-8 Inv-loop μ-loop
+same-length-8 c = c .before .loop .inv .ps-within .same-length
+
+returns-4 : tie.Need-returns-4 Inv-loop μ-loop
+returns-4 c =
+    let l = c .before .loop in
+    let s = start (c .before) .pre in (
+      tried-done _ _ _ _ _ (s .0) _ _ _ (l .here) (l .positions) (l .largest) (l .turn) (l .left) (s .1 .1 .1 .1 .1) (s .1 .1 .1 .0) (l .inv) (let t = c .loop-test .left in omega arith),
+      (record { each = l .inv .low .standing }, (l .inv .here-within, l .inv .ps-within)),
+    )
 
 pub match-from-spec : {M : Type 1} → statement M
 match-from-spec =
@@ -169,11 +267,15 @@ match-from-spec =
     (tie.spec
     Inv-loop
     μ-loop
+    sub-count
+    largest-of-requires
     loop-holds
+    add-predicate-at
     predicate-at-requires
     falls-short-requires
     enum-told
-    add-row
+    sub-left
+    next-turn-requires
     loop-less
     loop-again
     enum-known-told
@@ -182,12 +284,24 @@ match-from-spec =
     returns
     mul-end
     shared-slice-read-end
-    jump-requires
+    mul-here
+    slice-read-here
+    reach-requires
     same-length-3
     same-length-4
     returns-2
-    loop-less-2
-    loop-again-2
+    doc-requires
     same-length-5
     same-length-6
-    returns-3)
+    returns-3
+    mul-here-2
+    slice-write-here
+    pos-requires
+    mul-positions
+    slice-write-positions
+    later-requires
+    loop-less-2
+    loop-again-2
+    same-length-7
+    same-length-8
+    returns-4)

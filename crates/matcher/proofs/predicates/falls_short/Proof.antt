@@ -7,7 +7,7 @@ use Rattle.matcher.proofs.predicates.falls_short.Statement.{statement}
 use Rattle.matcher.proofs.predicates.falls_short.Tie as tie
 
 slice-aggregate-tuple : tie.Need-slice-aggregate-tuple
-slice-aggregate-tuple c = let a = c .before .before .before .args in let e = length-take-le (a .n) (now (a .positions)) (omega arith) in omega arith
+slice-aggregate-tuple c = let a = c .before .before .before .before .args in let e = length-take-le (a .n) (now (a .positions)) (omega arith) in omega arith
 
 enum-known-predicate : tie.Need-enum-known-predicate
 enum-known-predicate c = omega arith
@@ -19,7 +19,7 @@ cast-distance-2 : tie.Need-cast-distance-2
 cast-distance-2 c = omega arith
 
 distance-requires : tie.Need-distance-requires
-distance-requires c κs = let s = c .before .before .before .before .before .before in distance-asked (now (s .args .positions)) (s .args .predicate) (s .pre) (c .before .predicate .given .1)
+distance-requires c κs = let s = c .before .before .before .before .before .before .before in distance-asked (now (s .args .positions)) (s .args .predicate) (s .pre) (c .before .predicate .given .1)
 
 enum-known-predicate-2 : tie.Need-enum-known-predicate-2
 enum-known-predicate-2 c = omega arith
@@ -31,7 +31,7 @@ cast-ordered-2 : tie.Need-cast-ordered-2
 cast-ordered-2 c = omega arith
 
 ordered-requires : tie.Need-ordered-requires
-ordered-requires c κs = let s = c .before .before .before .before .before .before in ordered-asked (now (s .args .positions)) (s .args .predicate) (s .pre) (c .before .predicate2 .given .1)
+ordered-requires c κs = let s = c .before .before .before .before .before .before .before in ordered-asked (now (s .args .positions)) (s .args .predicate) (s .pre) (c .before .predicate2 .given .1)
 
 enum-known-predicate-3 : tie.Need-enum-known-predicate-3
 enum-known-predicate-3 c = omega arith
@@ -43,13 +43,13 @@ cast-samepara-2 : tie.Need-cast-samepara-2
 cast-samepara-2 c = omega arith
 
 samepara-requires : tie.Need-samepara-requires
-samepara-requires c κs = let s = c .before .before .before .before .before .before in samepara-asked (now (s .args .positions)) (s .args .predicate) (s .pre) (c .before .predicate3 .given .1)
+samepara-requires c κs = let s = c .before .before .before .before .before .before .before in samepara-asked (now (s .args .positions)) (s .args .predicate) (s .pre) (c .before .predicate3 .given .1)
 
 enum-known-predicate-4 : tie.Need-enum-known-predicate-4
 enum-known-predicate-4 c = omega arith
 
 window-requires : tie.Need-window-requires
-window-requires c κs = let s = c .before .before .before .before .before .before in window-asked (now (s .args .positions)) (s .args .predicate) (s .pre) (c .before .predicate4 .given .1)
+window-requires c κs = let s = c .before .before .before .before .before .before .before in window-asked (now (s .args .positions)) (s .args .predicate) (s .pre) (c .before .predicate4 .given .1)
 
 enum-known-predicate-5 : tie.Need-enum-known-predicate-5
 enum-known-predicate-5 c = omega arith
@@ -61,7 +61,7 @@ cast-proximity-2 : tie.Need-cast-proximity-2
 cast-proximity-2 c = omega arith
 
 proximity-requires : tie.Need-proximity-requires
-proximity-requires c κs = let s = c .before .before .before .before .before .before in proximity-asked (now (s .args .positions)) (s .args .predicate) (s .pre) (c .before .predicate5 .given .1)
+proximity-requires c κs = let s = c .before .before .before .before .before .before .before in proximity-asked (now (s .args .positions)) (s .args .predicate) (s .pre) (c .before .predicate5 .given .1)
 
 returns : tie.Need-returns
 returns c = rw (c .before .before .predicate .given .1) (c .distance .ensures _)

@@ -4,30 +4,20 @@ use borrow.Author.Needs.{needs}
 use native.Mathlib.Omega.{arith}
 use mathlib.Core.Path.{sym, ap, _∙_}
 use Rattle.volume.specs.declared.posting.Posting.{Posting}
-use Rattle.matcher.proofs.Laws.Starts.{past-from, past-within, stands-stretch, para-first, para-other, para-last}
+use Rattle.matcher.proofs.Laws.Starts.{stands-stretch, para-first, para-other, para-last}
 use Rattle.matcher.proofs.predicates.para_start.Statement.{statement}
 use Rattle.matcher.proofs.predicates.para_start.Tie as tie
 
-advance-past-requires : tie.Need-advance-past-requires
-advance-past-requires c κs = let p = c .before .before .pre in stands-stretch (p .0) (p .1 .0)
-
 returns : tie.Need-returns
-returns c =
-    let p = c .before .before .before .before .before .pre in
-    para-first (p .0) (p .1 .0) (p .1 .1) (c .before .before .advance-past .ensures .0) (c .if1 .taken)
+returns c = let p = c .before .before .before .before .pre in λ pos small found. para-first (p .0) (p .1 .0) small found (c .if1 .taken)
 
 sub-posting-at : tie.Need-sub-posting-at
-sub-posting-at c =
-    let p = c .before .before .before .before .before .pre in
-    let f = past-from (p .0) (p .1 .0) (p .1 .1) (c .before .before .advance-past .ensures .0) in
-    omega arith
+sub-posting-at c = omega arith
 
 posting-at-requires : tie.Need-posting-at-requires
 posting-at-requires c κs =
-    let p = c .before .before .before .before .before .pre in
-    let g = c .before .before .advance-past .ensures .0 in
-    let f = past-from (p .0) (p .1 .0) (p .1 .1) g in
-    let w = past-within (p .0) (p .1 .0) (p .1 .1) g in
+    let p = c .before .before .before .before .pre in
+    let w = stands-stretch (p .0) (p .1 .0) .within in
     omega arith
 
 doc-requires : tie.Need-doc-requires
@@ -35,27 +25,28 @@ doc-requires c κs = search needs
 
 returns-2 : tie.Need-returns-2
 returns-2 c =
-    let moved = c .before .before .before .before .before in
-    let p = moved .before .before .before .pre in
-    para-other (p .0) (p .1 .0) (p .1 .1) (moved .advance-past .ensures .0) (c .before .before .before .if1 .left) (ap (λ (r : Posting). r .bits) (c .before .before .posting-at .ensures))
-    (λ e. c .if2 .taken (c .before .doc .ensures ∙ e))
+    let read = c .before .before .before in
+    let p = read .before .before .before .before .before .pre in
+    λ pos small found.
+    para-other (p .0) (p .1 .0) small found (read .before .if1 .left) (ap (λ (r : Posting). r .bits) (read .posting-at .ensures))
+    (λ e. c .if2 .taken (c .before .before .doc .ensures ∙ e))
 
 pos-requires : tie.Need-pos-requires
 pos-requires c κs = search needs
 
 returns-3 : tie.Need-returns-3
 returns-3 c =
-    let moved = c .before .before .before .before .before .before in
-    let p = moved .before .before .before .pre in
+    let read = c .before .before .before .before in
+    let p = read .before .before .before .before .before .pre in
+    λ pos small found.
     c .pos .ensures
-    ∙ para-last (p .0) (p .1 .0) (p .1 .1) (moved .advance-past .ensures .0) (c .before .before .before .before .if1 .left) (ap (λ (r : Posting). r .bits) (c .before .before .before .posting-at .ensures))
-    (sym (c .before .before .doc .ensures) ∙ c .before .if2 .left)
+    ∙ para-last (p .0) (p .1 .0) small found (read .before .if1 .left) (ap (λ (r : Posting). r .bits) (read .posting-at .ensures))
+    (sym (c .before .before .before .doc .ensures) ∙ c .before .if2 .left)
 
 pub para-start-spec : {M : Type 1} → statement M
 para-start-spec =
     tie.close
     (tie.spec
-    advance-past-requires
     returns
     sub-posting-at
     posting-at-requires

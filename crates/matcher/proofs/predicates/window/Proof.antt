@@ -1,72 +1,86 @@
--- `predicates::window` meets its contract. The invariant of the loop: the smallest position so far, with its variable, and the largest. The measure
--- is what is left. Assumes nothing.
+-- The invariant of the loop: the first i variables of the order stand near enough to the largest. Assumes nothing.
+use Prim.Native.Nat.{ℕ, _-_, _<_, _≤_}
 use native.Mathlib.Omega.{arith}
-use denote.Ref.{now}
-use lib.ListN.{length}
-use Prim.Native.Nat.{_-_, _≤_}
+use mathlib.Core.Path.{_≡_}
 use mathlib.Core.Logic.{⊎-elim}
-use Rattle.matcher.proofs.Laws.Shortfall.{Spread, spread-first, spread-low, spread-high, spread-within, spread-least, window-short, window-kept}
+use borrow.Author.Needs.{needs}
+use denote.Ref.{now}
+use lib.ListN.{length, getD}
+use Rattle.seq.proofs.Laws.Tests.{below-or}
+use Rattle.fulltext.specs.Calculus.{at}
+use Rattle.matcher.proofs.Laws.Shortfall.{window-short, window-few, window-kept}
 use Rattle.matcher.proofs.predicates.window.Statement.{statement}
 use Rattle.matcher.proofs.predicates.window.Tie as tie
 
 abbrev Inv-loop : tie.InvT-loop
-Inv-loop positions limit n var₀ least₀ most₀ x₀ var least most x = Spread positions var least most x × (x ≤ length positions)
+Inv-loop positions order largest limit need n i₀ i = ((t : ℕ) → t < i → largest - (limit - 1) ≤ at positions (getD order t 0)) × (i ≤ length positions)
 
 abbrev μ-loop : tie.MeasureT-loop
-μ-loop positions limit n var₀ least₀ most₀ x₀ var least most x = length positions - x
+μ-loop positions order largest limit need n i₀ i = length positions - i
 
-shared-slice-read-least : tie.Need-shared-slice-read-least Inv-loop μ-loop
-shared-slice-read-least c = omega arith
+returns : tie.Need-returns Inv-loop μ-loop
+returns c =
+    let s = c .before in
+    let a = s .args in
+    λ ss. window-few ss (now (a .positions)) (s .pre .0) (now (a .order)) (s .pre .1 .0) (a .largest) (a .limit) (s .pre .1 .1 .0) (s .pre .1 .1 .1 .0) (c .if1 .taken)
+
+sub-need : tie.Need-sub-need Inv-loop μ-loop
+sub-need c = omega arith
+
+sub-need-2 : tie.Need-sub-need-2 Inv-loop μ-loop
+sub-need-2 c = omega arith
 
 loop-holds : tie.Need-loop-holds Inv-loop μ-loop
-loop-holds c = (spread-first _, omega arith)
+loop-holds c = (λ t h. absurd (let z : ⊥ = omega arith in z), omega arith)
 
-mul-pos : tie.Need-mul-pos Inv-loop μ-loop
-mul-pos c = omega arith
+mul-x : tie.Need-mul-x Inv-loop μ-loop
+mul-x c = omega arith
 
-shared-slice-read-pos : tie.Need-shared-slice-read-pos Inv-loop μ-loop
-shared-slice-read-pos c = omega arith
+shared-slice-read-x : tie.Need-shared-slice-read-x Inv-loop μ-loop
+shared-slice-read-x c = let r = c .before .before .before .before .pre .1 .0 .room in omega arith
 
-add-x : tie.Need-add-x Inv-loop μ-loop
-add-x c = omega arith
+mul-if2 : tie.Need-mul-if2 Inv-loop μ-loop
+mul-if2 c =
+    let l = c .before .before .loop in
+    let o = c .before .before .before .before .pre .1 .0 in
+    let b = o .below (l .i) (c .before .loop-test .taken) in
+    omega arith
+
+shared-slice-read-if2 : tie.Need-shared-slice-read-if2 Inv-loop μ-loop
+shared-slice-read-if2 c =
+    let l = c .before .before .before .loop in
+    let o = c .before .before .before .before .before .pre .1 .0 in
+    let b = o .below (l .i) (c .before .before .loop-test .taken) in
+    omega arith
+
+returns-2 : tie.Need-returns-2 Inv-loop μ-loop
+returns-2 c =
+    let s = c .before .before .before .before .before .before in
+    let a = s .args in
+    let l = c .before .before .before .before .loop in
+    λ ss. window-short ss (now (a .positions)) (s .pre .0) (now (a .order)) (s .pre .1 .0) (a .largest) (a .limit) (s .pre .1 .1 .0)
+    (getD (now (a .order)) (l .i) 0) (s .pre .1 .0 .below (l .i) (c .before .before .before .loop-test .taken)) (c .if2 .taken) (c .before .before .before .before .before .if1 .left)
+
+add-i : tie.Need-add-i Inv-loop μ-loop
+add-i c = omega arith
 
 loop-less : tie.Need-loop-less Inv-loop μ-loop
 loop-less c = omega arith
 
 loop-again : tie.Need-loop-again Inv-loop μ-loop
-loop-again c = let l = c .before .before .before .loop in
-    let ps = now (c .before .before .before .before .before .args .positions) in (
-      ⊎-elim
-          (λ x. rw (x .1, x .2, x .3) (spread-low ps _ _ _ _ (l .inv .0) (x .0 .taken)))
-          (⊎-elim
-          (λ x. rw (x .2, x .3, x .4) (spread-high ps _ _ _ _ (l .inv .0) (x .1 .taken)))
-          (λ x. rw (x .2, x .3, x .4) (spread-within ps _ _ _ _ (l .inv .0) (x .0 .left) (x .1 .left))))
-          (c .if1 .came),
+loop-again c =
+    let l = c .before .before .before .before .loop in (
+      λ t h. ⊎-elim (λ (k : t < l .i). l .inv .0 t k) (λ (k : l .i ≤ t). let e : t ≡ l .i = omega arith in rw e (c .if2 .left)) (below-or t (l .i)),
       omega arith,
     )
 
-sub-if3 : tie.Need-sub-if3 Inv-loop μ-loop
-sub-if3 c = omega arith
-
-add-if3 : tie.Need-add-if3 Inv-loop μ-loop
-add-if3 c = let l = c .before .loop in
+returns-3 : tie.Need-returns-3 Inv-loop μ-loop
+returns-3 c =
     let s = c .before .before .before in
-    let m = spread-least (now (s .args .positions)) (s .pre .0) _ _ _ _ (l .inv .0) (omega arith) in
-    omega arith
-
-sub-t18 : tie.Need-sub-t18 Inv-loop μ-loop
-sub-t18 c = omega arith
-
-sub-t19 : tie.Need-sub-t19 Inv-loop μ-loop
-sub-t19 c = omega arith
-
-returns : tie.Need-returns Inv-loop μ-loop
-returns c = let s = c .before .before .before .before in
-    λ ss. window-short (now (s .args .positions)) (s .pre .0) _ _ _ _ (c .before .before .loop .inv .0) (omega arith) ss _ (c .if3 .taken)
-
-returns-2 : tie.Need-returns-2 Inv-loop μ-loop
-returns-2 c = let s = c .before .before .before .before in
-    λ ss. window-kept (now (s .args .positions)) (s .pre .0) _ _ _ _ (c .before .before .loop .inv .0) (omega arith) ss _ (c .if3 .left)
+    let a = s .args in
+    let l = c .before .loop in
+    λ ss. window-kept ss (now (a .positions)) (s .pre .0) (now (a .order)) (s .pre .1 .0) (a .largest) (a .limit) (s .pre .1 .1 .0) (c .before .before .if1 .left)
+    (λ i h. l .inv .0 i (let t = c .loop-test .left in omega arith))
 
 pub window-spec : {M : Type 1} → statement M
 window-spec =
@@ -74,16 +88,16 @@ window-spec =
     (tie.spec
     Inv-loop
     μ-loop
-    shared-slice-read-least
+    returns
+    sub-need
+    sub-need-2
     loop-holds
-    mul-pos
-    shared-slice-read-pos
-    add-x
+    mul-x
+    shared-slice-read-x
+    mul-if2
+    shared-slice-read-if2
+    returns-2
+    add-i
     loop-less
     loop-again
-    sub-if3
-    add-if3
-    sub-t18
-    sub-t19
-    returns
-    returns-2)
+    returns-3)

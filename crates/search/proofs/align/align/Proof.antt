@@ -1,165 +1,213 @@
--- Of the cursors the last `standing` in turn are in document d, and no document before it has a posting of each (`Leaping`). A leap raises d, or `standing` in the same d.
+-- The first i cursors of the order are in document d, and no document before it has a posting of each (`Leaping`). A leap raises d, or i in
+-- the same d.
 use Rattle.search.proofs.align.align.Statement.{statement}
 use Rattle.search.proofs.align.align.Tie as tie
-use Prim.Native.Nat.{_+_, _-_, _*_, _≤_}
+use Prim.Native.Nat.{ℕ, _+_, _-_, _*_, _<_, _≤_}
 use native.Mathlib.Omega.{arith}
-use mathlib.Core.Path.{_≡_, ap, _∙_}
+use mathlib.Core.Path.{_≡_, refl, sym, ap, _∙_}
 use lib.ListN.{getD, length-set}
 use denote.Ref.{now}
-use Rattle.volume.specs.declared.posting.Posting.{Posting}
-use Rattle.volume.specs.Posting.{docOf}
+use Rattle.volume.specs.Posting.{docOf, posOf}
 use Rattle.volume.specs.Layout.{word}
-use Rattle.matcher.specs.declared.cursor.Cursor.{Cursor}
-use Rattle.matcher.specs.Inner.Cursors.{seekFrom}
-use Rattle.search.proofs.Laws.Align.{Leaping, leap-first, leap-stretch, leap-out, leap-here, leap-on, leap-done}
+use Rattle.matcher.specs.Inner.Cursors.{seekFrom, Stretch}
+use Rattle.search.proofs.Laws.Align.{Leaping, leap-first, leap-inside, leap-stretch, leap-out, leap-here, leap-later, leap-lead, leap-back, leap-done}
 
 abbrev Inv-loop : tie.InvT-loop
-Inv-loop volume ats₀ ends first n doc d₀ i₀ standing₀ ats d i standing = Leaping volume ends ats₀ first n doc d i standing ats
+Inv-loop volume order ats₀ ends positions₀ first n doc d₀ i₀ ats positions d i =
+    Leaping volume order ends ats₀ positions₀ first n doc d i ats positions
 
 abbrev μ-loop : tie.MeasureT-loop
-μ-loop volume ats₀ ends first n doc d₀ i₀ standing₀ ats d i standing = (65536 - d) * 9 + (n - standing)
+μ-loop volume order ats₀ ends positions₀ first n doc d₀ i₀ ats positions d i = (65536 - d) * 9 + (n - i)
 
 -- the places that the answers speak of, each from the one behind it
 abbrev start-of : tie.At-loop Inv-loop μ-loop → tie.Start Inv-loop μ-loop
-start-of c = c .before .before .before .before
+start-of c = c .before .before .before .before .before .before
 
-abbrev turn-of : tie.After-seek Inv-loop μ-loop → tie.At-loop Inv-loop μ-loop
+abbrev turn-of : tie.After-enter Inv-loop μ-loop → tie.In-loop Inv-loop μ-loop
 turn-of c = c .before .before .before .before
 
--- where the cursor stands behind its leap
-at-is : (c : tie.After-seek Inv-loop μ-loop)
-    → let turn = turn-of c in let start = start-of turn in
-    c .seek .result .at ≡ seekFrom (now (start .args .volume)) (turn .loop .d * 65536) (getD (turn .loop .ats) (start .args .first + turn .loop .i) 0) (getD (now (start .args .ends)) (start .args .first + turn .loop .i) 0)
-at-is c = ap (λ (r : Cursor). r .at) (c .seek .ensures .0)
+abbrev sought-of : tie.After-doc Inv-loop μ-loop → tie.After-enter Inv-loop μ-loop
+sought-of c = c .before .before .before
 
--- the document of the posting there
-here-is : (c : tie.After-doc Inv-loop μ-loop) → let sought = c .before .before .before in let start = start-of (turn-of sought) in
-    c .doc .result ≡ docOf (word (now (start .args .volume)) (sought .seek .result .at))
-here-is c = c .doc .ensures ∙ ap (λ (r : Posting). docOf (r .bits)) (c .before .posting-at .ensures)
+-- the variable whose cursor leaps
+abbrev var-of : tie.In-loop Inv-loop μ-loop → ℕ
+var-of c = let start = start-of (c .before) in start .args .first + getD (now (start .args .order)) (c .before .loop .i) 0
+
+inside : (c : tie.In-loop Inv-loop μ-loop) → let start = start-of (c .before) in var-of c < start .args .first + start .args .n
+inside c =
+    let p = start-of (c .before) .pre .1 .1 .1 .1 .1 .1 in
+    leap-inside _ _ _ _ _ _ _ _ (p .0) (p .1) _ _ _ _ (c .before .loop .inv) (c .loop-test .taken) _ refl
+
+stretch : (c : tie.In-loop Inv-loop μ-loop) → let start = start-of (c .before) in
+    Stretch (now (start .args .volume)) (getD (c .before .loop .ats) (var-of c) 0) (getD (now (start .args .ends)) (var-of c) 0)
+stretch c =
+    let p = start-of (c .before) .pre .1 .1 .1 .1 .1 .1 in
+    leap-stretch _ _ _ _ _ _ _ _ (p .0) (p .1) _ _ _ _ (c .before .loop .inv) (c .loop-test .taken) _ refl
+
+-- where the cursor stands behind its leap
+at-is : (c : tie.After-enter Inv-loop μ-loop) → let turn = turn-of c in let start = start-of (turn .before) in
+    c .enter .result .at
+    ≡ seekFrom (now (start .args .volume)) (turn .before .loop .d * 65536) (getD (turn .before .loop .ats) (var-of turn) 0)
+    (getD (now (start .args .ends)) (var-of turn) 0)
+at-is c = c .enter .ensures .at-is
+
+-- the position and the document of the posting there
+pos-is : (c : tie.After-pos Inv-loop μ-loop) → let sought = c .before .before in let start = start-of (turn-of sought .before) in
+    c .pos .result ≡ posOf (word (now (start .args .volume)) (sought .enter .result .at))
+pos-is c = c .pos .ensures ∙ ap posOf (c .before .before .enter .ensures .bits-are (c .before .if1 .left))
+
+here-is : (c : tie.After-doc Inv-loop μ-loop) → let sought = sought-of c in let start = start-of (turn-of sought .before) in
+    docOf (word (now (start .args .volume)) (sought .enter .result .at)) ≡ c .doc .result
+here-is c = sym (c .doc .ensures ∙ ap docOf (sought-of c .enter .ensures .bits-are (c .before .before .if1 .left)))
 
 here-small : (c : tie.After-doc Inv-loop μ-loop) → c .doc .result ≤ 65535
-here-small c = let o = c .before .posting-at .ok in let e = c .doc .ensures in omega arith
+here-small c = let o = sought-of c .enter .ok in let e = c .doc .ensures in omega arith
+
+-- a leap into another document raises it
+later : (c : tie.Else2 Inv-loop μ-loop) → turn-of (sought-of (c .before)) .before .loop .d < c .before .doc .result
+later c =
+    let sought = sought-of (c .before) in
+    let turn = turn-of sought in
+    let start = start-of (turn .before) in
+    let p = start .pre .1 .1 .1 .1 .1 .1 in
+    leap-later _ _ _ _ _ _ _ _ (p .0) (p .1) _ _ _ _ (turn .before .loop .inv) (turn .loop-test .taken) _ refl (start .pre .0)
+    (start .pre .1 .1 .0) _ (at-is sought) (c .before .before .before .if1 .left) _ (pos-is (c .before .before)) _
+    (here-is (c .before)) (c .if2 .left) (let s = here-small (c .before) in omega arith)
 
 loop-holds : tie.Need-loop-holds Inv-loop μ-loop
 loop-holds c =
-    let start = c .before .before .before in
-    let p = start .pre .1 .1 .1 .1 in leap-first _ _ _ _ _ _ (omega arith) (start .pre .1 .1 .0) (p .1)
+    let p = c .before .before .before .before .before .pre .1 .1 .1 .1 .1 in
+    leap-first _ _ _ _ _ _ _ _ (p .0) (p .1 .1)
+
+mul-x : tie.Need-mul-x Inv-loop μ-loop
+mul-x c = let n = start-of (c .before) .pre .1 .1 .1 .1 .0 in let t = c .loop-test .taken in omega arith
+
+shared-slice-read-x : tie.Need-shared-slice-read-x Inv-loop μ-loop
+shared-slice-read-x c =
+    let r = start-of (c .before .before) .pre .1 .1 .1 .1 .1 .1 .0 .room in let t = c .before .loop-test .taken in omega arith
 
 add-x : tie.Need-add-x Inv-loop μ-loop
-add-x c = let l = c .before .loop .inv .next in omega arith
+add-x c = let i = inside (c .before) in let r = start-of (c .before .before) .pre .0 in omega arith
 
 mul-end : tie.Need-mul-end Inv-loop μ-loop
-mul-end c = let l = c .before .loop .inv .next in omega arith
+mul-end c = let i = inside (c .before) in let r = start-of (c .before .before) .pre .0 in omega arith
 
 shared-slice-read-end : tie.Need-shared-slice-read-end Inv-loop μ-loop
-shared-slice-read-end c = let l = c .before .before .loop .inv .next in omega arith
+shared-slice-read-end c = let i = inside (c .before .before) in let r = start-of (c .before .before .before) .pre .1 .0 in omega arith
 
-mul-t18 : tie.Need-mul-t18 Inv-loop μ-loop
-mul-t18 c = let l = c .before .before .loop .inv .next in omega arith
+mul-t19 : tie.Need-mul-t19 Inv-loop μ-loop
+mul-t19 c = let i = inside (c .before .before) in let r = start-of (c .before .before .before) .pre .0 in omega arith
 
-slice-read-t20 : tie.Need-slice-read-t20 Inv-loop μ-loop
-slice-read-t20 c =
+slice-read-t21 : tie.Need-slice-read-t21 Inv-loop μ-loop
+slice-read-t21 c =
     let turn = c .before .before .before in
-    let l = turn .loop .inv .same-length in let x = turn .loop .inv .next in omega arith
+    let i = inside turn in let r = start-of (turn .before) .pre .0 in let l = turn .before .loop .inv .same-length in omega arith
 
-seek-requires : tie.Need-seek-requires Inv-loop μ-loop
-seek-requires c κs =
-    let turn = c .before .before .before in
-    let start = start-of turn in
-    let s = turn .loop .inv .same-length in leap-stretch _ _ _ _ _ _ (start .pre .1 .1 .1 .1 .1) (turn .loop .d) (turn .loop .i) (turn .loop .standing) (turn .loop .ats) (turn .loop .inv) (c .before .before .loop-test .taken) (omega arith)
+enter-requires : tie.Need-enter-requires Inv-loop μ-loop
+enter-requires c κs = stretch (c .before .before .before)
 
 mul-ats : tie.Need-mul-ats Inv-loop μ-loop
-mul-ats c =
-    let turn = turn-of c in
-    let l = turn .loop .inv .next in omega arith
+mul-ats c = let i = inside (turn-of c) in let r = start-of (turn-of c .before) .pre .0 in omega arith
 
 slice-write-ats : tie.Need-slice-write-ats Inv-loop μ-loop
 slice-write-ats c =
     let turn = turn-of c in
-    let l = turn .loop .inv .same-length in let x = turn .loop .inv .next in omega arith
+    let i = inside turn in let r = start-of (turn .before) .pre .0 in let l = turn .before .loop .inv .same-length in omega arith
 
 same-length : tie.Need-same-length Inv-loop μ-loop
-same-length c =
-    let turn = turn-of (c .before) in
-    length-set (turn .loop .ats) _ _ ∙ turn .loop .inv .same-length
+same-length c = let loop = turn-of (c .before) .before .loop in length-set (loop .ats) _ _ ∙ loop .inv .same-length
+
+same-length-2 : tie.Need-same-length-2 Inv-loop μ-loop
+same-length-2 c = turn-of (c .before) .before .loop .inv .positions-length
 
 returns : tie.Need-returns Inv-loop μ-loop
 returns c =
-    let sought = c .before in
-    let turn = turn-of sought in
-    let start = start-of turn in
-    let s = turn .loop .inv .same-length in leap-out _ _ _ _ _ _ (start .pre .1 .1 .1 .1 .1) (turn .loop .d) (turn .loop .i) (turn .loop .standing)
-    (turn .loop .ats) (turn .loop .inv) (sought .before .before .before .loop-test .taken) (omega arith) (c .before .seek .result .at)
-    (at-is (c .before)) (c .if1 .taken)
+    let turn = turn-of (c .before) in
+    let start = start-of (turn .before) in
+    let p = start .pre .1 .1 .1 .1 .1 .1 in
+    leap-out _ _ _ _ _ _ _ _ (p .0) (p .1) _ _ _ _ (turn .before .loop .inv) (turn .loop-test .taken) _ refl (start .pre .0)
+    (start .pre .1 .1 .0) _ (at-is (c .before)) (c .if1 .taken)
 
-posting-at-requires : tie.Need-posting-at-requires Inv-loop μ-loop
-posting-at-requires c κs =
-    let sought = c .before in
-    let turn = turn-of sought in
-    let start = start-of turn in
-    let s = turn .loop .inv .same-length in
-    let b = leap-stretch _ _ _ _ _ _ (start .pre .1 .1 .1 .1 .1) (turn .loop .d) (turn .loop .i) (turn .loop .standing) (turn .loop .ats) (turn .loop .inv) (sought .before .before .before .loop-test .taken) (omega arith) .within in
-    let i = c .if1 .left in
-    omega arith
+pos-requires : tie.Need-pos-requires Inv-loop μ-loop
+pos-requires c κs = omega arith
+
+mul-positions : tie.Need-mul-positions Inv-loop μ-loop
+mul-positions c =
+    let turn = turn-of (c .before .before) in
+    let i = inside turn in let r = start-of (turn .before) .pre .0 in omega arith
+
+slice-write-positions : tie.Need-slice-write-positions Inv-loop μ-loop
+slice-write-positions c =
+    let turn = turn-of (c .before .before) in
+    let i = inside turn in let r = start-of (turn .before) .pre .1 .1 .0 in let l = turn .before .loop .inv .positions-length in omega arith
 
 doc-requires : tie.Need-doc-requires Inv-loop μ-loop
 doc-requires c κs = omega arith
 
-turn-requires : tie.Need-turn-requires Inv-loop μ-loop
-turn-requires c κs =
-    let turn = turn-of (c .before .before .before) in
-    turn .loop .inv .next
-
-add-standing : tie.Need-add-standing Inv-loop μ-loop
-add-standing c = omega arith
+add-i : tie.Need-add-i Inv-loop μ-loop
+add-i c =
+    let turn = turn-of (sought-of (c .before)) in
+    let t = turn .loop-test .taken in let n = start-of (turn .before) .pre .1 .1 .1 .1 .0 in omega arith
 
 loop-less : tie.Need-loop-less Inv-loop μ-loop
-loop-less c =
-    let sought = c .before .before .before .before .before in
-    let t = sought .before .before .before .loop-test .taken in omega arith
+loop-less c = let t = turn-of (sought-of (c .before)) .loop-test .taken in omega arith
 
 loop-again : tie.Need-loop-again Inv-loop μ-loop
 loop-again c =
-    let sought = c .before .before .before .before .before in
+    let sought = sought-of (c .before) in
     let turn = turn-of sought in
-    let start = start-of turn in
-    let s = turn .loop .inv .same-length in
-    let w = here-is (c .before .before) in
-    let small = here-small (c .before .before) in
-    rw (c .before .turn .ensures) (leap-here _ _ _ _ _ _ (start .pre .1 .1 .1 .1 .1) (turn .loop .d) (turn .loop .i) (turn .loop .standing)
-    (turn .loop .ats) (turn .loop .inv) (sought .before .before .before .loop-test .taken) (omega arith) (sought .seek .result .at) (at-is (sought))
-    (c .before .before .before .before .if1 .left) (omega arith))
+    let start = start-of (turn .before) in
+    let p = start .pre .1 .1 .1 .1 .1 .1 in
+    leap-here _ _ _ _ _ _ _ _ (p .0) (p .1) _ _ _ _ (turn .before .loop .inv) (turn .loop-test .taken) _ refl (start .pre .0)
+    (start .pre .1 .1 .0) _ (at-is sought) (c .before .before .before .if1 .left) _ (pos-is (c .before .before))
+    (here-is (c .before) ∙ c .if2 .taken)
 
 loop-less-2 : tie.Need-loop-less-2 Inv-loop μ-loop
 loop-less-2 c =
-    let sought = c .before .before .before .before .before in
-    let turn = turn-of sought in
-    let start = start-of turn in
-    let s = turn .loop .inv .same-length in
-    let w = here-is (c .before .before) in
-    let small = here-small (c .before .before) in
-    let k = leap-on _ _ _ _ _ _ (start .pre .1 .1 .1 .1 .1) (turn .loop .d) (turn .loop .i) (turn .loop .standing) (turn .loop .ats)
-    (turn .loop .inv) (sought .before .before .before .loop-test .taken) (omega arith) (sought .seek .result .at) (at-is (sought))
-    (c .before .before .doc .result) (c .before .before .before .before .if1 .left) (omega arith) (c .if2 .left) (omega arith) .0 in
+    let k = later (c .before) in
+    let s = here-small (c .before .before) in
+    let n = start-of (turn-of (sought-of (c .before .before)) .before) .pre .1 .1 .1 .1 .0 in
     omega arith
 
 loop-again-2 : tie.Need-loop-again-2 Inv-loop μ-loop
 loop-again-2 c =
-    let sought = c .before .before .before .before .before in
+    let doc = c .before .before in
+    let sought = sought-of doc in
     let turn = turn-of sought in
-    let start = start-of turn in
-    let s = turn .loop .inv .same-length in
-    let w = here-is (c .before .before) in
-    let small = here-small (c .before .before) in
-    rw (c .before .turn .ensures) (leap-on _ _ _ _ _ _ (start .pre .1 .1 .1 .1 .1) (turn .loop .d) (turn .loop .i) (turn .loop .standing)
-    (turn .loop .ats) (turn .loop .inv) (sought .before .before .before .loop-test .taken) (omega arith) (sought .seek .result .at) (at-is (sought))
-    (c .before .before .doc .result) (c .before .before .before .before .if1 .left) (omega arith) (c .if2 .left) (omega arith) .1)
+    let start = start-of (turn .before) in
+    let p = start .pre .1 .1 .1 .1 .1 .1 in
+    leap-lead _ _ _ _ _ _ _ _ (p .0) (p .1) _ _ _ _ (turn .before .loop .inv) (turn .loop-test .taken) _ refl (start .pre .0)
+    (start .pre .1 .1 .0) _ (at-is sought) (doc .before .before .if1 .left) _ (pos-is (doc .before)) _
+    (here-is doc) (c .before .if2 .left) (let s = here-small doc in omega arith) (c .if3 .taken)
 
-same-length-2 : tie.Need-same-length-2 Inv-loop μ-loop
-same-length-2 c = c .before .loop .inv .same-length
+loop-less-3 : tie.Need-loop-less-3 Inv-loop μ-loop
+loop-less-3 c =
+    let k = later (c .before) in
+    let s = here-small (c .before .before) in
+    let n = start-of (turn-of (sought-of (c .before .before)) .before) .pre .1 .1 .1 .1 .0 in
+    omega arith
+
+loop-again-3 : tie.Need-loop-again-3 Inv-loop μ-loop
+loop-again-3 c =
+    let doc = c .before .before in
+    let sought = sought-of doc in
+    let turn = turn-of sought in
+    let start = start-of (turn .before) in
+    let p = start .pre .1 .1 .1 .1 .1 .1 in
+    leap-back _ _ _ _ _ _ _ _ (p .0) (p .1) _ _ _ _ (turn .before .loop .inv) (turn .loop-test .taken) _ refl (start .pre .0)
+    (start .pre .1 .1 .0) _ (at-is sought) (doc .before .before .if1 .left) _ (pos-is (doc .before)) _
+    (here-is doc) (c .before .if2 .left) (let s = here-small doc in omega arith)
+
+same-length-3 : tie.Need-same-length-3 Inv-loop μ-loop
+same-length-3 c = c .before .loop .inv .same-length
+
+same-length-4 : tie.Need-same-length-4 Inv-loop μ-loop
+same-length-4 c = c .before .loop .inv .positions-length
 
 returns-2 : tie.Need-returns-2 Inv-loop μ-loop
-returns-2 c = leap-done _ _ _ _ _ _ (c .before .loop .d) (c .before .loop .i) (c .before .loop .standing) (c .before .loop .ats) (c .before .loop .inv) (c .loop-test .left)
+returns-2 c =
+    let p = start-of (c .before) .pre .1 .1 .1 .1 .1 .1 in
+    leap-done _ _ _ _ _ _ _ _ (p .0) _ _ _ _ (c .before .loop .inv) (c .loop-test .left)
 
 pub align-spec : {M : Type 1} → statement M
 align-spec =
@@ -168,23 +216,30 @@ align-spec =
     Inv-loop
     μ-loop
     loop-holds
+    mul-x
+    shared-slice-read-x
     add-x
     mul-end
     shared-slice-read-end
-    mul-t18
-    slice-read-t20
-    seek-requires
+    mul-t19
+    slice-read-t21
+    enter-requires
     mul-ats
     slice-write-ats
     same-length
+    same-length-2
     returns
-    posting-at-requires
+    pos-requires
+    mul-positions
+    slice-write-positions
     doc-requires
-    turn-requires
-    add-standing
+    add-i
     loop-less
     loop-again
     loop-less-2
     loop-again-2
-    same-length-2
+    loop-less-3
+    loop-again-3
+    same-length-3
+    same-length-4
     returns-2)

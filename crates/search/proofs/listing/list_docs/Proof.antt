@@ -1,4 +1,5 @@
--- The rows of the true documents below `from` are laid, the walk goes on there (`Visiting`), and `known` has answers of the plan. Each turn ends in an answer or a later document.
+-- The rows of the true documents below `from` are laid, the walk goes on there (`Visiting`), and `known` has answers of the plan. Each turn
+-- ends in an answer or a later document.
 use Rattle.search.proofs.listing.list_docs.Statement.{statement}
 use Rattle.search.proofs.listing.list_docs.Tie as tie
 use Prim.Native.Nat.{_-_, _/_, _<_, _≤_}
@@ -8,7 +9,7 @@ use lib.ListN.{length, take}
 use lib.Seq.{length-take-le}
 use borrow.Author.Tests.{not-true, not-false}
 use denote.Ref.{now}
-use Rattle.plan.specs.Limits.{mostPatterns, rowWords, mostRowWords}
+use Rattle.plan.specs.Limits.{mostPatterns, rowWords}
 use Rattle.plan.specs.Check.{sizes}
 use Rattle.plan.specs.Inner.Stack.{mostFoundSets, Remembers}
 use Rattle.plan.proofs.Laws.Accepted.{given}
@@ -17,19 +18,26 @@ use Rattle.fulltext.specs.Documents.{work}
 use Rattle.fulltext.proofs.Laws.Counts.{work-even}
 use Rattle.search.proofs.Laws.Loop.{Progress, same-size}
 use Rattle.search.proofs.Laws.Seen.{walking-first, seen-true}
-use Rattle.search.proofs.Laws.Visits.{Visiting, visiting-first, visiting-part, part-length, visit-reached, visit-passed, visit-put, visit-room, visit-words, visit-rows, visit-few, visit-done, visit-more}
+use Rattle.search.specs.Inner.Rows.{rowBy}
+use Rattle.search.proofs.Laws.Walk.{walk-within}
+use Rattle.search.proofs.Laws.Visits.{Visiting, visiting-first, visiting-part, part-length, visit-reached, visit-wide, visit-passed}
+use Rattle.search.proofs.Laws.Visits.{visit-put, visit-room, visit-words, visit-rows, visit-few, visit-done, visit-more}
 
 abbrev Inv-loop : tie.InvT-loop
-Inv-loop volume plan table start firsts ends ats₀ out₀ patterns width room paras starts₀ docs₀ row₀ known₀ rows₀ from₀ ats out starts docs row known rows from =
-    Visiting volume plan ends start out₀ ats (take patterns docs) out from rows starts ×
-    ((length docs ≡ mostPatterns) × ((length row ≡ mostRowWords) × ((length ats ≡ length ats₀) × ((length known ≡ mostFoundSets) × Remembers plan known))))
+Inv-loop volume plan table orders start firsts ends ats₀ positions₀ out₀ patterns width room paras starts₀ docs₀ known₀ rows₀ from₀ ats
+    positions out starts docs known rows from =
+    Visiting volume plan ends start out₀ ats positions (take patterns docs) out from rows starts
+    × ((length docs ≡ mostPatterns)
+    × ((length ats ≡ length ats₀) × ((length known ≡ mostFoundSets) × (Remembers plan known × (length positions ≡ length positions₀)))))
 
 abbrev μ-loop : tie.MeasureT-loop
-μ-loop volume plan table start firsts ends ats₀ out₀ patterns width room paras starts₀ docs₀ row₀ known₀ rows₀ from₀ ats out starts docs row known rows from = 65537 - from
+μ-loop volume plan table orders start firsts ends ats₀ positions₀ out₀ patterns width room paras starts₀ docs₀ known₀ rows₀ from₀ ats
+    positions out starts docs known rows from =
+    65537 - from
 
 -- the places that the answers speak of, each from the one behind it
-abbrev entry-of : tie.After-slice-known2 Inv-loop μ-loop → tie.Start Inv-loop μ-loop
-entry-of c = c .before .before .before .before .before .before .before
+abbrev entry-of : tie.After-slice-known3 Inv-loop μ-loop → tie.Start Inv-loop μ-loop
+entry-of c = c .before .before .before .before .before .before .before .before .before
 
 abbrev start-of : tie.At-loop Inv-loop μ-loop → tie.Start Inv-loop μ-loop
 start-of c = entry-of (c .before .before .before .before)
@@ -41,7 +49,7 @@ abbrev turn-of : tie.After-visit Inv-loop μ-loop → tie.At-loop Inv-loop μ-lo
 turn-of c = c .before .before .before .before
 
 abbrev seen-of : tie.Else1 Inv-loop μ-loop → tie.After-visit Inv-loop μ-loop
-seen-of c = c .before .before .before .before .before
+seen-of c = c .before .before .before .before .before .before
 
 abbrev found-of : tie.After-answer-of Inv-loop μ-loop → tie.Else1 Inv-loop μ-loop
 found-of c = c .before .before .before
@@ -50,9 +58,9 @@ abbrev told-of : tie.Else2 Inv-loop μ-loop → tie.After-answer-of Inv-loop μ-
 told-of c = c .before .before
 
 abbrev last-seen : tie.After-tally Inv-loop μ-loop → tie.After-visit Inv-loop μ-loop
-last-seen c = c .before .before .before .before .before .before
+last-seen c = c .before .before .before .before .before .before .before
 
-abbrev true-of : tie.After-slice-known4 Inv-loop μ-loop → tie.Else2 Inv-loop μ-loop
+abbrev true-of : tie.After-slice-known6 Inv-loop μ-loop → tie.Else2 Inv-loop μ-loop
 true-of c = c .before .before .before .before .before .before
 
 -- the number of patterns, and the words of a row
@@ -64,7 +72,7 @@ wide : (c : tie.After-row-words Inv-loop μ-loop) → let start = entry-of (c .b
 wide c = let start = entry-of (c .before) in let e = c .row-words .ensures in let m = many start in let f = start .pre .1 .1 .0 in omega arith
 
 few : (c : tie.Start Inv-loop μ-loop) → (sizes (now (c .args .plan)) .patterns ≤ mostPatterns) × (rowWords (sizes (now (c .args .plan)) .patterns) (sizes (now (c .args .plan)) .vars) ≤ 59)
-few c = visit-few _ _ _ _ (c .pre .0)
+few c = visit-few _ _ _ _ _ (c .pre .0)
 
 -- the rows laid when the next document is reached
 reached : (c : tie.After-visit Inv-loop μ-loop) → let turn = turn-of c in let start = start-of turn in
@@ -77,14 +85,15 @@ inside c = let l = seen-of c .visit .ensures .most in let n = c .if1 .left in om
 
 -- the arrays keep their lengths
 docs-size : (c : tie.After-visit Inv-loop μ-loop) → let turn = turn-of c in let start = start-of turn in
-    length (c .visit .last .1 .1 .1 .1 .1 .1 .0) ≡ length (take (length (now (start .args .table)) / 4) (turn .loop .docs))
-docs-size c = c .visit .kept .1 .1 .1 .1 .1 .1 .0
+    length (c .visit .last .1 .1 .1 .1 .1 .1 .1 .1 .0) ≡ length (take (length (now (start .args .table)) / 4) (turn .loop .docs))
+docs-size c = c .visit .kept .1 .1 .1 .1 .1 .1 .1 .1 .0
 
-row-size : (c : tie.After-visit Inv-loop μ-loop) → length (c .visit .last .1 .1 .1 .1 .1 .1 .1 .0) ≡ mostRowWords
-row-size c = c .visit .kept .1 .1 .1 .1 .1 .1 .1 .0 ∙ turn-of c .loop .inv .1 .1 .0
+ats-size : (c : tie.After-visit Inv-loop μ-loop) → length (c .visit .last .1 .1 .1 .1 .1 .0) ≡ length (now (start-of (turn-of c) .args .ats))
+ats-size c = c .visit .kept .1 .1 .1 .1 .1 .0 ∙ turn-of c .loop .inv .1 .1 .0
 
-ats-size : (c : tie.After-visit Inv-loop μ-loop) → length (c .visit .last .1 .1 .1 .1 .0) ≡ length (now (start-of (turn-of c) .args .ats))
-ats-size c = c .visit .kept .1 .1 .1 .1 .0 ∙ turn-of c .loop .inv .1 .1 .1 .0
+positions-size : (c : tie.After-visit Inv-loop μ-loop)
+    → length (c .visit .last .1 .1 .1 .1 .1 .1 .1 .0) ≡ length (now (start-of (turn-of c) .args .positions))
+positions-size c = c .visit .kept .1 .1 .1 .1 .1 .1 .1 .0 ∙ turn-of c .loop .inv .1 .1 .1 .1 .1
 
 -- the bits of the found patterns are below 256
 bits-small : (c : tie.Else1 Inv-loop μ-loop) → seen-of c .visit .result .found < mostFoundSets
@@ -102,15 +111,15 @@ told c =
 
 -- one answer more is known
 known-size : (c : tie.After-answer-of Inv-loop μ-loop) → length (c .answer-of .last .1 .1 .0) ≡ mostFoundSets
-known-size c = c .answer-of .kept .1 .1 .0 ∙ turn-of (seen-of (found-of c)) .loop .inv .1 .1 .1 .1 .0
+known-size c = c .answer-of .kept .1 .1 .0 ∙ turn-of (seen-of (found-of c)) .loop .inv .1 .1 .1 .0
 
 remembers : (c : tie.After-answer-of Inv-loop μ-loop) → Remembers (now (start-of (turn-of (seen-of (found-of c))) .args .plan)) (c .answer-of .last .1 .1 .0)
 remembers c =
     let turn = turn-of (seen-of (found-of c)) in
     let b = bits-small (found-of c) in
-    let l = turn .loop .inv .1 .1 .1 .1 .0 in
+    let l = turn .loop .inv .1 .1 .1 .0 in
     subst (Remembers (now (start-of turn .args .plan))) (sym (c .answer-of .ensures .1))
-    (remembers-next _ _ (turn .loop .inv .1 .1 .1 .1 .1) _ (omega arith) _ (c .answer-of .ensures .0))
+    (remembers-next _ _ (turn .loop .inv .1 .1 .1 .1 .0) _ (omega arith) _ (c .answer-of .ensures .0))
 
 cast-row-words : tie.Need-cast-row-words Inv-loop μ-loop
 cast-row-words c = let m = many (entry-of c) in let f = few (entry-of c) .0 in omega arith
@@ -138,15 +147,16 @@ loop-holds c =
     let low : start .args .start ≤ 65536 = let l = p .1 .1 .1 .0 in omega arith in
     let m = many start in
     let n = few start .0 in (
-      visiting-first _ _ _ _ _ _ _ _ low
-          (walking-first _ _ _ _ (p .0) _ (now (start .args .firsts)) _ _ low (omega arith) (p .1 .1 .1 .1 .0) (p .1 .1 .1 .1 .1 .0)
+      visiting-first _ _ _ _ _ _ _ _ _ low
+          (walking-first _ _ _ _ _ (p .0) _ (now (start .args .firsts)) _ _ _ low (omega arith) (p .1 .1 .1 .1 .1 .1 .0) (p .1 .1 .1 .1 .0)
+          (p .1 .1 .1 .1 .1 .0)
           (length-take-le (length (now (start .args .table)) / 4) _ (omega arith) ∙ m) _ (c .starts-of .ensures)),
-      (refl, (refl, (refl, (refl, remembers-first (now (start .args .plan)) mostFoundSets)))),
+      (refl, (refl, (refl, (remembers-first (now (start .args .plan)) mostFoundSets, refl)))),
     )
 
 array-borrow-prefix-docs : tie.Need-array-borrow-prefix-docs Inv-loop μ-loop
 array-borrow-prefix-docs c =
-    let turn = c .before in
+    let turn = c .before .before in
     let start = start-of turn in
     let m = many start in
     let n = few start .0 in
@@ -155,40 +165,35 @@ array-borrow-prefix-docs c =
 
 slice-aggregate-visit : tie.Need-slice-aggregate-visit Inv-loop μ-loop
 slice-aggregate-visit c =
-    let turn = c .before .before in
+    let turn = c .before .before .before in
     let start = start-of turn in
     let m = many start in
     let n = few start .0 in
     let l = turn .loop .inv .1 .0 in
     sym (length-take-le (length (now (start .args .table)) / 4) _ (omega arith))
 
-slice-aggregate-visit-2 : tie.Need-slice-aggregate-visit-2 Inv-loop μ-loop
-slice-aggregate-visit-2 c = sym (c .before .before .before .loop .inv .1 .1 .0)
-
 visit-requires : tie.Need-visit-requires Inv-loop μ-loop
-visit-requires c κs =
-    let turn = c .before .before .before in
-    let start = start-of turn in
-    let n = few start .1 in
-    let l = turn .loop .inv .1 .1 .0 in
-    (start .pre .0, (turn .loop .inv .0 .walking, omega arith))
+visit-requires c κs = let turn = c .before .before .before in (start-of turn .pre .0, turn .loop .inv .0 .walking)
 
 tally-requires : tie.Need-tally-requires Inv-loop μ-loop
 tally-requires c κs =
-    let seen = c .before .before .before .before .before in
+    let seen = c .before .before .before .before .before .before in
     let p = start-of (turn-of seen) .pre in
     let e = p .1 .1 .0 in
     let r = p .0 .ends-room in
     (p .0 .accepted, (e, (omega arith, (reached seen .from, (seen .visit .ensures .most, p .1 .1 .1 .1 .0)))))
 
-cast-t34 : tie.Need-cast-t34 Inv-loop μ-loop
-cast-t34 c = let n = visit-rows _ _ _ _ _ _ _ (reached (last-seen c)) in omega arith
+cast-t35 : tie.Need-cast-t35 Inv-loop μ-loop
+cast-t35 c = let n = visit-rows _ _ _ _ _ _ _ (reached (last-seen c)) in omega arith
 
 same-length : tie.Need-same-length Inv-loop μ-loop
 same-length c = ats-size (last-seen c)
 
 same-length-2 : tie.Need-same-length-2 Inv-loop μ-loop
-same-length-2 c =
+same-length-2 c = positions-size (last-seen c)
+
+same-length-3 : tie.Need-same-length-3 Inv-loop μ-loop
+same-length-3 c =
     let turn = turn-of (last-seen c) in
     let start = start-of turn in
     same-size (work (now (start .args .volume)) (now (start .args .plan))) (work-even (now (start .args .volume)) (now (start .args .plan))) (turn .loop .inv .0 .progress)
@@ -198,21 +203,21 @@ returns c =
     let seen = last-seen c in
     let start = start-of (turn-of seen) in
     let p = start .pre in
-    visit-done _ _ _ _ (p .0) _ _ (p .1 .1 .1 .0) (p .1 .1 .1 .1 .1 .1) _ _ _ (reached seen) (c .tally .result) (c .tally .ensures) (c .before .if1 .taken)
+    visit-done _ _ _ _ _ (p .0) _ _ (p .1 .1 .1 .0) (p .1 .1 .1 .1 .1 .1 .1) _ _ _ (reached seen) (c .tally .result) (c .tally .ensures) (c .before .if1 .taken)
 
 add-from : tie.Need-add-from Inv-loop μ-loop
 add-from c = let l = inside c in omega arith
 
 slice-aggregate-answer-of : tie.Need-slice-aggregate-answer-of Inv-loop μ-loop
-slice-aggregate-answer-of c = sym (turn-of (seen-of (c .before .before)) .loop .inv .1 .1 .1 .1 .0)
+slice-aggregate-answer-of c = sym (turn-of (seen-of (c .before .before)) .loop .inv .1 .1 .1 .0)
 
 answer-of-requires : tie.Need-answer-of-requires Inv-loop μ-loop
 answer-of-requires c κs =
     let turn = turn-of (seen-of (c .before .before)) in
     let start = start-of turn in
     let b = bits-small (c .before .before) in
-    let l = turn .loop .inv .1 .1 .1 .1 .0 in
-    ((now (start .args .volume), start .pre .0 .accepted), (turn .loop .inv .1 .1 .1 .1 .1, omega arith))
+    let l = turn .loop .inv .1 .1 .1 .0 in
+    ((now (start .args .volume), start .pre .0 .accepted), (turn .loop .inv .1 .1 .1 .1 .0, omega arith))
 
 loop-less : tie.Need-loop-less Inv-loop μ-loop
 loop-less c =
@@ -229,12 +234,13 @@ loop-again c =
     let seen = seen-of found in
     let turn = turn-of seen in
     let start = start-of turn in (
-      visiting-part _ _ _ _ _ _ _ _ _ _ _ _ _ (many start)
-          (visit-passed _ _ _ _ _ _ _ _ _ _ (seen .visit .ensures) _ _ (turn .loop .inv .0 .progress) (inside found) (told told-at ∙ not-true _ (c .if2 .taken))),
+      visiting-part _ _ _ _ _ _ _ _ _ _ _ _ _ _ (many start)
+          (visit-passed _ _ _ _ _ _ _ _ _ _ (seen .visit .ensures) _ _ (turn .loop .inv .0 .progress) (inside found)
+          (told told-at ∙ not-true _ (c .if2 .taken))),
       (
-        part-length (turn .loop .docs) (seen .visit .last .1 .1 .1 .1 .1 .1 .0) (length (now (start .args .table)) / 4) 8 (docs-size seen)
-            (turn .loop .inv .1 .0),
-        (row-size seen, (ats-size seen, (known-size told-at, remembers told-at))),
+        part-length (turn .loop .docs) (seen .visit .last .1 .1 .1 .1 .1 .1 .1 .1 .0) (length (now (start .args .table)) / 4) 8
+            (docs-size seen) (turn .loop .inv .1 .0),
+        (ats-size seen, (known-size told-at, (remembers told-at, positions-size seen))),
       ),
     )
 
@@ -246,14 +252,17 @@ tally-requires-2 c κs =
     let r = p .0 .ends-room in
     (p .0 .accepted, (e, (omega arith, (reached seen .from, (seen .visit .ensures .most, p .1 .1 .1 .1 .0)))))
 
-cast-t38 : tie.Need-cast-t38 Inv-loop μ-loop
-cast-t38 c = let n = visit-rows _ _ _ _ _ _ _ (reached (seen-of (found-of (told-of (c .before .before))))) in omega arith
-
-same-length-3 : tie.Need-same-length-3 Inv-loop μ-loop
-same-length-3 c = ats-size (seen-of (found-of (told-of (c .before .before))))
+cast-t39 : tie.Need-cast-t39 Inv-loop μ-loop
+cast-t39 c = let n = visit-rows _ _ _ _ _ _ _ (reached (seen-of (found-of (told-of (c .before .before))))) in omega arith
 
 same-length-4 : tie.Need-same-length-4 Inv-loop μ-loop
-same-length-4 c =
+same-length-4 c = ats-size (seen-of (found-of (told-of (c .before .before))))
+
+same-length-5 : tie.Need-same-length-5 Inv-loop μ-loop
+same-length-5 c = positions-size (seen-of (found-of (told-of (c .before .before))))
+
+same-length-6 : tie.Need-same-length-6 Inv-loop μ-loop
+same-length-6 c =
     let turn = turn-of (seen-of (found-of (told-of (c .before .before)))) in
     let start = start-of turn in
     same-size (work (now (start .args .volume)) (now (start .args .plan))) (work-even (now (start .args .volume)) (now (start .args .plan))) (turn .loop .inv .0 .progress)
@@ -265,13 +274,21 @@ returns-2 c =
     let turn = turn-of seen in
     let start = start-of turn in
     let p = start .pre in
-    visit-more _ _ _ _ (p .0) _ _ (p .1 .1 .1 .0) (p .1 .1 .1 .1 .1 .1) _ _ _ (reached seen) (c .tally2 .result) (c .tally2 .ensures) (inside found) (told (told-of (c .before .before)) ∙ not-false _ (c .before .before .if2 .left)) _ (wide (words-of turn)) (c .before .if3 .taken)
+    visit-more _ _ _ _ _ (p .0) _ _ (p .1 .1 .1 .0) (p .1 .1 .1 .1 .1 .1 .1) _ _ _ (reached seen) (c .tally2 .result) (c .tally2 .ensures) (inside found) (told (told-of (c .before .before)) ∙ not-false _ (c .before .before .if2 .left)) _ (wide (words-of turn)) (c .before .if3 .taken)
 
-slice-aggregate-put-row : tie.Need-slice-aggregate-put-row Inv-loop μ-loop
-slice-aggregate-put-row c = sym (row-size (seen-of (found-of (told-of (c .before .before)))))
+-- the row has as many words as a row of the plan
+row-wide :
+    (c : tie.Else1 Inv-loop μ-loop)
+    → let seen = seen-of c in let start = start-of (turn-of seen) in let table = now (start .args .table) in let r = seen .visit .result in
+    length (rowBy table (r .doc) (r .found) (seen .visit .last .1 .1 .1 .1 .1 .1 .1 .0) (length table / 4))
+    ≡ rowWords (sizes (now (start .args .plan)) .patterns) (sizes (now (start .args .plan)) .vars)
+row-wide c =
+    let seen = seen-of c in
+    let start = start-of (turn-of seen) in
+    visit-wide _ _ _ _ _ (start .pre .0) _ _ _ _ _ (seen .visit .ensures) (inside c) _ (many start)
 
-mul-put-row : tie.Need-mul-put-row Inv-loop μ-loop
-mul-put-row c =
+mul-write-row : tie.Need-mul-write-row Inv-loop μ-loop
+mul-write-row c =
     let turn = turn-of (seen-of (found-of (told-of (c .before .before .before)))) in
     let start = start-of turn in
     let m = few start .1 in
@@ -280,15 +297,21 @@ mul-put-row c =
     let s = visit-words (turn .loop .rows) (words-of turn .row-words .result) n (omega arith) in
     omega arith
 
-put-row-requires : tie.Need-put-row-requires Inv-loop μ-loop
-put-row-requires c κs =
-    let seen = seen-of (found-of (told-of (c .before .before .before))) in
+write-row-requires : tie.Need-write-row-requires Inv-loop μ-loop
+write-row-requires c κs =
+    let found = found-of (told-of (c .before .before .before)) in
+    let seen = seen-of found in
     let turn = turn-of seen in
     let start = start-of turn in
-    let m = few start .1 in
     let w = wide (words-of turn) in
-    let r = row-size seen in
-    (omega arith, visit-room _ _ _ _ _ _ (turn .loop .rows) _ w (turn .loop .inv .0 .progress) (c .before .before .if3 .left))
+    let l = row-wide found in
+    let r = visit-room _ _ _ _ _ _ (turn .loop .rows) _ w (turn .loop .inv .0 .progress) (c .before .before .if3 .left) in
+    let reach = seen .visit .ensures .walking (inside found) .positions-room in
+    let m = many start in
+    let t = start .pre .1 .0 in (
+      omega arith,
+      (λ k h. let v = walk-within _ _ _ _ _ (start .pre .0) k (omega arith) in omega arith, omega arith),
+    )
 
 add-rows : tie.Need-add-rows Inv-loop μ-loop
 add-rows c = let n = visit-rows _ _ _ _ _ _ _ (reached (seen-of (found-of (told-of (true-of c))))) in omega arith
@@ -307,14 +330,15 @@ loop-again-2 c =
     let seen = seen-of found in
     let turn = turn-of seen in
     let start = start-of turn in (
-      visiting-part _ _ _ _ _ _ _ _ _ _ _ _ _ (many start)
+      visiting-part _ _ _ _ _ _ _ _ _ _ _ _ _ _ (many start)
           (visit-put _ _ _ _ _ _ _ _ _ _ (seen .visit .ensures) _ _ (turn .loop .inv .0 .progress) (inside found)
           (told told-at ∙ not-false _ (true-of c .if2 .left)) _ (wide (words-of turn))
-          (c .before .before .before .before .before .if3 .left) _ (c .before .before .put-row .ensures)),
+          (c .before .before .before .before .before .if3 .left) _ _ (start .pre .0) _ (many start) _
+          (c .before .before .write-row .ensures)),
       (
-        part-length (turn .loop .docs) (seen .visit .last .1 .1 .1 .1 .1 .1 .0) (length (now (start .args .table)) / 4) 8 (docs-size seen)
-            (turn .loop .inv .1 .0),
-        (row-size seen, (ats-size seen, (known-size told-at, remembers told-at))),
+        part-length (turn .loop .docs) (seen .visit .last .1 .1 .1 .1 .1 .1 .1 .1 .0) (length (now (start .args .table)) / 4) 8
+            (docs-size seen) (turn .loop .inv .1 .0),
+        (ats-size seen, (known-size told-at, (remembers told-at, positions-size seen))),
       ),
     )
 
@@ -333,12 +357,12 @@ list-docs-spec =
     loop-holds
     array-borrow-prefix-docs
     slice-aggregate-visit
-    slice-aggregate-visit-2
     visit-requires
     tally-requires
-    cast-t34
+    cast-t35
     same-length
     same-length-2
+    same-length-3
     returns
     add-from
     slice-aggregate-answer-of
@@ -346,13 +370,13 @@ list-docs-spec =
     loop-less
     loop-again
     tally-requires-2
-    cast-t38
-    same-length-3
+    cast-t39
     same-length-4
+    same-length-5
+    same-length-6
     returns-2
-    slice-aggregate-put-row
-    mul-put-row
-    put-row-requires
+    mul-write-row
+    write-row-requires
     add-rows
     loop-less-2
     loop-again-2)

@@ -1,4 +1,4 @@
--- The plan's table and cursors are laid out, and the documents are listed.
+-- The plan's table, cursors and orders are laid out, and the documents are listed.
 use borrow.Author.Needs.{needs}
 use Rattle.search.proofs.listing.list_from.Statement.{statement}
 use Rattle.search.proofs.listing.list_from.Tie as tie
@@ -11,6 +11,7 @@ use denote.Ref.{now}
 use Rattle.plan.specs.Limits.{mostPatterns, mostVars}
 use Rattle.plan.specs.Check.{sizes}
 use Rattle.plan.proofs.Laws.Accepted.{given}
+use Rattle.search.proofs.Laws.Orders.{ordered}
 use Rattle.search.proofs.Laws.Seen.{tabled-part, cursors-part}
 
 -- the places that the answers speak of, each from the one behind it
@@ -20,8 +21,8 @@ start-of c = c .before .before .before .before .before
 abbrev laid-of : tie.After-set-cursors → tie.After-lay-out
 laid-of c = c .before .before .before .before .before
 
-abbrev placed-of : tie.After-list-docs-arg → tie.After-set-cursors
-placed-of c = c .before .before .before .before .before .before .before
+abbrev placed-of : tie.After-orders2 → tie.After-set-cursors
+placed-of c = c .before .before .before .before .before .before
 
 -- a plan's patterns and variables are few
 few : (c : tie.Start) → (c .args .patterns ≤ mostPatterns) × (c .args .vars ≤ mostVars)
@@ -68,60 +69,82 @@ set-cursors-requires c κs =
     let t = table-size laid in
     (p .0, (p .1 .0, (laid .lay-out .ensures, (omega arith, (p .1 .1 .1 .0, (omega arith, omega arith))))))
 
+slice-aggregate-set-orders : tie.Need-slice-aggregate-set-orders
+slice-aggregate-set-orders c = search needs
+
+slice-aggregate-set-orders-2 : tie.Need-slice-aggregate-set-orders-2
+slice-aggregate-set-orders-2 c = search needs
+
+set-orders-requires : tie.Need-set-orders-requires
+set-orders-requires c κs =
+    let laid = laid-of (c .before .before .before .before) in
+    let start = start-of laid in
+    let p = start .pre in
+    let m = few start .0 in
+    let t = table-size laid in
+    (p .0, (p .1 .0, (laid .lay-out .ensures, (omega arith, omega arith))))
+
 mul-table : tie.Need-mul-table
-mul-table c = let m = few (start-of (laid-of (c .before .before))) .0 in omega arith
+mul-table c = let m = few (start-of (laid-of (placed-of c))) .0 in omega arith
 
 array-share-prefix-table : tie.Need-array-share-prefix-table
 array-share-prefix-table c =
-    let laid = laid-of (c .before .before) in
+    let laid = laid-of (placed-of c) in
     let m = few (start-of laid) .0 in
     let t = table-size laid in
     omega arith
 
 slice-aggregate-list-docs : tie.Need-slice-aggregate-list-docs
 slice-aggregate-list-docs c =
-    let laid = laid-of (c .before .before .before) in
+    let laid = laid-of (placed-of (c .before)) in
     let start = start-of laid in
     let m = few start .0 in
     let t = table-size laid in
     sym (length-take-le (4 * start .args .patterns) _ (omega arith))
 
+slice-aggregate-list-docs-2 : tie.Need-slice-aggregate-list-docs-2
+slice-aggregate-list-docs-2 c = search needs
+
 array-share-prefix-firsts : tie.Need-array-share-prefix-firsts
 array-share-prefix-firsts c =
-    let placed = c .before .before .before in
+    let placed = placed-of (c .before .before) in
     let m = few (start-of (laid-of placed)) .1 in
     let t = firsts-size placed in
     omega arith
 
-slice-aggregate-list-docs-2 : tie.Need-slice-aggregate-list-docs-2
-slice-aggregate-list-docs-2 c =
-    let placed = c .before .before .before .before in
+slice-aggregate-list-docs-3 : tie.Need-slice-aggregate-list-docs-3
+slice-aggregate-list-docs-3 c =
+    let placed = placed-of (c .before .before .before) in
     let start = start-of (laid-of placed) in
     let m = few start .1 in
     let t = firsts-size placed in
     sym (length-take-le (start .args .vars) _ (omega arith))
 
-slice-aggregate-list-docs-3 : tie.Need-slice-aggregate-list-docs-3
-slice-aggregate-list-docs-3 c = search needs
+slice-aggregate-list-docs-4 : tie.Need-slice-aggregate-list-docs-4
+slice-aggregate-list-docs-4 c = search needs
 
 array-borrow-prefix-ats : tie.Need-array-borrow-prefix-ats
 array-borrow-prefix-ats c =
-    let placed = c .before .before .before .before .before in
+    let placed = placed-of (c .before .before .before .before) in
     let m = few (start-of (laid-of placed)) .1 in
     let t = firsts-size placed in
     omega arith
 
-slice-aggregate-list-docs-4 : tie.Need-slice-aggregate-list-docs-4
-slice-aggregate-list-docs-4 c =
-    let placed = c .before .before .before .before .before .before in
+slice-aggregate-list-docs-5 : tie.Need-slice-aggregate-list-docs-5
+slice-aggregate-list-docs-5 c =
+    let placed = placed-of (c .before .before .before .before .before) in
     let start = start-of (laid-of placed) in
     let m = few start .1 in
     let t = firsts-size placed in
     sym (length-take-le (start .args .vars) _ (omega arith))
 
+slice-aggregate-list-docs-6 : tie.Need-slice-aggregate-list-docs-6
+slice-aggregate-list-docs-6 c = search needs
+
 list-docs-requires : tie.Need-list-docs-requires
 list-docs-requires c κs =
-    let placed = placed-of c in
+    let orders = c .before .before .before .before .before .before .before in
+    let placed = placed-of orders in
     let laid = laid-of placed in
     let start = start-of laid in
     let p = start .pre in
@@ -141,8 +164,9 @@ list-docs-requires c κs =
         tabled = tabled-part _ _ _ size (laid .lay-out .ensures);
         table-room = omega arith;
         ends-room = omega arith;
+        ordered = ordered _ _ _ (orders .before .set-orders .ensures .0);
       },
-      (table ∙ size, (firsts ∙ f, (p .1 .1 .1 .0, (cursors-part _ _ _ (placed .set-cursors .last .1 .1 .1 .1 .1 .0) (placed .set-cursors .last .1 .1 .1 .1 .1 .1 .0) _ f (placed .set-cursors .ensures), (refl, omega arith))))),
+      (table ∙ size, (firsts ∙ f, (p .1 .1 .1 .0, (cursors-part _ _ _ (placed .set-cursors .last .1 .1 .1 .1 .1 .0) (placed .set-cursors .last .1 .1 .1 .1 .1 .1 .0) _ f (placed .set-cursors .ensures), (refl, (omega arith, omega arith)))))),
     )
 
 same-length : tie.Need-same-length
@@ -161,14 +185,19 @@ list-from-spec =
     slice-aggregate-set-cursors-2
     slice-aggregate-set-cursors-3
     set-cursors-requires
+    slice-aggregate-set-orders
+    slice-aggregate-set-orders-2
+    set-orders-requires
     mul-table
     array-share-prefix-table
     slice-aggregate-list-docs
-    array-share-prefix-firsts
     slice-aggregate-list-docs-2
+    array-share-prefix-firsts
     slice-aggregate-list-docs-3
-    array-borrow-prefix-ats
     slice-aggregate-list-docs-4
+    array-borrow-prefix-ats
+    slice-aggregate-list-docs-5
+    slice-aggregate-list-docs-6
     list-docs-requires
     same-length
     returns)

@@ -1,5 +1,5 @@
 -- `stream::below_in_window` meets its contract. The loop's invariant: n of the first j words are below the target.
--- The measure is what is left of 8. Assumes nothing.
+-- The measure is what is left of 7. Assumes nothing.
 use native.Mathlib.Omega.{arith}
 use Prim.Native.Nat.{ℕ, _+_, _%_, _-_, _<_, _≤_}
 use mathlib.Core.Path.{_≡_, sym, ap, _∙_}
@@ -13,10 +13,10 @@ use Rattle.volume.proofs.stream.below_in_window.Statement.{statement}
 use Rattle.volume.proofs.stream.below_in_window.Tie as tie
 
 abbrev Inv-loop : tie.InvT-loop
-Inv-loop volume i target from n₀ j₀ n j = (j ≤ 8) × (n ≤ j) × (n ≡ belowCount volume target i j)
+Inv-loop volume i target from n₀ j₀ n j = (j ≤ 7) × (n ≤ j) × (n ≡ belowCount volume target i j)
 
 abbrev μ-loop : tie.MeasureT-loop
-μ-loop volume i target from n₀ j₀ n j = 8 - j
+μ-loop volume i target from n₀ j₀ n j = 7 - j
 
 mul-from : tie.Need-mul-from Inv-loop μ-loop
 mul-from c = omega arith
@@ -70,7 +70,7 @@ loop-again c =
 returns : tie.Need-returns Inv-loop μ-loop
 returns c =
     let l = c .before .loop in
-    let e : l .j ≡ 8 = omega arith in
+    let e : l .j ≡ 7 = omega arith in
     (rw e at (l .inv .2), omega arith)
 
 pub below-in-window-spec : {M : Type 1} → statement M

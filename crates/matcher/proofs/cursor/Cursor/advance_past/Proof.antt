@@ -22,7 +22,9 @@ gallop-requires : tie.Need-gallop-requires
 gallop-requires c κs = c .before .pre
 
 returns : tie.Need-returns
-returns c = let a = c .before .before .args in sought-is (now (a .volume)) (a .doc * 65536 + a .pos + 1) (a .self) (c .gallop .result) (c .gallop .ensures)
+returns c =
+    let a = c .before .before .args in
+    sought-is (now (a .volume)) (a .doc * 65536 + a .pos + 1) (a .self) (c .gallop .result .at) (c .gallop .ensures .at-is)
 
 pub advance-past-spec : {M : Type 1} → statement M
 advance-past-spec = tie.close (tie.spec cast-bound mul-bound add-bound add-bound-2 gallop-requires returns)

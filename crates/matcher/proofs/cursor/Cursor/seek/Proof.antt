@@ -12,11 +12,13 @@ cast-bound c = search needs
 mul-bound : tie.Need-mul-bound
 mul-bound c = omega arith
 
-gallop-requires : tie.Need-gallop-requires
-gallop-requires c κs = c .before .pre
+leap-on-requires : tie.Need-leap-on-requires
+leap-on-requires c κs = c .before .pre
 
 returns : tie.Need-returns
-returns c = let a = c .before .before .args in sought-is (now (a .volume)) (a .doc * 65536) (a .self) (c .gallop .result) (c .gallop .ensures)
+returns c =
+    let a = c .before .before .args in
+    sought-is (now (a .volume)) (a .doc * 65536) (a .self) (c .leap-on .result .at) (c .leap-on .ensures .at-is)
 
 pub seek-spec : {M : Type 1} → statement M
-seek-spec = tie.close (tie.spec cast-bound mul-bound gallop-requires returns)
+seek-spec = tie.close (tie.spec cast-bound mul-bound leap-on-requires returns)
