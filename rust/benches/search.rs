@@ -1,8 +1,11 @@
 //! Times the library's listing beside the yardstick's: eleven plans over each of two made-up
-//! archives, and how the time grows with the positions of one document. The results are compared
-//! before anything is timed. Then it times how all tuples of a crowded document are listed: where
-//! few pass, beside a listing of that document, and where all pass, tuple by tuple as the document
-//! grows. Last come typed lines (`lines`). Run as a test, it makes one round and prints no times.
+//! archives (`time_plans`), and how the time grows with the positions of one document
+//! (`time_growth`). The results are compared before anything is timed. Then it times what a listing
+//! does before its walk, for lists at the front of a volume of many lists and at its end
+//! (`time_starts`), and how all tuples of a crowded document are listed: where few pass, beside a
+//! listing of that document (`time_few`), and where all pass, tuple by tuple as the document grows
+//! (`time_all`). Last come typed lines (`lines`). Run as a test, it makes one round and prints no
+//! times.
 //!
 //! A listing checks its volume; what it does beyond that is its walk. Only whole calls of the
 //! library can be timed, so on both sides a walk's time is that of a listing less that of a check
@@ -16,8 +19,8 @@ mod support;
 mod yardstick;
 
 use archives::{
-    all_match, all_plans, endless_plans, few_matches, few_plans, one_document, plans, repertory,
-    season, Filling, Lists, Plan, CROWDED,
+    all_match, all_plans, endless_plans, few_matches, few_plans, one_document, one_list, plans,
+    repertory, season, widest_plan, Filling, Lists, Plan, CROWDED,
 };
 use lihambozy::calls::{check_plan, check_volume, list, list_matches, Next};
 use lihambozy::BLOCK_BYTES;
@@ -29,8 +32,6 @@ const SEED: u32 = 1;
 
 /// A listing's time, as a part of the yardstick's, at most.
 const LISTING_TARGET: f64 = 0.8;
-/// A walk's time, as a part of the yardstick's, at most.
-const WALK_TARGET: f64 = 1.3;
 /// The standard error of a ratio, as a part of it, above which the ratio is noise.
 const NOISE: f64 = 0.05;
 
@@ -42,6 +43,17 @@ const GROWTH_ROUNDS: usize = 21;
 /// with the postings it is 2, and a little more for searches among twice the starts and for memory
 /// that is further away; for one that grows with a product of them it is 4.
 const DOUBLING_TARGET: f64 = 2.6;
+/// A listing's time for the most positions, as a part of the yardstick's, at most. Both are whole
+/// calls, with the check of the volume.
+const CROWDED_TARGET: f64 = 1.4;
+
+/// The lists of the volumes over which 51 variables are on one list, the first that a plan may name
+/// or the last.
+const MANY_LISTS: u32 = 1_024;
+const STARTS_ROUNDS: usize = 1_001;
+/// How many microseconds more a listing takes where that list is the last one, at most. A list
+/// starts behind all postings of the lists in front of it, whose counts are summed up.
+const STARTS_TARGET: f64 = 8.0;
 
 /// The positions of each of eight variables in the document in which few tuples pass: eight do.
 const FEW: u32 = 4_096;
@@ -66,6 +78,10 @@ struct Archive {
     rounds: usize,
     /// The rounds over the plans' own lists.
     own_rounds: usize,
+    /// A walk's time, as a part of the yardstick's, at most.
+    walk_target: f64,
+    /// The mean of these ratios over the plans, at most.
+    mean_target: Option<f64>,
 }
 
 fn archives() -> [Archive; 2] {
@@ -81,6 +97,8 @@ fn archives() -> [Archive; 2] {
             },
             rounds: 101,
             own_rounds: 1_001,
+            walk_target: 1.3,
+            mean_target: None,
         },
         Archive {
             name: "a repertory, with lists of every length",
@@ -88,6 +106,8 @@ fn archives() -> [Archive; 2] {
             filling: Filling { lists: [1, 2, 3, 4, 5, 6, 7, 8], rare: 801, near: 1, span: 6 },
             rounds: 51,
             own_rounds: 51,
+            walk_target: 1.35,
+            mean_target: Some(1.1),
         },
     ]
 }
@@ -100,6 +120,7 @@ fn main() {
         missed |= time_plans(&archive, timed);
     }
     missed |= time_growth(timed);
+    missed |= time_starts(timed);
     missed |= time_few(timed);
     missed |= time_all(timed);
     missed |= lines::time(timed);
@@ -245,7 +266,7 @@ fn time_plans(archive: &Archive, timed: bool) -> bool {
         println!("{i}. {}: {}", plan.name, plan.text());
     }
     let listing_missed = print_listings(&plans, &whole);
-    let walk_missed = print_walks(&plans, &whole, &own);
+    let walk_missed = print_walks(archive, &plans, &whole, &own);
     listing_missed || walk_missed
 }
 
@@ -283,15 +304,16 @@ fn print_listings(plans: &[Plan], listings: &[Listing]) -> bool {
     missed
 }
 
-/// Prints the times of the walks: whether the target is missed.
-fn print_walks(plans: &[Plan], whole: &[Listing], own: &[Listing]) -> bool {
+/// Prints the times of the walks: whether a target is missed.
+fn print_walks(archive: &Archive, plans: &[Plan], whole: &[Listing], own: &[Listing]) -> bool {
     println!("\nWalks in microseconds. *Alone*: timed directly, without a check.\n");
     println!(
         "| walk | library | yardstick | alone | 1: ratio of medians | own lists: library \
          | yardstick | alone | 2: ratio of medians | 3: of minima | target | |"
     );
     println!("|---|---|---|---|---|---|---|---|---|---|---|---|");
-    let mut missed = false;
+    let target = archive.walk_target;
+    let mut judged = Vec::new();
     for ((plan, whole), own) in plans.iter().zip(whole).zip(own) {
         print!("| {} |", plan.name);
         let mut clear = Vec::new();
@@ -309,15 +331,23 @@ fn print_walks(plans: &[Plan], whole: &[Listing], own: &[Listing]) -> bool {
         let [walk, yardstick_walk] = own.least_walks();
         let minima = walk / yardstick_walk;
         let (place, ratio) = clear.first().copied().unwrap_or((3, minima));
-        missed |= ratio > WALK_TARGET;
-        let told = verdict(ratio > WALK_TARGET);
-        println!(" {minima:.2} | {WALK_TARGET:.2} | {told} by {place} |");
+        judged.push(ratio);
+        println!(" {minima:.2} | {target:.2} | {} by {place} |", verdict(ratio > target));
     }
     println!(
         "\nJudged is the first ratio whose standard error is at most {NOISE} of it, or else the \
          third."
     );
-    missed
+    let mean = judged.iter().sum::<f64>() / judged.len() as f64;
+    let mean_missed = archive.mean_target.is_some_and(|target| mean > target);
+    match archive.mean_target {
+        Some(target) => {
+            let told = verdict(mean_missed);
+            println!("The mean of those judged is {mean:.2}, target {target:.2}: {told}.");
+        }
+        None => println!("The mean of those judged is {mean:.2}."),
+    }
+    mean_missed || judged.iter().any(|&ratio| ratio > target)
 }
 
 /// Runs plans that pass all positions of one document: whether a target is missed.
@@ -345,9 +375,9 @@ fn time_growth(timed: bool) -> bool {
     }
     println!(
         "\n| predicate | positions of each | starts | library ms | ns a posting | of the row above \
-         | target | | yardstick ns a posting | of the row above |"
+         | target | | yardstick ns a posting | of the row above | library / yardstick | target | |"
     );
-    println!("|---|---|---|---|---|---|---|---|---|---|");
+    println!("|---|---|---|---|---|---|---|---|---|---|---|---|---|");
     let mut missed = false;
     for (plan, listings) in plans.iter().zip(listings.chunks(SIZES.len())) {
         let mut above: Option<[f64; 2]> = None;
@@ -356,11 +386,11 @@ fn time_growth(timed: bool) -> bool {
             let [each, yardstick_each] = times.map(|time| time * 1e6 / f64::from(listing.tally));
             print!("| {} | {positions} | {starts} | {:.3} | {each:.2} |", plan.name, times[0]);
             match above {
-                None => println!(" | | | {yardstick_each:.2} | |"),
+                None => print!(" | | | {yardstick_each:.2} | |"),
                 Some(above) => {
                     let growth = [times[0] / above[0], times[1] / above[1]];
                     missed |= growth[0] > DOUBLING_TARGET;
-                    println!(
+                    print!(
                         " {:.2} | {DOUBLING_TARGET:.2} | {} | {yardstick_each:.2} | {:.2} |",
                         growth[0],
                         verdict(growth[0] > DOUBLING_TARGET),
@@ -368,10 +398,63 @@ fn time_growth(timed: bool) -> bool {
                     );
                 }
             }
+            if Some(&(positions, starts)) == SIZES.last() {
+                let ratio = times[0] / times[1];
+                missed |= ratio > CROWDED_TARGET;
+                let told = verdict(ratio > CROWDED_TARGET);
+                println!(" {ratio:.2} | {CROWDED_TARGET:.2} | {told} |");
+            } else {
+                println!(" | | |");
+            }
             above = Some(times);
         }
     }
     missed
+}
+
+/// Runs the plan of most variables, all on one list of many: whether the target is missed.
+fn time_starts(timed: bool) -> bool {
+    let numbers = [1, MANY_LISTS - 1];
+    let plans = numbers.map(widest_plan);
+    let volumes = numbers.map(|number| one_list(MANY_LISTS, number).volume());
+    let mut listings = [0, 1].map(|i| Listing::new(&volumes[i], 1, &plans[i]));
+    for listing in &listings {
+        // In each pattern all variables are found, at position 5.
+        let row = [&[CROWDED][..], &[1, 5, 5, 5, 5, 5, 5, 5, 5].repeat(6), &[1, 5, 5, 5]].concat();
+        assert_eq!((listing.rows, listing.tally), (1, 51));
+        assert_eq!(listing.out[..59], row);
+    }
+    let [mut checks, mut lists] = [(); 2].map(|()| [(); 2].map(|()| Times::default()));
+    for _ in 0..if timed { STARTS_ROUNDS } else { 1 } {
+        for ((listing, check), time) in listings.iter_mut().zip(&mut checks).zip(&mut lists) {
+            let (volume, plan) = (black_box(listing.volume), black_box(&listing.plan[..]));
+            check.time(|| check_plan(volume, plan));
+            time.time(|| list(volume, plan, 0, &mut listing.out));
+        }
+    }
+    if !timed {
+        return false;
+    }
+
+    println!("\n# 51 variables on the first list of a small volume, and on the last one\n");
+    println!(
+        "{MANY_LISTS} lists, of which one has a posting; seven patterns, EITHER. {STARTS_ROUNDS} \
+         rounds, minima, in microseconds.\n"
+    );
+    println!("| list | check of the plan | listing | less the check | more | target | |");
+    println!("|---|---|---|---|---|---|---|");
+    let micros = |times: &Times| times.minimum() * 1e3;
+    let rest = [0, 1].map(|i| micros(&lists[i]) - micros(&checks[i]));
+    let more = rest[1] - rest[0];
+    for (i, number) in numbers.into_iter().enumerate() {
+        let (check, list) = (micros(&checks[i]), micros(&lists[i]));
+        print!("| {number} | {check:.1} | {list:.1} | {:.1} |", rest[i]);
+        match i {
+            0 => println!(" | | |"),
+            _ => println!(" {more:.1} | {STARTS_TARGET:.1} | {} |", verdict(more > STARTS_TARGET)),
+        }
+    }
+    more > STARTS_TARGET
 }
 
 /// Runs plans that few tuples of a crowded document pass: whether a target is missed.

@@ -13,6 +13,8 @@ pub fn searches(case: &mut Case) {
     let Case { rng, counts } = case;
     let subject = match rng.below(100) {
         0 => random_large_subject(rng),
+        1 => random_skewed_subject(rng, 400),
+        2..=19 => random_skewed_subject(rng, 40),
         _ => random_subject(rng),
     };
     counts.trial.case += &format!(", {:?}", subject.plan());
@@ -25,7 +27,10 @@ pub fn searches(case: &mut Case) {
 /// Positions to test, over one volume and plan.
 pub fn positions(case: &mut Case) {
     let Case { rng, counts } = case;
-    let subject = random_subject(rng);
+    let subject = match rng.below(4) {
+        0 => random_skewed_subject(rng, 40),
+        _ => random_subject(rng),
+    };
     counts.trial.case += &format!(", {:?}", subject.plan());
     for _ in 0..12 {
         any_test(rng, counts, &subject);
@@ -35,8 +40,9 @@ pub fn positions(case: &mut Case) {
 /// Three enumerations over one volume and plan, and calls that are part of none.
 pub fn matches(case: &mut Case) {
     let Case { rng, counts } = case;
-    let subject = match rng.below(3) {
+    let subject = match rng.below(6) {
         0 => random_subject(rng),
+        1 => random_skewed_subject(rng, 40),
         _ => random_crowd(rng),
     };
     counts.trial.case += &format!(", {:?}", subject.plan());

@@ -131,6 +131,13 @@ pub fn one_document(positions: u32, starts: u32) -> Lists {
     Lists::new(&lists)
 }
 
+/// One document, in which one of so many lists has position 5, and no other list has any.
+pub fn one_list(list_count: u32, number: u32) -> Lists {
+    let mut lists = vec![vec![]; list_count as usize];
+    lists[number as usize].push((CROWDED << 16) + 5);
+    Lists::new(&lists)
+}
+
 /// A row of a plan: kind, a, b and c.
 pub type Row = [u32; 4];
 
@@ -285,7 +292,14 @@ pub fn endless_plans() -> [Plan; 5] {
     ]
 }
 
-/// The document of `few_matches` and of `all_match`.
+/// The plan of 64 rows with the most variables, 51, all of them on one list.
+pub fn widest_plan(list: u32) -> Plan {
+    let sizes = [8, 8, 8, 8, 8, 8, 3];
+    let patterns = sizes.iter().flat_map(|&vars| pattern(&vec![list; vars], &[]));
+    Plan { name: "51 variables", rows: patterns.chain([EITHER; 6]).collect() }
+}
+
+/// The document of `few_matches`, of `all_match` and of `one_list`.
 pub const CROWDED: u32 = 20_000;
 
 /// One document in which each of eight lists has a position in every stretch of sixteen: list i has

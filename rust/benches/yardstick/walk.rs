@@ -1,12 +1,14 @@
 //! A searcher: the volume is checked with late reduction, the lists that the plan uses are decoded
 //! into vectors, and one pass over them lists the documents.
 //!
-//! The pass: a cursor is what is left of a list. Each pattern joins the lists of its variables: its
-//! cursors leap in turn to the document that the furthest has reached, until all of them stand in
-//! one. The least of these documents over the patterns is the next to look at, since no plan is
-//! true where no pattern has all its variables. Each pattern that stands there is settled: from the
-//! first positions on, a predicate that fails moves the variable that it leaves short, and where
-//! all hold the match is the least. The pattern's cursors stay where they are meanwhile.
+//! The pass: a cursor is what is left of a list. Each pattern takes its variables in the order of
+//! their lists' lengths, and joins the lists: the shortest one leads, the others leap to the
+//! document that it has come to, and from one that is beyond it the shortest goes on, until all
+//! stand in one document. The least of these documents over the patterns is the next to look at,
+//! since no plan is true where no pattern has all its variables. Each pattern that stands there is
+//! settled: from the first positions on, a predicate that fails moves the variable that it leaves
+//! short, of several the first in the order, and where all hold the match is the least. The cursors
+//! themselves move, and the next join goes on from where they lie.
 
 use super::late::{self, Refused};
 
@@ -61,7 +63,7 @@ pub fn walk(volume: &[u8], plan: &[u32], start: u32, out: &mut [u32]) -> Result<
         }
         starts = seek(starts, doc << 16);
         let mut found = 0;
-        for (i, pattern) in patterns.iter().enumerate() {
+        for (i, pattern) in patterns.iter_mut().enumerate() {
             let here = if pattern.doc == doc { pattern.settle(starts) } else { None };
             found |= u32::from(here.is_some()) << i;
             least[i] = here.unwrap_or_default();
@@ -174,11 +176,19 @@ enum Predicate {
 }
 
 impl Predicate {
-    /// The variable that the predicate leaves short at these positions of a document, and the
-    /// position that it needs there at least; `None` where the predicate holds. `starts` begins
-    /// with the document's own.
+    /// The variable that the predicate leaves short at these positions of a document, of several
+    /// the first in the order, and the position that it needs there at least, `END` where no
+    /// position will do; `None` where the predicate holds. `largest` is the largest position, and
+    /// `starts` begins with the document's own.
     #[inline]
-    fn short(self, doc: u32, at: &[u32], starts: &[u32]) -> Option<(usize, u32)> {
+    fn short(
+        self,
+        doc: u32,
+        at: &[u32],
+        order: &[usize],
+        largest: u32,
+        starts: &[u32],
+    ) -> Option<(usize, u32)> {
         match self {
             Predicate::Distance { a, b, most } => {
                 let (earlier, later) = if at[a] < at[b] { (a, b) } else { (b, a) };
@@ -191,19 +201,14 @@ impl Predicate {
                 (at[earlier] < start).then_some((earlier, start))
             }
             Predicate::Window { most } => {
-                let (mut smallest, mut largest) = (0, at[0]);
-                for (var, &pos) in at.iter().enumerate() {
-                    if pos < at[smallest] {
-                        smallest = var;
-                    }
-                    largest = largest.max(pos);
-                }
-                (largest - at[smallest] > most).then(|| (smallest, largest - most))
+                let needed = largest.saturating_sub(most);
+                let short = order.iter().find(|&&var| at[var] < needed);
+                short.map(|&var| (var, needed))
             }
             Predicate::Apart { a, b, least, most } => {
                 if at[b] < at[a] + least {
                     // No position of a variable is behind itself.
-                    Some((b, if a == b { END } else { at[a] + least }))
+                    Some((b, if a == b { END } else { END.min(at[a] + least) }))
                 } else {
                     (at[b] - at[a] > most).then(|| (a, at[b] - most))
                 }
@@ -227,8 +232,12 @@ fn needed_start(doc: u32, pos: u32, starts: &[u32]) -> u32 {
 struct Joined<'a> {
     predicates: &'a [Predicate],
     vars: usize,
-    /// The cursors, those of all variables at their first posting in `doc`.
+    /// The variables, that of the shortest list first, those of equally long lists by number.
+    order: [usize; MAX_VARS],
+    /// The cursors, those of all variables at their first posting in `doc` until it is settled.
     left: [&'a [u32]; MAX_VARS],
+    /// The positions of these postings.
+    at: [u32; MAX_VARS],
     /// The next document in which every variable has a posting.
     doc: u32,
 }
@@ -240,7 +249,10 @@ impl<'a> Joined<'a> {
             *left = list(number);
         }
         let vars = pattern.lists.len();
-        let mut joined = Joined { predicates: &pattern.predicates, vars, left, doc: start };
+        let mut order: [usize; MAX_VARS] = std::array::from_fn(|var| var);
+        order[..vars].sort_by_key(|&var| left[var].len());
+        let predicates = &pattern.predicates;
+        let mut joined = Joined { predicates, vars, order, left, at: [0; MAX_VARS], doc: start };
         joined.join(start);
         joined
     }
@@ -251,45 +263,45 @@ impl<'a> Joined<'a> {
         self.doc = if from < END { self.meet(from).unwrap_or(END) } else { END };
     }
 
+    /// The document of `join`, if there is one. The first variable of the order leads, and goes on
+    /// to the document of the first that is beyond its own.
     fn meet(&mut self, from: u32) -> Option<u32> {
-        let left = &mut self.left[..self.vars];
         let mut doc = from;
-        // So many variables in turn have a posting in `doc`.
-        let mut standing = 0;
-        loop {
-            for left in left.iter_mut() {
-                *left = seek(left, doc << 16);
-                let reached = left.first()? >> 16;
-                standing = if reached == doc { standing + 1 } else { 1 };
-                if standing == self.vars {
-                    return Some(reached);
+        'lead: loop {
+            for (rank, &var) in self.order[..self.vars].iter().enumerate() {
+                let left = seek(self.left[var], doc << 16);
+                self.left[var] = left;
+                let first = left.first()?;
+                self.at[var] = first & 0xffff;
+                let reached = first >> 16;
+                if reached != doc {
+                    doc = reached;
+                    if rank > 0 {
+                        continue 'lead;
+                    }
                 }
-                doc = reached;
             }
+            return Some(doc);
         }
     }
 
-    /// The least match in `doc`: a position for each variable.
-    fn settle(&self, starts: &[u32]) -> Option<[u32; MAX_VARS]> {
-        let doc = self.doc;
-        // The postings that each variable has passed.
-        let mut passed = [0; MAX_VARS];
-        let mut at = [0; MAX_VARS];
-        for (at, left) in at.iter_mut().zip(&self.left[..self.vars]) {
-            *at = left[0] & 0xffff;
-        }
+    /// The least match in `doc`: a position for each variable. The cursors move there; where there
+    /// is none, they move until one of them has no position left in `doc`.
+    fn settle(&mut self, starts: &[u32]) -> Option<[u32; MAX_VARS]> {
+        let (doc, order) = (self.doc, &self.order[..self.vars]);
+        let (left, at) = (&mut self.left[..self.vars], &mut self.at[..self.vars]);
+        let mut largest = at.iter().copied().max().unwrap_or(0);
         // So many predicates in turn hold.
         let mut holding = 0;
         for predicate in self.predicates.iter().cycle() {
-            while let Some((var, pos)) = predicate.short(doc, &at[..self.vars], starts) {
-                let left = &self.left[var][passed[var]..];
-                let moved = seek(left, (doc << 16).checked_add(pos)?);
-                let posting = moved.first()?;
+            while let Some((var, pos)) = predicate.short(doc, at, order, largest, starts) {
+                left[var] = seek(left[var], (doc << 16).checked_add(pos)?);
+                let posting = left[var].first()?;
                 if posting >> 16 != doc {
                     return None;
                 }
-                passed[var] += left.len() - moved.len();
                 at[var] = posting & 0xffff;
+                largest = largest.max(at[var]);
                 holding = 0;
             }
             holding += 1;
@@ -297,7 +309,7 @@ impl<'a> Joined<'a> {
                 break;
             }
         }
-        Some(at)
+        Some(self.at)
     }
 }
 

@@ -1,9 +1,12 @@
-//! Searches: documents listed, positions tested, and all tuples listed that pass in a document.
+//! Searches: documents listed, positions tested, and all tuples listed that pass in a document; and
+//! the yardstick of the benchmarks.
 
 #[path = "../plain/mod.rs"]
 mod plain;
 #[path = "../support/mod.rs"]
 mod support;
+#[path = "../../benches/yardstick/mod.rs"]
+mod yardstick;
 
 mod matches_document;
 mod matches_edges;
@@ -14,7 +17,9 @@ mod matches_relations;
 mod search_apart;
 mod search_document;
 mod search_edges;
+mod search_order;
 mod search_random;
 mod search_refusals;
 mod search_titles;
 mod test_positions;
+mod yardstick_walk;

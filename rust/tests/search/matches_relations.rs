@@ -4,6 +4,7 @@
 //! compared as everywhere.
 
 use crate::plain::search::{choices, comes_before};
+use crate::support::orders::*;
 use crate::support::plans::*;
 use crate::support::searches::*;
 use crate::support::*;
@@ -144,21 +145,8 @@ fn variables_in_another_order() {
         let pattern = RandomPattern::new(&mut rng);
         trial.case = format!("seed {seed}, round {round}");
         let rows = pattern.with(true, &[small_predicate(&mut rng, pattern.voices.len())]);
-        let vars = pattern.voices.len();
-        // The variable that stands in each place.
-        let mut order: Vec<usize> = (0..vars).collect();
-        for var in 1..vars {
-            order.swap(var, rng.below(var + 1));
-        }
-        let place = |var: u32| order.iter().position(|&old| old == var as usize).unwrap() as u32;
-        let mut moved: Vec<Row> = order.iter().map(|&var| rows[var]).collect();
-        for &[kind, a, b, c] in &rows[vars..] {
-            use lihambozy::kind::{APART, BEFORE, NEAR, SAME_TITLE};
-            moved.push(match kind {
-                NEAR | BEFORE | SAME_TITLE | APART => [kind, place(a), place(b), c],
-                _ => [kind, a, b, c],
-            });
-        }
+        let order = random_order(&mut rng, pattern.voices.len());
+        let moved = in_order(&rows, &order);
         for doc in pattern.docs().into_iter().take(3) {
             let own = tuples_of(&mut trial, &pattern, &rows, doc);
             let others = tuples_of(&mut trial, &pattern, &moved, doc);

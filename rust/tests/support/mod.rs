@@ -1,9 +1,9 @@
-//! What the tests share: a seeded generator, lists and damage made with it, plans (in `plans`), and
-//! the comparison of the library with the plain reader and writer, call by call. `searches` has the
-//! same for listing documents and testing positions, and whole searches; `matches` has it for
-//! listing the tuples that pass in a document. `refused` has volumes and plans that are refused,
-//! `files` those of the repository and fresh folders; `command` runs programs, and `cc` compiles
-//! those in C.
+//! What the tests share: a seeded generator, lists and damage made with it, plans (in `plans`, and
+//! with their variables in other orders in `orders`), and the comparison of the library with the
+//! plain reader and writer, call by call. `searches` has the same for listing documents and testing
+//! positions, and whole searches; `matches` has it for listing the tuples that pass in a document.
+//! `refused` has volumes and plans that are refused, `files` those of the repository and fresh
+//! folders; `command` runs programs, and `cc` compiles those in C.
 
 #![allow(dead_code)]
 
@@ -11,6 +11,7 @@ pub mod cc;
 pub mod command;
 pub mod files;
 pub mod matches;
+pub mod orders;
 pub mod plans;
 pub mod refused;
 pub mod searches;

@@ -535,6 +535,36 @@ pub fn random_subject(rng: &mut Rng) -> Subject {
     Subject::new(&archive.lists.volume(), &rows.concat())
 }
 
+/// A plan over lists of very different lengths: in all documents, of which there are 400 at most,
+/// in some, in one or in none, with many positions in each of them or with one. Some lists are as
+/// long as another one.
+pub fn random_skewed_subject(rng: &mut Rng, most_docs: u32) -> Subject {
+    let (mut rows, largest) = random_query(rng);
+    let (count, apart) = (rng.pick(&[6, most_docs / 2, most_docs]), rng.pick(&[1, 1, 150]));
+    let first = rng.pick(&[0, 77, 65_535 - (count - 1) * apart]);
+    let docs: Vec<u32> = (0..count).map(|i| first + i * apart).collect();
+    let window: Vec<u32> = (0..rng.pick(&[4, 12, 30])).collect();
+    let most = most_positions(rng, largest).min(8);
+    let mut lists = vec![random_starts(rng, &docs, &window)];
+    for _ in 0..2 + rng.below(4) {
+        let some = rng.pick(&[0, 1, 2, 2, docs.len() / 3, docs.len(), docs.len(), docs.len()]);
+        let from = rng.below(docs.len() - some + 1);
+        let most = rng.pick(&[1, most, most]);
+        let mut list = BTreeSet::new();
+        for doc in &docs[from..from + some] {
+            list.extend((0..1 + rng.below(most)).map(|_| doc * 65_536 + rng.pick(&window)));
+        }
+        if rng.below(4) == 0 {
+            lists.push(list.iter().map(|posting| posting + 1).collect());
+        }
+        lists.push(list.into_iter().collect());
+    }
+    for row in rows.iter_mut().filter(|row| row[0] == lihambozy::kind::VOICE) {
+        row[1] = 1 + rng.below(lists.len() - 1) as u32;
+    }
+    Subject::new(&Lists::new(&lists).volume(), &rows.concat())
+}
+
 /// Hundreds of documents in many blocks, and a plan over them.
 pub fn random_large_subject(rng: &mut Rng) -> Subject {
     let (mut rows, _) = random_query(rng);
