@@ -23,7 +23,7 @@ pub mod ReadFirst
 pub mod WriteFirst
 mod Blocks
 mod Rebuild
-mod Lists
+pub mod Lists
 pub mod Volume
 pub mod Within
 pub mod Reader

@@ -20,7 +20,7 @@ use Rattle.seq.proofs.Laws.Totals.{total-append, total-permuted}
 use Rattle.seq.proofs.Laws.Numbers.{sum-front, sum-ext}
 use Rattle.seq.proofs.Laws.Runs.{sum-total}
 use Rattle.block.specs.declared.checksum.Half.{Half}
-use Rattle.block.specs.Checksum.{checkA, checkB}
+use Rattle.block.specs.Checksum.{checkB}
 use Rattle.block.specs.Parts.{weighed, partOf, partsOf, sumsOf, checksumOf}
 use Rattle.block.specs.Demands.{Covered, Halves, InAnyOrder}
 use Rattle.block.specs.Inner.Sums.{tot, weigh}

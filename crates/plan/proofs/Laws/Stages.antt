@@ -9,17 +9,8 @@ use Rattle.seq.specs.Lists.{elem}
 use Rattle.seq.specs.Refusals.{stageIn}
 use Rattle.volume.specs.Refusals.{VolumeApplies}
 use Rattle.volume.specs.Refusals as volume
+use Rattle.volume.proofs.Laws.CheckFirst.{volume-number}
 use Rattle.plan.specs.Refusals.{PlanApplies, ofVolume, wrongLength, wrongForm, wrongList, ninth, wrongOrder, unfinished, planStages}
-
-volume-number : (v : List ℕ) (n q : ℕ) → VolumeApplies v n q → (1 ≤ n) × (n ≤ 8)
-volume-number v n q (volume.wrongLength h) = (omega arith, omega arith)
-volume-number v n q (volume.wrongNumber k l h) = (omega arith, omega arith)
-volume-number v n q (volume.wrongChecksum k l h) = (omega arith, omega arith)
-volume-number v n q (volume.wrongVersion h) = (omega arith, omega arith)
-volume-number v n q (volume.wrongListCount h) = (omega arith, omega arith)
-volume-number v n q (volume.wrongExtent h) = (omega arith, omega arith)
-volume-number v n q (volume.wrongOrder i l h) = (omega arith, omega arith)
-volume-number v n q (volume.wrongPadding i l r h) = (omega arith, omega arith)
 
 volume-stage : (v : List ℕ) (n q : ℕ) → VolumeApplies v n q → stageIn planStages n ≤ 6
 unfolding stageIn elem

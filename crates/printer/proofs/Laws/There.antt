@@ -7,7 +7,7 @@ use mathlib.Core.List.{List, _++_}
 use lib.Dec.{ltb}
 use lib.ListN.{length, drop}
 use borrow.Author.Tests.{le-ltb}
-use Rattle.seq.specs.Refusals.{Said, refused, answered, laid}
+use Rattle.seq.specs.Refusals.{Said, refused, answered}
 use Rattle.seq.proofs.Laws.Numbers.{length-run}
 use Rattle.seq.proofs.Laws.Refusals.{laid-answered, not-both}
 use Rattle.plan.specs.Check.{Accepted}

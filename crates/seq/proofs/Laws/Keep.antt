@@ -2,6 +2,7 @@
 --     keep-pass, keep-fail             one element in front
 --     keep-append                      a list in two parts
 --     keep-ext                         two tests that agree
+--     keep-map                         of a mapped list
 --     keep-run-none, keep-run-all      a run of which none passes, or all
 --     length-keep, keep-le             how many pass: a sum of ones; not more than there are
 --     all-fails                        a test that not all pass, at an index
@@ -23,6 +24,16 @@ pub keep-ext : {A : Type 0} (s t : A → Bool) → ((x : A) → s x ≡ t x) →
 unfolding keep
 keep-ext s t e [] = refl
 keep-ext {A = A} s t e (x ∷ xs) = ap₂ (λ (b : Bool) (l : List A). consIf b x l) (e x) (keep-ext s t e xs)
+
+-- the elements of a mapped list that pass a test
+pub keep-map : {A B : Type 0} (test : B → Bool) (f : A → B) (xs : List A) → keep test (map f xs) ≡ map f (keep (λ x. test (f x)) xs)
+unfolding keep
+keep-map test f [] = refl
+keep-map test f (x ∷ xs) = go (test (f x)) (keep-map test f xs)
+  where
+    go : (t : Bool) → keep test (map f xs) ≡ map f (keep (λ y. test (f y)) xs) → consIf t (f x) (keep test (map f xs)) ≡ map f (consIf t x (keep (λ y. test (f y)) xs))
+    go true e = ap (λ ys. f x ∷ ys) e
+    go false e = e
 
 module _ {A : Type 0} (test : A → Bool) where
   pub keep-pass : (x : A) (xs : List A) → test x ≡ true → keep test (x ∷ xs) ≡ x ∷ keep test xs

@@ -2,7 +2,8 @@
 --     Has, Every                     x is an element; a fact of every element
 --     has-every, every-of            from the one to the other
 --     every-append, every-as, every-any, every-map      a fact of every element: in two parts, from another, of anything, of a mapped list
---     has-left, has-right, has-map   an element of a list in two parts, of a mapped list
+--     has-left, has-right, has-append, has-map     an element of a list in two parts, of a mapped list
+--     has-joined, joined-has         an element of joined lists is one of some list
 --     has-index, index-has, every-index      elements by their index
 --     every-keep, keep-has, has-keep     those that pass a test
 --     first-has                      the first element is one
@@ -44,6 +45,29 @@ module _ {A : Type 0} where
   pub has-right : (x : A) (xs ys : List A) → Has x ys → Has x (xs ++ ys)
   has-right x [] ys h = h
   has-right x (y ∷ xs) ys h = inr (has-right x xs ys h)
+
+  pub has-append : (x : A) (xs ys : List A) → Has x (xs ++ ys) → Has x xs ⊎ Has x ys
+  has-append x [] ys h = inr h
+  has-append x (y ∷ xs) ys h =
+      ⊎-elim
+      (λ (e : y ≡ x). inl (inl e))
+      (λ (k : Has x (xs ++ ys)). ⊎-elim (λ (m : Has x xs). inl (inr m)) (λ (m : Has x ys). inr m) (has-append x xs ys k))
+      h
+
+  pub has-joined : (x : A) (xss : List (List A)) (i : ℕ) → Has x (getD xss i []) → Has x (joined xss)
+  unfolding joined
+  has-joined x [] i h = absurd h
+  has-joined x (xs ∷ xss) zero h = has-left x xs (joined xss) h
+  has-joined x (xs ∷ xss) (suc i) h = has-right x xs (joined xss) (has-joined x xss i h)
+
+  pub joined-has : (x : A) (xss : List (List A)) → Has x (joined xss) → (i : ℕ) × (i < length xss) × Has x (getD xss i [])
+  unfolding joined
+  joined-has x [] h = absurd h
+  joined-has x (xs ∷ xss) h =
+      ⊎-elim
+      (λ (k : Has x xs). (0, omega arith, k))
+      (λ (k : Has x (joined xss)). let w = joined-has x xss k in (suc (w .0), omega (arith, w .1), w .2))
+      (has-append x xs (joined xss) h)
 
   pub has-index : (d x : A) (xs : List A) → Has x xs → (i : ℕ) × (i < length xs) × (getD xs i d ≡ x)
   has-index d x [] h = absurd h

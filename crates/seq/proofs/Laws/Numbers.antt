@@ -4,7 +4,7 @@
 --     first-le, first-ge, first-at, first-before     where it ends; the test holds there; and at no index before
 --     search-found, search-clear           a search that ends in front of n, and one that does not
 --     run-end, run-step, run-snoc, run-append, run-ext, length-run, getD-run
---     sum-step, sum-front, sum-more, sum-le, sum-mono, sum-within, sum-ext
+--     sum-step, sum-front, sum-more, sum-le, sum-mono, sum-within, sum-ext, sum-add
 -- Assumes nothing.
 use Prim.Native.Nat.{ℕ, zero, suc, _+_, _-_, _<_, _≤_}
 use native.Mathlib.Nat.{add-zero, zero-add, suc-add, add-suc, le-refl, eq-or-lt-of-le}
@@ -168,3 +168,9 @@ pub sum-ext : (f g : ℕ → ℕ) (m : ℕ) → ((j : ℕ) → j < m → f j ≡
 unfolding sumTo
 sum-ext f g zero e = refl
 sum-ext f g (suc m) e = ap₂ (λ (a b : ℕ). a + b) (sum-ext f g m (λ j h. e j (omega arith))) (e m (omega arith))
+
+-- the sum of two functions' values
+pub sum-add : (f g : ℕ → ℕ) (m : ℕ) → sumTo (λ i. f i + g i) m ≡ sumTo f m + sumTo g m
+unfolding sumTo
+sum-add f g zero = refl
+sum-add f g (suc m) = let e = sum-add f g m in omega arith

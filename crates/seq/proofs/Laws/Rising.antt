@@ -2,6 +2,7 @@
 --     rises-decides, falls-decides            `rises` decides Rising, and its negation NotRising
 --     above-le, rises-tail                    a list that rises from above b rises from above each a ≤ b; what is left of one that rises
 --     above-elem                              each element is above
+--     rising-append                           two lists that rise, one behind the other
 --     rises-none, rises-suc, rises-start      the first value of a run
 --     above-next, above-stop, above-done      the next value, in a walk that is at i and ends at e
 -- Assumes nothing.
@@ -11,13 +12,15 @@ use native.Mathlib.Numerals.{add-one}
 use native.Mathlib.Omega.{arith}
 use mathlib.Core.Path.{_≡_, refl, ap, _∙_}
 use mathlib.Core.Bool.{Bool, true, false, not, _&&_}
-use mathlib.Core.List.{List, [], _∷_}
-use lib.ListN.{length, getD}
+use mathlib.Core.Logic.{⊎-elim}
+use mathlib.Core.List.{List, [], _∷_, _++_}
+use lib.ListN.{length, getD, length-append, List·getD-append}
+use lib.Seq.{getD-append-add}
 use lib.Dec.{ltb}
 use borrow.Author.Tests.{ltb-true, ltb-false, lt-ltb, not-true, not-false}
 use Rattle.seq.specs.Lists.{above, rises, Rising, NotRising}
 use Rattle.seq.specs.Numbers.{run}
-use Rattle.seq.proofs.Laws.Tests.{both, both-true}
+use Rattle.seq.proofs.Laws.Tests.{both, both-true, below-or}
 use Rattle.seq.proofs.Laws.Decides.{Decides}
 use Rattle.seq.proofs.Laws.Lists.{above-here, above-fall}
 use Rattle.seq.proofs.Laws.Numbers.{run-end, run-step}
@@ -114,3 +117,30 @@ module _ (f : ℕ → ℕ) where
   pub above-done : (a i e : ℕ) → e ≤ i → above a (run f i (e - i)) ≡ true
   unfolding above
   above-done a i e h = rw (run-end f i e h)
+
+-- two lists that rise, each element of the first below each of the second
+pub rising-append : (xs ys : List ℕ) → Rising xs → Rising ys → ((i j : ℕ) → i < length xs → j < length ys → getD xs i 0 < getD ys j 0) → Rising (xs ++ ys)
+rising-append xs ys rx ry low j k = ⊎-elim front (λ l. ⊎-elim edge behind (below-or j (length xs))) (below-or (j + 1) (length xs))
+  where
+    n : length (xs ++ ys) ≡ length xs + length ys
+    n = length-append xs ys
+
+    at-behind : (i : ℕ) → length xs ≤ i → getD (xs ++ ys) i 0 ≡ getD ys (i - length xs) 0
+    at-behind i l = let e : i ≡ length xs + (i - length xs) = omega arith in ap (λ (m : ℕ). getD (xs ++ ys) m 0) e ∙ getD-append-add xs ys (i - length xs) 0
+
+    front : j + 1 < length xs → getD (xs ++ ys) j 0 < getD (xs ++ ys) (j + 1) 0
+    front l =
+        let q : j < length xs = omega arith in
+        rw (List·getD-append xs ys 0 j q, List·getD-append xs ys 0 (j + 1) l) (rx j l)
+
+    edge : j < length xs → getD (xs ++ ys) j 0 < getD (xs ++ ys) (j + 1) 0
+    edge l =
+        ⊎-elim front
+        (λ (m : length xs ≤ j + 1). let z = n in rw (List·getD-append xs ys 0 j l, at-behind (j + 1) m) (low j (j + 1 - length xs) l (omega arith)))
+        (below-or (j + 1) (length xs))
+
+    behind : length xs ≤ j → getD (xs ++ ys) j 0 < getD (xs ++ ys) (j + 1) 0
+    behind l =
+        let e : j + 1 - length xs ≡ j - length xs + 1 = omega arith in
+        let z = n in
+        rw (at-behind j l, at-behind (j + 1) (omega arith), e) (ry (j - length xs) (omega arith))

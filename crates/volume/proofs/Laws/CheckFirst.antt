@@ -1,6 +1,7 @@
 -- Checking a volume answers the first refusal that applies. No contract cites this file.
 --     AtStage, at-stage            what a refusal of each stage says
 --     stage-le                     there are seven stages
+--     volume-number                the numbers are 1 to 8
 --     check-sound, check-first     the verdict is the first refusal that applies
 -- Assumes nothing.
 use Prim.Native.Nat.{ℕ, _-_, _*_, _%_, _<_, _≤_}
@@ -67,6 +68,17 @@ module _ (v : List ℕ) where
   stage-le m q (wrongExtent h) = omega arith
   stage-le m q (wrongOrder i l h) = omega arith
   stage-le m q (wrongPadding i l r h) = omega arith
+
+  -- the numbers are 1 to 8
+  pub volume-number : (m q : ℕ) → VolumeApplies v m q → (1 ≤ m) × (m ≤ 8)
+  volume-number m q (wrongLength h) = (omega arith, omega arith)
+  volume-number m q (wrongNumber k l h) = (omega arith, omega arith)
+  volume-number m q (wrongChecksum k l h) = (omega arith, omega arith)
+  volume-number m q (wrongVersion h) = (omega arith, omega arith)
+  volume-number m q (wrongListCount h) = (omega arith, omega arith)
+  volume-number m q (wrongExtent h) = (omega arith, omega arith)
+  volume-number m q (wrongOrder i l h) = (omega arith, omega arith)
+  volume-number m q (wrongPadding i l r h) = (omega arith, omega arith)
 
   -- the words of this call: no earlier stage applies, the first refusal, a sound answer
   abbrev IsClear : ℕ → Type 0

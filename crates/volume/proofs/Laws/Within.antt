@@ -1,5 +1,6 @@
 -- The limits on lists: lists within them have a volume that is accepted and holds them, and an accepted volume's lists are within them.
 -- No contract cites this file.
+--     words-append                     words in front of words
 --     within-given                     lists within the limits, as counts and postings
 --     given-within                     counts and postings within the limits, as lists
 --     volume-good, volume-lists        the volume of lists within the limits
@@ -32,7 +33,7 @@ use Rattle.volume.proofs.Laws.Lists.{length-given, given-counts, given-
 use Rattle.volume.proofs.Laws.Volume.{Given, written-good, written-lists, length-listsOf, list-of, join-of}
 
 -- words in front of words
-words-append : (xs ys : List ℕ) → IsWords xs → IsWords ys → IsWords (xs ++ ys)
+pub words-append : (xs ys : List ℕ) → IsWords xs → IsWords ys → IsWords (xs ++ ys)
 words-append xs ys a b i = ⊎-elim front behind (below-or i (length xs))
   where
     front : i < length xs → getD (xs ++ ys) i 0 < 4294967296

@@ -2,10 +2,10 @@
 -- them (`Tried`). A jump moves a position on; else one predicate less is left. Assumes nothing.
 use Rattle.matcher.proofs.least.match_from.Statement.{statement}
 use Rattle.matcher.proofs.least.match_from.Tie as tie
-use Prim.Native.Nat.{ℕ, _+_, _-_, _*_, _<_, max}
+use Prim.Native.Nat.{_+_, _-_, _*_, _<_, max}
 use native.Mathlib.Omega.{arith}
 use borrow.Author.Needs.{needs}
-use mathlib.Core.Path.{_≡_, sym, subst, _∙_}
+use mathlib.Core.Path.{sym, subst, _∙_}
 use mathlib.Core.Bool.{false}
 use lib.ListN.{length, getD, set, take}
 use lib.Seq.{getD-set-same}

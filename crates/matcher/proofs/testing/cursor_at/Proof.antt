@@ -1,5 +1,4 @@
 -- `testing::cursor_at` meets its contract: the posting that is reached is that of the position, or the list does not hold it. Assumes nothing.
-use native.Mathlib.Omega.{arith}
 use borrow.Author.Needs.{needs}
 use mathlib.Core.Path.{sym, ap, _∙_}
 use Prim.Native.Nat.{_+_, _*_}

@@ -3,7 +3,7 @@ use Prim.Native.Nat.{ℕ}
 use native.Mathlib.Omega.{arith}
 use borrow.Author.Needs.{needs}
 use borrow.Author.Tests.{not-true, not-false}
-use mathlib.Core.Path.{_≡_, sym, ap, subst, _∙_}
+use mathlib.Core.Path.{_≡_, subst}
 use mathlib.Core.List.{List}
 use lib.ListN.{length, take}
 use lib.Seq.{length-take-le}
@@ -11,7 +11,6 @@ use denote.Ref.{now}
 use Rattle.volume.specs.Layout.{listsOf}
 use Rattle.plan.specs.Accepted.{patternAt}
 use Rattle.fulltext.specs.Inner.Bounds.{HeldMatch}
-use Rattle.matcher.specs.Inner.Order.{Order}
 use Rattle.matcher.proofs.Laws.Testing.{posed-given, few-vars, at-posed, front-take, front-standing, held-match, match-not}
 use Rattle.matcher.proofs.testing.is_match.Statement.{statement}
 use Rattle.matcher.proofs.testing.is_match.Tie as tie
