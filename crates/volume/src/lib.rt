@@ -5,7 +5,8 @@
 // None of the four has a `requires`. What each one answers, and what it leaves in a lent buffer, is
 // an equation with a definition of `specs/`. `word_at`, `word_behind`, `posting_at`,
 // `below_in_window`, `below_across`, `count_at`, `list_span` and `list_starts` serve the crates
-// above, on a volume that they have checked.
+// above, on a volume that they have checked; `entry`, `lead` and `extent_of` say where its parts
+// stand. `put_made` stores a block of a volume whose words are made on the way.
 mod answers;
 mod blocks;
 mod checking;
@@ -24,8 +25,15 @@ pub use answers::Written;
 pub use checking::check;
 pub use codes::Code;
 pub use codes::code_of;
+pub use layout::BLOCK_BYTES;
+pub use layout::BLOCK_WORDS;
+pub use layout::LAST_WORD;
 pub use layout::ListSpan;
 pub use layout::MAX_LISTS;
+pub use layout::MAX_WORDS;
+pub use layout::entry;
+pub use layout::extent_of;
+pub use layout::lead;
 pub use posting::Posting;
 pub use reading::list_span;
 pub use reading::list_starts;
@@ -36,4 +44,5 @@ pub use stream::count_at;
 pub use stream::posting_at;
 pub use stream::word_at;
 pub use stream::word_behind;
+pub use writing::put_made;
 pub use writing::write;

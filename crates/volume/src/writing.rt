@@ -9,7 +9,7 @@ ghost use Rattle.seq.specs.Lists.{at, rises};
 ghost use Rattle.seq.specs.Numbers.{run, sumTo};
 ghost use Rattle.volume.specs.Answers.{saidWritten};
 ghost use Rattle.volume.specs.Write.{blockBody, sealed, badGiven, writeAnswer, writeOut};
-ghost use Rattle.volume.specs.Inner.Storing.{given, filled, stored, storedFirst};
+ghost use Rattle.volume.specs.Inner.Storing.{given, filled, stored, storedFirst, IsBlock};
 use super::answers::Written;
 use super::layout::BLOCK_BYTES;
 use super::layout::BLOCK_WORDS;
@@ -178,6 +178,18 @@ fn put_block(counts: &[u32], postings: &[u32], k: usize, out: &mut [u8])
 {
     put32(out, 0, k as u32);
     put_stream(counts, postings, BLOCK_WORDS * k, out);
+    seal(out);
+}
+
+// Stores block k of a stream that is made on the way, given its words of that block.
+pub fn put_made(words: &[u32], k: usize, out: &mut [u8])
+    requires { ⌜ length (now words) ≡ 126 ⌝ }
+    requires { ⌜ k < 8192 ⌝ }
+    requires { ⌜ length (now out) ≡ 512 ⌝ }
+    ensures { λ _. ⌜ IsBlock (now (words .entry)) k (now (out .exit)) ⌝ }
+{
+    put32(out, 0, k as u32);
+    put_postings(words, 0, out);
     seal(out);
 }
 

@@ -2,6 +2,7 @@
 --     Filling, filling-first, filling-again, filling-done      a block's words, stored one by one
 --     Onward, onward-first, onward-again                       the same, from a list in which some are stored
 --     put-body, put-sealed                                     a block's number and words, and its checksum behind them
+--     words-made                                               words that are a stream's
 --     Laying, laying-first, laying-again, laying-done          blocks, stored one by one
 --     put-three                                                all blocks, stored in three runs
 -- Assumes nothing.
@@ -13,11 +14,14 @@ use mathlib.Core.List.{List, [], _++_, append-assoc, append-nil}
 use lib.ListN.{length, take, drop, length-append, take-append-drop, drop-of-length-le}
 use lib.Seq.{take-at, length-take-le}
 use borrow.Rule.Slice.PartMut.{putMid}
+use Rattle.seq.specs.Lists.{at}
+use Rattle.seq.specs.Numbers.{run}
+use Rattle.seq.proofs.Laws.Numbers.{getD-run}
 use Rattle.seq.proofs.Laws.Stores.{put-over, put-part}
 use Rattle.block.specs.Bytes.{bytes16, bytes32}
 use Rattle.block.specs.Checksum.{checkA, checkB}
 use Rattle.volume.specs.Write.{wordBytes, blockBody, sealed, blocksFrom}
-use Rattle.volume.proofs.Laws.Write.{length-wordBytes, wordBytes-snoc, length-blockBody, length-blocksFrom, blocksFrom-append, blocksFrom-snoc}
+use Rattle.volume.proofs.Laws.Write.{length-wordBytes, wordBytes-snoc, wordBytes-ext, length-blockBody, length-blocksFrom, blocksFrom-append, blocksFrom-snoc}
 
 -- the words of a block that are stored so far: the first j of f's from `from` on
 pub record Filling (f : ℕ → ℕ) (from : ℕ) (out₀ out : List ℕ) (j : ℕ) : Type 0 where
@@ -75,6 +79,10 @@ unfolding blockBody
 put-body f k rest a b p q =
     let front : take 4 a ≡ bytes32 k = ap (take 4) p in
     ap (take 508) q ∙ rw front (take-at (bytes32 k ++ wordBytes f (126 * k) 126) (drop 508 a) 508 (length-blockBody f k))
+
+-- words that are a stream's from an index on
+pub words-made : (f : ℕ → ℕ) (words : List ℕ) (k m : ℕ) → words ≡ run f k m → wordBytes (at words) 0 m ≡ wordBytes f k m
+words-made f words k m e = wordBytes-ext (at words) f 0 k m (λ j h. rw (zero-add j, e) (getD-run f k m j 0 h))
 
 -- two numbers of two bytes behind 508
 put-seal : (out xs ys : List ℕ) → length out ≡ 512 → length xs ≡ 2

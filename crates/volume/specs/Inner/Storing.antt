@@ -1,9 +1,11 @@
 -- What `src/writing.rt` has stored: the words of a block, and a run of blocks. No call's promise rests on this file. Assumes nothing.
 use Prim.Native.Nat.{ℕ, _*_, _-_}
+use mathlib.Core.Path.{_≡_}
 use mathlib.Core.List.{List, _++_}
 use lib.ListN.{take, drop}
 use Rattle.seq.specs.Lists.{at}
-use Rattle.volume.specs.Write.{wordBytes, blocksFrom, streamOf}
+use Rattle.seq.specs.Numbers.{run}
+use Rattle.volume.specs.Write.{wordBytes, blockBody, sealed, blocksFrom, streamOf}
 
 -- the stream of counts and postings, by index
 abbrev pub given : List ℕ → List ℕ → ℕ → ℕ
@@ -20,3 +22,7 @@ stored f from to out = take (512 * from) out ++ blocksFrom f from (to - from) ++
 -- bytes with the first n blocks of f
 abbrev pub storedFirst : (ℕ → ℕ) → ℕ → List ℕ → List ℕ
 storedFirst f n out = blocksFrom f 0 n ++ drop (512 * n) out
+
+-- bytes are block k of every stream that has these words there
+abbrev pub IsBlock : List ℕ → ℕ → List ℕ → Type 0
+IsBlock words k block = (f : ℕ → ℕ) → words ≡ run f (126 * k) 126 → block ≡ sealed (blockBody f k)
