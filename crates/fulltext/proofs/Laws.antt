@@ -9,6 +9,7 @@
 --     Skips        documents in which nothing is found
 --     Counts       the words of a row, and the postings of a stretch of documents
 --     Docs         the true documents of a stretch, and their rows
+--     Same         what a plan says of a document depends on the positions in it alone
 pub mod Positions
 pub mod Needs
 pub mod Least
@@ -19,3 +20,4 @@ pub mod Calculus
 pub mod Skips
 pub mod Counts
 pub mod Docs
+pub mod Same

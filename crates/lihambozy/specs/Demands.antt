@@ -2,12 +2,16 @@
 --     Demand3       demand 3: every search by the C functions, whole
 --     Enumerates    every enumeration by the C functions, whole
 --     Typed         every search by a typed line, whole: what is listed is what is true of the line read on its own
-use Prim.Native.Nat.{ℕ, _-_, _<_}
+--     DoubleBill    every search of two volumes joined, whole: the rows and tallies of both
+use Prim.Native.Nat.{ℕ, _*_, _-_, _<_}
 use mathlib.Core.Path.{_≡_}
 use mathlib.Core.List.{List}
+use lib.ListN.{length, take}
 use Rattle.seq.specs.Lists.{keep}
 use Rattle.seq.specs.Numbers.{run}
+use Rattle.block.specs.Bytes.{IsBytes}
 use Rattle.volume.specs.Layout.{listsOf}
+use Rattle.join.specs.Join.{joinAnswer, joinOut}
 use Rattle.plan.specs.Check.{verdict}
 use Rattle.fulltext.specs.Documents.{docsIn, work}
 use Rattle.fulltext.specs.Positions.{limit}
@@ -17,9 +21,10 @@ use Rattle.grammar.specs.Grammar.{Line, written, Fits}
 use Rattle.grammar.specs.Meaning.{lineTrue}
 use Rattle.grammar.specs.Words.{wordsOfLine}
 use Rattle.line.specs.Read.{readAnswer}
-use Rattle.lihambozy.specs.Flat.{flatPlan, flatWords}
+use Rattle.lihambozy.specs.Flat.{flatPlan, flatWords, flatJoin}
 use Rattle.lihambozy.specs.Search.{structs}
 use Rattle.lihambozy.specs.Enumeration as enumerations
+use Rattle.lihambozy.specs.Evening.{Evening}
 
 -- Demand 3: over every volume and plan that `lhz_check_plan` accepts, with refusal 0, all that the crate `search` states holds of the
 -- structs
@@ -49,3 +54,10 @@ Typed = (v s : List ℕ) (room : ℕ)
     → flatWords (readAnswer s room) .refusal ≡ 0
     → flatPlan (verdict v (wordsOfLine s)) .refusal ≡ 0
     → TypedSearch v s
+
+-- every two volumes that `lhz_join_volumes` joins, in some buffer, with refusal 0, and every plan: the blocks written are an evening of both
+unfoldable pub DoubleBill : Type 0
+DoubleBill = (h : ℕ) (v w out : List ℕ) → IsBytes v → IsBytes w
+    → flatJoin (joinAnswer h v w (length out)) .refusal ≡ 0
+    → (p : List ℕ)
+    → Evening h v w (take (512 * flatJoin (joinAnswer h v w (length out)) .blocks) (joinOut h v w out)) p

@@ -6,6 +6,7 @@ use mathlib.Core.Option.{Option, none, some}
 use lib.ListN.{replicate}
 use Rattle.seq.specs.Refusals.{Said, refused, answered}
 use Rattle.volume.specs.Answers.{Sizes}
+use Rattle.join.specs.Answers.{JoinSaid}
 use Rattle.plan.specs.Answers as planAnswers
 use Rattle.plan.specs.declared.showing.Span.{Span}
 use Rattle.plan.specs.Limits.{mostPatternVars}
@@ -15,6 +16,7 @@ use Rattle.search.specs.Answers.{Next, done, more, Page}
 use Rattle.lihambozy.specs.declared.CheckVolumeAnswer.{CheckVolumeAnswer}
 use Rattle.lihambozy.specs.declared.ReadListAnswer.{ReadListAnswer}
 use Rattle.lihambozy.specs.declared.WriteVolumeAnswer.{WriteVolumeAnswer}
+use Rattle.lihambozy.specs.declared.JoinVolumesAnswer.{JoinVolumesAnswer}
 use Rattle.lihambozy.specs.declared.CheckPlanAnswer.{CheckPlanAnswer}
 use Rattle.lihambozy.specs.declared.PatternRowsAnswer.{PatternRowsAnswer}
 use Rattle.lihambozy.specs.declared.TestPositionsAnswer.{TestPositionsAnswer}
@@ -37,6 +39,14 @@ flatList (answered n) = record { refusal = 0; at = 0; count = n }
 abbrev pub flatVolume : Said ℕ → WriteVolumeAnswer
 flatVolume (refused n p) = record { refusal = n; at = p; blocks = 0 }
 flatVolume (answered n) = record { refusal = 0; at = 0; blocks = n }
+
+-- the answer of joining two volumes, where a refusal is of this volume, or of neither
+abbrev pub flatJoined : ℕ → Said ℕ → JoinVolumesAnswer
+flatJoined volume (refused n p) = record { refusal = n; at = p; volume = volume; blocks = 0 }
+flatJoined volume (answered n) = record { refusal = 0; at = 0; volume = volume; blocks = n }
+
+abbrev pub flatJoin : JoinSaid → JoinVolumesAnswer
+flatJoin s = flatJoined (s .volume) (s .said)
 
 -- the answer of checking a plan
 abbrev pub flatPlan : Said planAnswers.Sizes → CheckPlanAnswer

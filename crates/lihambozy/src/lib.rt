@@ -10,16 +10,18 @@ ghost use lib.ListN.{length};
 ghost use Rattle.volume.specs.Check.{verdict};
 ghost use Rattle.volume.specs.Read.{readAnswer, readOut};
 ghost use Rattle.volume.specs.Write.{writeAnswer, writeOut};
+ghost use Rattle.join.specs.Join.{joinAnswer, joinOut};
 ghost use Rattle.plan.specs.Check as plans;
 ghost use Rattle.plan.specs.Parts.{spanOf};
 ghost use Rattle.matcher.specs.Testing.{testAnswer};
 ghost use Rattle.line.specs.Read as lines;
 ghost use Rattle.printer.specs.Write as printed;
 ghost use Rattle.lihambozy.specs.Flat.{flatSizes, flatList, flatVolume, flatPlan, flatSpan};
-ghost use Rattle.lihambozy.specs.Flat.{flatTest, flatWords, flatBytes};
+ghost use Rattle.lihambozy.specs.Flat.{flatTest, flatWords, flatBytes, flatJoin};
 ghost use Rattle.lihambozy.specs.Search.{Kept};
 ghost use Rattle.lihambozy.specs.Enumeration as enumerations;
 use enumeration::Enumerated;
+use join::Joined;
 use line::Read as LineRead;
 use plan::Checked as PlanChecked;
 use plan::MOST_PATTERN_VARS;
@@ -53,6 +55,16 @@ pub struct ReadListAnswer {
 pub struct WriteVolumeAnswer {
     pub refusal: u32,
     pub at: u32,
+    pub blocks: u32,
+}
+
+// What `lhz_join_volumes` answers: the number of blocks at the front of the output. `volume` is 1 or 2
+// where the refusal is that of the first or of the second volume, and else 0.
+#[repr(C)]
+pub struct JoinVolumesAnswer {
+    pub refusal: u32,
+    pub at: u32,
+    pub volume: u32,
     pub blocks: u32,
 }
 
@@ -232,6 +244,53 @@ pub extern "C" fn lhz_write_volume(
             at: 0,
             blocks: 0,
         },
+    }
+}
+
+// The answer of joining that is a refusal of one volume, or of neither where `volume` is 0.
+fn not_joined(refusal: u32, at: u32, volume: u32) -> JoinVolumesAnswer
+    ensures { λ r. ⌜ r ≡ record { refusal = refusal; at = at; volume = volume; blocks = 0 } ⌝ }
+{
+    JoinVolumesAnswer {
+        refusal,
+        at,
+        volume,
+        blocks: 0,
+    }
+}
+
+// Writes the lists of the first volume, each with that of the second behind it, raised by so many
+// documents, as one volume to the front of out.
+#[no_mangle]
+pub extern "C" fn lhz_join_volumes(
+    first: &[u8],
+    second: &[u8],
+    raise: u32,
+    out: &mut [u8],
+) -> JoinVolumesAnswer
+    ensures { λ r. ⌜ r ≡ flatJoin (joinAnswer raise (now (first .entry)) (now (second .entry)) (length (now (out .entry)))) ⌝ }
+    ensures { λ _. ⌜ now (out .exit) ≡ joinOut raise (now (first .entry)) (now (second .entry)) (now (out .entry)) ⌝ }
+{
+    let joined = join::join(first, second, raise, out);
+    match joined {
+        Joined::Blocks(blocks) => JoinVolumesAnswer {
+            refusal: 0,
+            at: 0,
+            volume: 0,
+            blocks,
+        },
+        Joined::First(why) => {
+            let code = volume::code_of(why);
+            not_joined(code.number, code.at, 1)
+        }
+        Joined::Second(why) => {
+            let code = volume::code_of(why);
+            not_joined(code.number, code.at, 2)
+        }
+        Joined::ListCounts => not_joined(24, 0, 0),
+        Joined::Documents => not_joined(25, 0, 0),
+        Joined::TooLarge => not_joined(19, 0, 0),
+        Joined::Short => not_joined(20, 0, 0),
     }
 }
 

@@ -111,7 +111,7 @@ found-none lists d f i h e =
     nth (x ∷ xs) (suc j) l = nth xs j (omega arith)
 
 -- a list with no postings from document a up to b has no position in a document there
-positions-none : (a b d : ℕ) (l : List ℕ) → a ≤ d → d < b → countIn a b l ≡ 0 → positionsIn d l ≡ []
+pub positions-none : (a b d : ℕ) (l : List ℕ) → a ≤ d → d < b → countIn a b l ≡ 0 → positionsIn d l ≡ []
 unfolding positionsIn countIn keep
 positions-none a b d [] h k e = refl
 positions-none a b d (p ∷ ps) h k e = go (within (docOf p)) refl (positions-none a b d ps h k) e
