@@ -1,6 +1,6 @@
-/* lihambozy.h: reading and writing the volumes of a surtitle archive, checking plans over them,
- * listing the documents that match, listing all tuples of positions that pass in one of them, and
- * reading and writing plans as typed lines.
+/* lihambozy.h: reading, writing and joining the volumes of a surtitle archive, checking plans over
+ * them, listing the documents that match, listing all tuples of positions that pass in one of them,
+ * and reading and writing plans as typed lines.
  *
  * `rt staticlib lihambozy` builds the library. A C99 program that includes this header is built in
  * the same folder with
@@ -113,8 +113,9 @@
  *   that starts with `refusal` and `at`. `refusal` is 0 where the call is answered. Otherwise it is
  *   the number of the first refusal that applies, in the order listed at the call; `at` is its
  *   place, 0 where none is named below; the fields behind `at` are 0; and `out` is left exactly as
- *   it was. So `refusal` is looked at before any other field. lhz_pattern_rows alone tells no
- *   number: an empty part stands for every refusal.
+ *   it was. So `refusal` is looked at before any other field. lhz_join_volumes alone tells one more
+ *   thing, which volume is refused. lhz_pattern_rows alone tells no number: an empty part stands
+ *   for every refusal.
  */
 #ifndef LIHAMBOZY_H
 #define LIHAMBOZY_H
@@ -192,7 +193,7 @@ extern "C" {
 #define LHZ_REFUSED_START 15
 #define LHZ_REFUSED_SHORT_BUFFER 16
 #define LHZ_REFUSED_OUT_OF_RANGE 17
-/* What is to be written is refused: lhz_write_volume. */
+/* What is to be written is refused: lhz_write_volume, lhz_join_volumes. */
 #define LHZ_REFUSED_COUNT_SUM 18
 #define LHZ_REFUSED_TOO_LARGE 19
 #define LHZ_REFUSED_SHORT_OUTPUT 20
@@ -200,6 +201,9 @@ extern "C" {
 #define LHZ_REFUSED_LINE_FORM 21
 #define LHZ_REFUSED_LINE_DEPTH 22
 #define LHZ_REFUSED_LINE_ROWS 23
+/* Two volumes do not go together: lhz_join_volumes. */
+#define LHZ_REFUSED_LISTS_DIFFER 24
+#define LHZ_REFUSED_RAISE 25
 
 /* The answer of lhz_check_volume. */
 typedef struct lhz_check_volume_answer {
@@ -279,6 +283,46 @@ typedef struct lhz_write_volume_answer {
  */
 lhz_write_volume_answer lhz_write_volume(const uint32_t *counts, size_t counts_len,
                                          const uint32_t *postings, size_t postings_len,
+                                         uint8_t *out, size_t out_len);
+
+/* The answer of lhz_join_volumes. */
+typedef struct lhz_join_volumes_answer {
+    uint32_t refusal;
+    uint32_t at;
+    uint32_t volume; /* 1 or 2 where the first or the second volume is refused itself, else 0 */
+    uint32_t blocks; /* n, the blocks written, 512 bytes each */
+} lhz_join_volumes_answer;
+
+/* Joins two volumes into one.
+ *
+ * Lent for reading: first, first_len bytes; second, second_len bytes. They may overlap, and may be
+ * one volume. Lent for writing: out, out_len bytes, which overlap neither.
+ *
+ * Each list of the result is the first's list, then the second's with `raise` (document 02: h)
+ * added to each document. The n blocks are written at the front of out, every byte of them; the
+ * bytes behind them stay as they were. With T lists in each volume, S1 postings in the first and S2
+ * in the second, n is (2 + T + S1 + S2) / 126, rounded up, so that 512 * n bytes are needed;
+ * first_len + second_len bytes are always enough. lhz_check_volume accepts what is written, and
+ * lhz_read_list reads these lists from it.
+ *
+ * A plan that is accepted over one of the three volumes is accepted over all. Listed with lhz_list
+ * until `next` is LHZ_DONE, the joined volume has the rows of the first, then those of the second
+ * with `raise` added to the document, each once. Its tallies sum to those of both together.
+ *
+ * Refusals, the first that applies. The first volume is checked before the second. A refusal of 1
+ * to 8 is of one of the volumes itself, and `volume` tells which: 1 for the first, 2 for the
+ * second. With any other refusal, and in an answer, `volume` is 0.
+ *    1 to 8                       a volume is refused as by lhz_check_volume, with the same place
+ *   24  LHZ_REFUSED_LISTS_DIFFER  the two volumes do not have equally many lists
+ *   25  LHZ_REFUSED_RAISE         a document of the second volume plus `raise`, as numbers without
+ *                                 limit, is over 65,535, or is not above every document of the
+ *                                 first volume; the documents of all lists count, list 0 too.
+ *                                 Never where the second volume has no posting
+ *   19  LHZ_REFUSED_TOO_LARGE     2 + T + S1 + S2 is over 1,032,192 words
+ *   20  LHZ_REFUSED_SHORT_OUTPUT  out_len is less than 512 * n bytes
+ */
+lhz_join_volumes_answer lhz_join_volumes(const uint8_t *first, size_t first_len,
+                                         const uint8_t *second, size_t second_len, uint32_t raise,
                                          uint8_t *out, size_t out_len);
 
 /* The answer of lhz_check_plan. */

@@ -7,7 +7,7 @@
 //! ([`Posting::word`](crate::Posting::word)), and a plan is the words of its rows
 //! ([`Plan::words`](crate::Plan::words)).
 
-use crate::{ffi, Match, Refusal, BLOCK_BYTES, BLOCK_WORDS, MAX_WORDS};
+use crate::{ffi, JoinRefusal, Match, Refusal, Which, BLOCK_BYTES, BLOCK_WORDS, MAX_WORDS};
 
 /// What [`check_volume`] finds in an accepted volume.
 #[derive(Clone, Copy, Debug, PartialEq, Eq)]
@@ -25,7 +25,7 @@ pub struct ReadList {
     pub count: u32,
 }
 
-/// What [`write_volume`] has done.
+/// What [`write_volume`] or [`join_volumes`] has done.
 #[derive(Clone, Copy, Debug, PartialEq, Eq)]
 pub struct WrittenVolume {
     /// The blocks written, of [`BLOCK_BYTES`] each.
@@ -144,6 +144,57 @@ pub fn write_volume(
 ) -> Result<WrittenVolume, Refusal> {
     let answer = ffi::write_volume(counts, postings, out);
     accepted(answer.refusal, answer.at)?;
+    Ok(WrittenVolume { blocks: answer.blocks })
+}
+
+/// Joins two volumes into one, at the front of `out`; the bytes behind it stay as they were. Each
+/// list of the result is the first's list, then the second's with `raise` added to each document
+/// (02: h). With the lists of one volume and the postings of both, [`volume_len`] tells how long
+/// `out` must be.
+///
+/// The result is a volume as [`write_volume`] writes it. A plan that is accepted over it lists the
+/// first's documents, then the second's, raised, each once, and the tallies of both add up.
+///
+/// Refused with 1 to 8 as by [`check_volume`], the first volume before the second; then, the first
+/// that applies, with 24 (the numbers of lists differ), 25 (a raised document is over 65,535, or is
+/// not above every document of the first volume, in any list), 19 (too many words for a volume), 20
+/// (`out` is shorter than the volume). Where the second volume has no posting, 25 never applies.
+///
+/// ```
+/// use lihambozy::calls::{join_volumes, read_list, write_volume};
+/// use lihambozy::{Posting, Which};
+///
+/// let word = |doc, pos| Posting::new(doc, pos).word();
+/// let (mut first, mut second) = ([0; 512], [0; 512]);
+/// write_volume(&[1, 2], &[word(0, 0), word(0, 4), word(2, 1)], &mut first)?;
+/// write_volume(&[0, 1], &[word(1, 7)], &mut second)?;
+///
+/// let mut joined = [0; 512];
+/// assert_eq!(join_volumes(&first, &second, 2, &mut joined).unwrap().blocks, 1);
+/// let mut list = [0; 3];
+/// read_list(&joined, 1, &mut list)?;
+/// assert_eq!(list, [word(0, 4), word(2, 1), word(3, 7)]);
+///
+/// let refused = join_volumes(&first, &second, 1, &mut joined).unwrap_err();
+/// assert_eq!((refused.refusal.number, refused.volume), (25, None), "document 2 is in both");
+/// second[300] ^= 1;
+/// let refused = join_volumes(&first, &second, 2, &mut joined).unwrap_err();
+/// assert_eq!((refused.refusal.number, refused.volume), (3, Some(Which::Second)));
+/// # Ok::<(), lihambozy::Refusal>(())
+/// ```
+pub fn join_volumes(
+    first: &[u8],
+    second: &[u8],
+    raise: u32,
+    out: &mut [u8],
+) -> Result<WrittenVolume, JoinRefusal> {
+    let answer = ffi::join_volumes(first, second, raise, out);
+    let volume = match answer.volume {
+        1 => Some(Which::First),
+        2 => Some(Which::Second),
+        _ => None,
+    };
+    accepted(answer.refusal, answer.at).map_err(|refusal| JoinRefusal { refusal, volume })?;
     Ok(WrittenVolume { blocks: answer.blocks })
 }
 

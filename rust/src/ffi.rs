@@ -37,6 +37,15 @@ pub(crate) struct WriteVolumeAnswer {
     pub blocks: u32,
 }
 
+/// An answer of `lhz_join_volumes`.
+#[repr(C)]
+pub(crate) struct JoinVolumesAnswer {
+    pub refusal: u32,
+    pub at: u32,
+    pub volume: u32,
+    pub blocks: u32,
+}
+
 /// An answer of `lhz_check_plan`.
 #[repr(C)]
 pub(crate) struct CheckPlanAnswer {
@@ -116,6 +125,16 @@ extern "C" {
         out: *mut u8,
         out_len: usize,
     ) -> WriteVolumeAnswer;
+
+    fn lhz_join_volumes(
+        first: *const u8,
+        first_len: usize,
+        second: *const u8,
+        second_len: usize,
+        raise: u32,
+        out: *mut u8,
+        out_len: usize,
+    ) -> JoinVolumesAnswer;
 
     fn lhz_check_plan(
         volume: *const u8,
@@ -203,6 +222,27 @@ pub(crate) fn write_volume(counts: &[u32], postings: &[u32], out: &mut [u8]) -> 
             counts.len(),
             postings.as_ptr(),
             postings.len(),
+            out.as_mut_ptr(),
+            out.len(),
+        )
+    }
+}
+
+pub(crate) fn join_volumes(
+    first: &[u8],
+    second: &[u8],
+    raise: u32,
+    out: &mut [u8],
+) -> JoinVolumesAnswer {
+    // SAFETY: `first` and `second` are read only and may overlap each other; `out` is borrowed
+    // mutably, so it overlaps neither, and each length is that of its slice, in elements.
+    unsafe {
+        lhz_join_volumes(
+            first.as_ptr(),
+            first.len(),
+            second.as_ptr(),
+            second.len(),
+            raise,
             out.as_mut_ptr(),
             out.len(),
         )
@@ -375,6 +415,44 @@ mod tests {
         assert_eq!(fields(&[0, 3], &POSTINGS, 512), [7, 1, 0]);
         assert_eq!(fields(&[1_032_190], &rising, 512), [19, 0, 0]);
         assert_eq!(fields(&COUNTS, &POSTINGS, 511), [20, 0, 0]);
+    }
+
+    /// Each volume of `volume_with` has document 0 alone, so that the second is raised by 1 at
+    /// least.
+    #[test]
+    fn join_volumes_fields() {
+        let fields = |first: &[u8], second: &[u8], raise: u32, room: usize| {
+            let answer = join_volumes(first, second, raise, &mut vec![0; room]);
+            [answer.refusal, answer.at, answer.volume, answer.blocks]
+        };
+        let volume = volume_with(&[]);
+        let mut three = [0; 512];
+        plain::write_volume(&[0, 0, 0], &[], &mut three).unwrap();
+        assert_eq!(fields(&volume, &volume, 1, 512), [0, 0, 0, 1]);
+        assert_eq!(fields(&volume, &volume, 65_535, 600), [0, 0, 0, 1]);
+        assert_eq!(fields(&volume, &three, 1, 512), [24, 0, 0, 0]);
+        for raise in [0, 65_536, u32::MAX] {
+            assert_eq!(fields(&volume, &volume, raise, 0), [25, 0, 0, 0], "raise {raise}");
+        }
+        assert_eq!(fields(&volume, &volume, 1, 511), [20, 0, 0, 0]);
+        let mut half = vec![0; 8_192 * 512];
+        let rising: Vec<u32> = (0..600_000).collect();
+        let blocks = plain::write_volume(&[0, 600_000], &rising, &mut half).unwrap();
+        half.truncate(blocks as usize * 512);
+        assert_eq!(fields(&half, &half, 10, 0), [19, 0, 0, 0]);
+        for (refused, [number, at]) in [
+            (&[][..], [1, 0]),
+            (&volume_with(&[(0, 2)]), [4, 0]),
+            (&volume_with(&[(6, 4)]), [7, 1]),
+            (&volume_with(&[(125, 7)]), [8, 125]),
+        ] {
+            for raise in [0, 1, u32::MAX] {
+                assert_eq!(fields(refused, &volume, raise, 0), [number, at, 1, 0]);
+                assert_eq!(fields(refused, &three[..9], raise, 0), [number, at, 1, 0]);
+                assert_eq!(fields(&volume, refused, raise, 0), [number, at, 2, 0]);
+                assert_eq!(fields(&three, refused, raise, 0), [number, at, 2, 0]);
+            }
+        }
     }
 
     /// A pattern of one variable, a pattern of two, and EITHER.

@@ -1,6 +1,6 @@
-//! Reads and writes the volumes of a surtitle archive, checks plans over them, lists the documents
-//! that match, lists all tuples of positions that pass in one of them, and reads and writes plans
-//! as typed lines.
+//! Reads, writes and joins the volumes of a surtitle archive, checks plans over them, lists the
+//! documents that match, lists all tuples of positions that pass in one of them, and reads and
+//! writes plans as typed lines.
 //!
 //! A [`Volume`] is an inverted index as one piece of bytes: 1 to 1,024 posting lists in blocks of
 //! 512 bytes, each block numbered and under a checksum. A [`Posting`] is a document (01: scene) and
@@ -84,7 +84,7 @@ pub use matches::{Match, Matches};
 pub use names::Names;
 pub use plan::Plan;
 pub use posting::Posting;
-pub use refusal::Refusal;
+pub use refusal::{JoinRefusal, Refusal, Which};
 pub use search::{Row, Search};
 pub use volume::Volume;
 

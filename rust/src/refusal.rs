@@ -86,6 +86,10 @@ impl fmt::Display for Refusal {
                 "the round bracket at byte {at} of the line is opened inside eight open ones"
             ),
             23 => f.write_str("the line needs over 64 rows"),
+            24 => f.write_str("the two volumes do not have equally many lists"),
+            25 => f.write_str(
+                "a raised scene is over 65,535, or is not above all scenes of the first volume",
+            ),
             _ => f.write_str("the call was refused"),
         }?;
         write!(f, " (refused {number} {at})")
@@ -93,6 +97,50 @@ impl fmt::Display for Refusal {
 }
 
 impl Error for Refusal {}
+
+/// One of the two volumes that are joined.
+#[derive(Clone, Copy, Debug, PartialEq, Eq, Hash)]
+pub enum Which {
+    /// The volume whose lists come first.
+    First,
+    /// The volume whose documents are raised.
+    Second,
+}
+
+/// Why two volumes were not joined. It is shown as the refusal is, with the volume in front.
+///
+/// ```
+/// use lihambozy::calls::{join_volumes, write_volume};
+///
+/// let mut first = [0; 512];
+/// write_volume(&[0], &[], &mut first)?;
+/// let refused = join_volumes(&first, &[0; 512], 0, &mut []).unwrap_err();
+/// assert_eq!(
+///     refused.to_string(),
+///     "the second volume: the check of block 0 is wrong (refused 3 0)"
+/// );
+/// # Ok::<(), lihambozy::Refusal>(())
+/// ```
+#[derive(Clone, Copy, Debug, PartialEq, Eq, Hash)]
+pub struct JoinRefusal {
+    /// The first refusal that applies.
+    pub refusal: Refusal,
+    /// The volume that is refused, with 1 to 8; `None` where the refusal is of both together.
+    pub volume: Option<Which>,
+}
+
+impl fmt::Display for JoinRefusal {
+    fn fmt(&self, f: &mut fmt::Formatter<'_>) -> fmt::Result {
+        f.write_str(match self.volume {
+            Some(Which::First) => "the first volume: ",
+            Some(Which::Second) => "the second volume: ",
+            None => "",
+        })?;
+        self.refusal.fmt(f)
+    }
+}
+
+impl Error for JoinRefusal {}
 
 #[cfg(test)]
 mod tests {
@@ -143,12 +191,19 @@ mod tests {
                  (refused 22 8)",
             ),
             (23, 0, "the line needs over 64 rows (refused 23 0)"),
+            (24, 0, "the two volumes do not have equally many lists (refused 24 0)"),
+            (
+                25,
+                0,
+                "a raised scene is over 65,535, or is not above all scenes of the first volume \
+                 (refused 25 0)",
+            ),
         ];
         for (number, at, sentence) in rows {
             assert_eq!(Refusal { number, at }.to_string(), sentence);
         }
         let unknown = Refusal { number: 0, at: 0 }.to_string();
-        for number in 1..=23 {
+        for number in 1..=25 {
             let told = Refusal { number, at: 0 }.to_string();
             assert!(told.ends_with(&format!(" (refused {number} 0)")), "{told}");
             assert_ne!(
@@ -161,5 +216,14 @@ mod tests {
             let told = Refusal { number, at: 7_654 }.to_string();
             assert_eq!(told.matches("7654").count(), 2, "the place is not told: {told}");
         }
+    }
+
+    #[test]
+    fn the_refused_volume_is_told_in_front() {
+        let refusal = Refusal { number: 7, at: 1 };
+        let told = |volume| JoinRefusal { refusal, volume }.to_string();
+        assert_eq!(told(None), refusal.to_string());
+        assert_eq!(told(Some(Which::First)), format!("the first volume: {refusal}"));
+        assert_eq!(told(Some(Which::Second)), format!("the second volume: {refusal}"));
     }
 }

@@ -5,6 +5,7 @@ use crate::row::PlanRow;
 use crate::{Matches, Plan, Posting, Refusal, Search};
 use std::borrow::Cow;
 use std::fmt;
+use std::ops::RangeInclusive;
 
 /// A volume that is accepted: its bytes, which are lent or owned, and which nobody can change while
 /// it is there.
@@ -66,6 +67,81 @@ impl<'a> Volume<'a> {
         let mut bytes = vec![0; len];
         calls::write_volume(&counts, &postings, &mut bytes)?;
         Volume::new(bytes)
+    }
+
+    /// One volume of two: each list is this volume's list, then the second's with `raise` added to
+    /// each document (02: h).
+    ///
+    /// Every plan that is accepted over both is accepted over the joined one. A search of it gives
+    /// this volume's rows, then the second's with their documents raised, and its tally at the end
+    /// is the sum of both.
+    ///
+    /// Refused with 24 (the numbers of lists differ), 25 (a raised document is over 65,535, or is
+    /// not above every document of this volume) or 19 (too many postings for a volume).
+    /// [`Volume::least_raise`] tells the least `raise` that is not refused with 25.
+    ///
+    /// ```
+    /// use lihambozy::{text, Plan, Volume};
+    ///
+    /// let first = Volume::of_lists(&text::lists("1:0 1:6\n1:2 1:8 2:4\n")?)?;
+    /// let second = Volume::of_lists(&text::lists("0:0\n0:3 5:1\n")?)?;
+    ///
+    /// assert_eq!(first.join(&second, 2).unwrap_err().number, 25);
+    /// assert_eq!(first.least_raise(&second), Some(3));
+    /// let evening = first.join(&second, 3)?;
+    /// let lists: Vec<_> = evening.lists().collect();
+    /// assert_eq!(lists, text::lists("1:0 1:6 3:0\n1:2 1:8 2:4 3:3 8:1\n")?);
+    ///
+    /// let plan = Plan::from_line("[1]")?;
+    /// let rows: Vec<String> = evening.search(&plan)?.map(|row| row.to_string()).collect();
+    /// assert_eq!(rows, ["scene 1 1 2", "scene 2 1 4", "scene 3 1 3", "scene 8 1 1"]);
+    ///
+    /// let words = Volume::of_lists(&text::lists("-\n0:3\n0:4\n")?)?;
+    /// assert_eq!(first.join(&words, 3).unwrap_err().number, 24);
+    /// # Ok::<(), Box<dyn std::error::Error>>(())
+    /// ```
+    pub fn join(&self, second: &Volume<'_>, raise: u32) -> Result<Volume<'static>, Refusal> {
+        let CheckedVolume { lists, postings } = self.checked;
+        // Each is below 1,032,192.
+        let postings = postings + second.checked.postings;
+        let len = calls::volume_len(lists as usize, postings as usize).unwrap_or(0);
+        let mut bytes = vec![0; len];
+        calls::join_volumes(&self.bytes, &second.bytes, raise, &mut bytes)
+            .map_err(|refused| refused.refusal)?;
+        // What is joined is accepted, with so many lists and postings.
+        Ok(Volume { bytes: bytes.into(), checked: CheckedVolume { lists, postings } })
+    }
+
+    /// The least `raise` with which [`Volume::join`] does not refuse the second volume with 25;
+    /// `None` where there is none, since the documents of both do not fit below 65,536. Where one
+    /// of the volumes has no posting it is 0. Each list of both volumes is read.
+    ///
+    /// ```
+    /// use lihambozy::{Posting, Volume};
+    ///
+    /// let of = |docs: &[u16]| {
+    ///     Volume::of_lists(&[docs.iter().map(|&doc| Posting::new(doc, 0)).collect::<Vec<_>>()])
+    /// };
+    /// assert_eq!(of(&[4, 9])?.least_raise(&of(&[2, 7])?), Some(8));
+    /// assert_eq!(of(&[4, 9])?.least_raise(&of(&[10])?), Some(0));
+    /// assert_eq!(of(&[4, 9])?.least_raise(&of(&[])?), Some(0));
+    /// assert_eq!(of(&[4, 9])?.least_raise(&of(&[0, 65_526])?), None);
+    /// # Ok::<(), lihambozy::Refusal>(())
+    /// ```
+    pub fn least_raise(&self, second: &Volume<'_>) -> Option<u32> {
+        let (Some(own), Some(raised)) = (self.doc_range(), second.doc_range()) else {
+            return Some(0);
+        };
+        let raise = (u32::from(*own.end()) + 1).saturating_sub((*raised.start()).into());
+        (u32::from(*raised.end()) + raise <= 65_535).then_some(raise)
+    }
+
+    /// The first and the last document that has a posting, in any list; `None` where no list has
+    /// one.
+    fn doc_range(&self) -> Option<RangeInclusive<u16>> {
+        let ends = |list: Vec<Posting>| Some((list.first()?.doc(), list.last()?.doc()));
+        let (firsts, lasts): (Vec<u16>, Vec<u16>) = self.lists().filter_map(ends).unzip();
+        Some(firsts.into_iter().min()?..=lasts.into_iter().max()?)
     }
 
     /// The volume's bytes.
@@ -223,5 +299,56 @@ impl fmt::Debug for Volume<'_> {
     fn fmt(&self, f: &mut fmt::Formatter<'_>) -> fmt::Result {
         let CheckedVolume { lists, postings } = self.checked;
         f.debug_struct("Volume").field("lists", &lists).field("postings", &postings).finish()
+    }
+}
+
+#[cfg(test)]
+mod tests {
+    use super::*;
+
+    /// A volume of two lists, the documents of each at position 0.
+    fn of(docs: [&[u16]; 2]) -> Volume<'static> {
+        let list = |docs: &[u16]| docs.iter().map(|&doc| Posting::new(doc, 0)).collect::<Vec<_>>();
+        Volume::of_lists(&docs.map(list)).unwrap()
+    }
+
+    /// With each `raise` from the least to the largest that fits, two volumes are joined; with any
+    /// other they are refused with 25. What is joined is accepted, with the counts that it tells.
+    #[test]
+    fn the_least_raise_is_the_least_that_joins() {
+        let volumes = [
+            of([&[], &[]]),
+            of([&[0], &[]]),
+            of([&[], &[0]]),
+            of([&[7, 9], &[3, 8]]),
+            of([&[20], &[10, 30]]),
+            of([&[0], &[65_535]]),
+            of([&[65_535], &[]]),
+            of([&[32_768], &[40_000]]),
+            of([&[40_000], &[0, 25_534]]),
+            of([&[40_000], &[0, 25_535]]),
+        ];
+        let pairs = volumes.iter().flat_map(|one| volumes.iter().map(move |two| (one, two)));
+        let mut fit = 0;
+        for (first, second) in pairs {
+            let (own, raised) = (first.doc_range(), second.doc_range());
+            let least = first.least_raise(second);
+            let most = raised.clone().map_or(u32::MAX, |docs| 65_535 - u32::from(*docs.end()));
+            let near = |raise: u32| [raise.saturating_sub(1), raise, raise.saturating_add(1)];
+            let raises = [0, 65_535, 65_536, u32::MAX, most, least.unwrap_or(0)].map(near);
+            for raise in raises.concat() {
+                let told = format!("{own:?}, {raised:?}, raise {raise}");
+                let does = least.is_some_and(|least| least <= raise) && raise <= most;
+                match first.join(second, raise) {
+                    Err(refusal) => assert_eq!((refusal.number, does), (25, false), "{told}"),
+                    Ok(joined) => {
+                        assert!(does, "{told}");
+                        assert_eq!(Volume::new(joined.as_bytes()).as_ref(), Ok(&joined), "{told}");
+                        fit += 1;
+                    }
+                }
+            }
+        }
+        assert!(fit > 100, "{fit}");
     }
 }

@@ -21,6 +21,7 @@ int main(void) {
     static uint8_t line[1];
     return (int)(lhz_list(volume, 0, plan, 0, 0, out, 0).refusal +
                  lhz_list_matches(volume, 0, plan, 0, 0, 0, plan, 0, out, 0).refusal +
+                 lhz_join_volumes(volume, 0, volume, 0, 0, line, 0).refusal +
                  lhz_line_to_plan(volume, 0, out, 0).refusal +
                  lhz_plan_to_line(volume, 0, plan, 0, line, 0).refusal);
 }

@@ -13,6 +13,8 @@
     lhz_list_matches(volume, sizeof volume, plan, plan_len, 0, doc, out, LHZ_MAX_VARS, tuple, room)
 #define READ(list, room) lhz_read_list(volume, sizeof volume, list, out, room)
 #define WRITE(lists, sum, room) lhz_write_volume(counts, lists, postings, sum, written, room)
+#define JOIN(raise, room) \
+    lhz_join_volumes(volume, sizeof volume, volume, sizeof volume, raise, joined, room)
 #define LINE(len, room) lhz_line_to_plan(line, len, plan, room)
 #define TELL(room) lhz_plan_to_line(volume, sizeof volume, plan, plan_len, written, room)
 
@@ -20,6 +22,7 @@
 static uint32_t counts[2] = {0, 130};
 static uint32_t postings[LHZ_MAX_WORDS];
 static uint8_t volume[2 * LHZ_BLOCK_BYTES], written[2 * LHZ_BLOCK_BYTES];
+static uint8_t joined[3 * LHZ_BLOCK_BYTES], half[LHZ_MAX_BYTES / 2 + LHZ_BLOCK_BYTES];
 static uint32_t plan[LHZ_MAX_PLAN_WORDS + LHZ_ROW_WORDS], out[LHZ_MAX_ROW_WORDS];
 static uint32_t tuple[LHZ_MAX_VARS];
 static uint8_t line[LHZ_MAX_LINE_BYTES + 1];
@@ -155,5 +158,20 @@ int main(void) {
     for (size_t i = 1; i < 2 * LHZ_MAX_ROWS; i += 2) memcpy(line + i, "1 ", 2);
     line[2 * LHZ_MAX_ROWS] = ']';
     SHOW(LHZ_REFUSED_LINE_ROWS, LINE(2 * LHZ_MAX_ROWS + 1, 0));
+
+    counts[0] = 0;
+    WRITE(1, 0, LHZ_BLOCK_BYTES);
+    SHOW(LHZ_REFUSED_LISTS_DIFFER, lhz_join_volumes(volume, sizeof volume, written, LHZ_BLOCK_BYTES,
+                                                    1, joined, sizeof joined));
+    SHOW(LHZ_REFUSED_RAISE, JOIN(0, sizeof joined));
+    SHOW(LHZ_REFUSED_RAISE, JOIN(LHZ_LAST_DOC + 1, 0));
+    SHOW(LHZ_REFUSED_SHORT_OUTPUT, JOIN(LHZ_LAST_DOC, sizeof joined - 1));
+    counts[0] = LHZ_MAX_WORDS / 2 - 1;
+    counts[1] = 0;
+    lhz_write_volume(counts, 2, postings, counts[0], half, sizeof half);
+    SHOW(LHZ_REFUSED_TOO_LARGE,
+         lhz_join_volumes(half, sizeof half, half, sizeof half, LHZ_LAST_DOC / 2, joined, 0));
+    volume[0] = 1;
+    SHOW(LHZ_REFUSED_BLOCK_NUMBER, JOIN(0, 0));
     return 0;
 }

@@ -9,7 +9,8 @@ use crate::support::files::{bytes, files, names, repository, text, Folder};
 use std::fs;
 
 /// The commands of `lhz`.
-const COMMANDS: [&str; 8] = ["check", "list", "matches", "read", "test", "write", "plan", "show"];
+const COMMANDS: [&str; 9] =
+    ["check", "list", "matches", "read", "test", "write", "join", "plan", "show"];
 /// The commands that take a typed line.
 const OF_LINES: [&str; 6] = ["check", "list", "matches", "test", "plan", "show"];
 /// What the guide's commands that are not run start with.

@@ -33,6 +33,39 @@ read 2 0 0: 7 7 7 7
 }
 
 #[test]
+fn joins() {
+    let expected = "\
+join answer 16: 0 4 8 12
+join 0 0 0 1, kept
+check 0 0 3 11
+list 0: 1:0 1:6 3:0
+list 1: 1:2 1:8 2:4 3:4 12:7
+list 2: 1:5 1:7 2:9
+join 0 0 0 1, kept
+check 0 0 3 11
+list 0: 1:0 1:6 65526:0
+list 1: 1:2 1:8 2:4 65526:4 65535:7
+list 2: 1:5 1:7 2:9
+join 25 0 0 0, kept
+join 25 0 0 0, kept
+join 25 0 0 0, kept
+join 20 0 0 0, kept
+join 25 0 0 0, kept
+join 1 0 1 0, kept
+join 1 0 2 0, kept
+join 1 0 1 0, kept
+join 3 1 2 0, kept
+join 3 0 1 0, kept
+join 24 0 0 0, kept
+join 24 0 0 0, kept
+join 0 0 0 1, kept
+check 0 0 1 0
+list 0:
+";
+    assert_eq!(printed("join"), expected);
+}
+
+#[test]
 fn plans() {
     let expected = "\
 check answer 16: 0 4 8 12
@@ -327,6 +360,12 @@ LHZ_REFUSED_UNFINISHED 14: 14 0
 LHZ_REFUSED_LINE_FORM 21: 21 8
 LHZ_REFUSED_LINE_DEPTH 22: 22 8
 LHZ_REFUSED_LINE_ROWS 23: 23 0
+LHZ_REFUSED_LISTS_DIFFER 24: 24 0
+LHZ_REFUSED_RAISE 25: 25 0
+LHZ_REFUSED_RAISE 25: 25 0
+LHZ_REFUSED_SHORT_OUTPUT 20: 20 0
+LHZ_REFUSED_TOO_LARGE 19: 19 0
+LHZ_REFUSED_BLOCK_NUMBER 2: 2 0
 ";
     assert_eq!(printed("refusals"), expected);
 }

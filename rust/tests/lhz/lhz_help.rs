@@ -5,16 +5,18 @@ use crate::support::files::plan_bytes;
 use crate::support::plans::*;
 use crate::support::*;
 
-const COMMANDS: [&str; 8] = ["check", "list", "matches", "read", "test", "write", "plan", "show"];
+const COMMANDS: [&str; 9] =
+    ["check", "list", "matches", "read", "test", "write", "join", "plan", "show"];
 
 /// How each command is used.
-const USES: [&str; 11] = [
+const USES: [&str; 12] = [
     "lhz check VOLUME [PLAN]",
     "lhz list VOLUME PLAN",
     "lhz matches VOLUME PLAN FIGURE SCENE [PLACE..]",
     "lhz read VOLUME [LIST]",
     "lhz test VOLUME PLAN FIGURE SCENE PLACE..",
     "lhz write TEXT VOLUME",
+    "lhz join FIRST SECOND H VOLUME",
     "lhz plan PLANTEXT PLAN",
     "lhz plan --line LINE PLAN",
     "lhz show PLAN",

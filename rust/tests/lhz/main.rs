@@ -9,6 +9,7 @@ mod lhz;
 mod lhz_arguments;
 mod lhz_files;
 mod lhz_help;
+mod lhz_join;
 mod lhz_line;
 mod lhz_listing;
 mod lhz_matches;

@@ -9,7 +9,7 @@ use std::fmt;
 pub struct Number<'a> {
     digits: &'a str,
     /// The number, or the largest of 32 bits where it is over them: what is asked about it, scenes,
-    /// places, lists or figures, is refused for both alike.
+    /// places, lists or figures, is refused for both alike, and scenes are raised by neither.
     pub value: u32,
 }
 

@@ -48,6 +48,9 @@ pub fn run(
             test(volume, plan, &Asked::new(pattern, doc, positions)?, out)
         }
         ("write", &[Word(text), Word(volume)]) => write(text, volume, out),
+        ("join", &[Word(first), Word(second), Word(raise), Word(volume)]) => {
+            join([first, second], number("H", raise)?, volume, out)
+        }
         ("plan", &[text, Word(plan)]) => write_plan(text, plan, out),
         ("show", &[Word(volume), plan]) if *as_line => {
             show_line(volume, plan, names.as_deref(), out)
@@ -289,6 +292,11 @@ fn write(path: &OsStr, volume: &OsStr, out: &mut impl Write) -> Result<(), Failu
             Some(mistake) => wrong(mistake, Some(refusal)),
             None => Failure::refused(files::name(path), refusal),
         })?;
+    save(&written, volume, out)
+}
+
+/// Writes a volume to a file, and tells what it holds where that is not on standard output.
+fn save(written: &Volume<'_>, volume: &OsStr, out: &mut impl Write) -> Result<(), Failure> {
     files::write(volume, written.as_bytes(), out)?;
     if volume == "-" {
         return Ok(());
@@ -296,6 +304,56 @@ fn write(path: &OsStr, volume: &OsStr, out: &mut impl Write) -> Result<(), Failu
     let (lists, postings) = (written.list_count(), written.posting_count());
     let blocks = written.as_bytes().len() / BLOCK_BYTES;
     print(out, format_args!("lists {lists} postings {postings} blocks {blocks}\n"))
+}
+
+fn join(
+    paths: [&OsStr; 2],
+    raise: Number<'_>,
+    volume: &OsStr,
+    out: &mut impl Write,
+) -> Result<(), Failure> {
+    if paths == ["-"; 2] {
+        return Err(Failure::Usage("FIRST and SECOND cannot both be standard input".into()));
+    }
+    paths.into_iter().try_for_each(|path| apart(path, volume))?;
+    let [first, second] = [open(paths[0])?, open(paths[1])?];
+    let joined = first.join(&second, raise.value);
+    let joined = joined.map_err(|refusal| unjoined(paths, [&first, &second], raise, refusal))?;
+    save(&joined, volume, out)
+}
+
+/// Why two volumes are not joined.
+fn unjoined(
+    paths: [&OsStr; 2],
+    [first, second]: [&Volume<'_>; 2],
+    raise: Number<'_>,
+    refusal: Refusal,
+) -> Failure {
+    let [one, other] = paths.map(files::name);
+    let both = format!("{one} and {other}");
+    let (file, why) = match refusal.number {
+        24 => {
+            let (lists, others) = (first.list_count(), second.list_count());
+            (both, format!("their numbers of lists are {lists} and {others}, and must be equal"))
+        }
+        25 => (other, bad_raise(raise, first.least_raise(second), &one)),
+        _ => return Failure::refused(both, refusal),
+    };
+    Failure::Refused { file, refusal, sentence: with_number(&why, refusal) }
+}
+
+/// Why H does not do, and the least that would.
+fn bad_raise(raise: Number<'_>, least: Option<u32>, first: &str) -> String {
+    let Some(least) = least else {
+        return format!(
+            "no H would do: raised above the scenes of {first}, its last scene is over 65535"
+        );
+    };
+    let why = match raise.value < least {
+        true => format!("small: raised by it, its first scene is not above those of {first}"),
+        false => "large: raised by it, its last scene is over 65535".into(),
+    };
+    format!("H {raise} is too {why}; the least H that would do is {least}")
 }
 
 fn write_plan(source: Argument<'_>, plan: &OsStr, out: &mut impl Write) -> Result<(), Failure> {

@@ -2,7 +2,7 @@
 
 /// The page of all commands.
 pub const ALL: &str = "\
-lhz checks, reads, writes and searches the volumes of a surtitle archive.
+lhz checks, reads, writes, joins and searches the volumes of a surtitle archive.
 
   lhz check VOLUME [PLAN]                         check a volume, and a plan
   lhz list VOLUME PLAN                            list the true scenes
@@ -10,6 +10,7 @@ lhz checks, reads, writes and searches the volumes of a surtitle archive.
   lhz read VOLUME [LIST]                          print one list, or all
   lhz test VOLUME PLAN FIGURE SCENE PLACE..       ask whether places pass
   lhz write TEXT VOLUME                           write a volume from a text
+  lhz join FIRST SECOND H VOLUME                  make one volume of two
   lhz plan PLANTEXT PLAN                          write a plan from its text
   lhz plan --line LINE PLAN                       write a plan from a typed line
   lhz show PLAN                                   print a plan as text
@@ -49,6 +50,7 @@ pub fn page(command: &str) -> Option<&'static str> {
         "read" => READ,
         "test" => TEST,
         "write" => WRITE,
+        "join" => JOIN,
         "plan" => PLAN,
         "show" => SHOW,
         _ => return None,
@@ -157,6 +159,22 @@ its line and column, and the old file stays.
   1:5 1:7 2:9   # another word
   $ lhz write lists.txt titles.vol
   lists 3 postings 8 blocks 1
+";
+
+const JOIN: &str = "\
+lhz join FIRST SECOND H VOLUME
+
+Writes one volume of two: each list is FIRST's list, then SECOND's with H added
+to each scene. A search of it lists the scenes of FIRST, then those of SECOND,
+raised by H. The two must have equally many lists, which is checked, and list N
+must belong to one word in both, which is not.
+
+Raised, every scene of SECOND must be above every scene of FIRST, and at most
+65535. Any other H is refused, and the least H that would do is told. VOLUME is
+a file of its own, neither FIRST nor SECOND. On a refusal the old file stays.
+
+  $ lhz join titles.vol titles.vol 2 twice.vol     # scenes 1 2, and then 3 4
+  lists 3 postings 16 blocks 1
 ";
 
 const PLAN: &str = "\

@@ -1,5 +1,5 @@
-//! The command `lhz`: checks, reads, writes and searches the volumes of a surtitle archive from a
-//! terminal, over the proved library. What it prints is in document 01's words.
+//! The command `lhz`: checks, reads, writes, joins and searches the volumes of a surtitle archive
+//! from a terminal, over the proved library. What it prints is in document 01's words.
 
 #![forbid(unsafe_code)]
 
