@@ -2,7 +2,7 @@
 
 use crate::case::Case;
 use crate::support::Rng;
-use crate::{large, lines, package, plans, searches, texts, volumes};
+use crate::{joins, large, lines, package, plans, searches, texts, volumes};
 
 /// A kind of case.
 pub struct Kind {
@@ -14,10 +14,11 @@ pub struct Kind {
 }
 
 /// The kinds of cases. The first one is that of case 0 alone.
-pub static KINDS: [Kind; 11] = [
+pub static KINDS: [Kind; 12] = [
     Kind { name: "bytes changed", weight: 0, run: volumes::bytes_changed },
     Kind { name: "writing", weight: 1200, run: volumes::writing },
     Kind { name: "damage", weight: 2500, run: volumes::damaged },
+    Kind { name: "joins", weight: 300, run: joins::joins },
     Kind { name: "plans", weight: 1500, run: plans::plans },
     Kind { name: "searches", weight: 8000, run: searches::searches },
     Kind { name: "positions", weight: 3000, run: searches::positions },

@@ -21,6 +21,7 @@ mod line_trial;
 
 mod case;
 mod inputs;
+mod joins;
 mod kinds;
 mod large;
 mod lines;

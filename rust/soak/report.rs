@@ -14,11 +14,14 @@ enum Of {
 
 /// The calls by their names in the header, with the numbers that each of them can tell; 0 stands
 /// for an answer that is no refusal. `lhz_pattern_rows` tells none: an empty part counts as the
-/// refusal that it stands for.
-const CALLS: [(&str, Of, &[u32]); 10] = [
+/// refusal that it stands for. `join_of_second` has the joins that were refused for the second
+/// volume.
+const CALLS: [(&str, Of, &[u32]); 12] = [
     ("check_volume", Of::Trial(Call::Check), &[0, 1, 2, 3, 4, 5, 6, 7, 8]),
     ("read_list", Of::Trial(Call::Read), &[0, 1, 2, 3, 4, 5, 6, 7, 8, 16, 17]),
     ("write_volume", Of::Trial(Call::Write), &[0, 5, 7, 18, 19, 20]),
+    ("join_volumes", Of::Trial(Call::Join), &[0, 1, 2, 3, 4, 5, 6, 7, 8, 19, 20, 24, 25]),
+    ("join_of_second", Of::Trial(Call::JoinSecond), &[1, 2, 3, 4, 5, 6, 7, 8]),
     ("check_plan", Of::Trial(Call::Plan), &[0, 1, 2, 3, 4, 5, 6, 7, 8, 9, 10, 11, 12, 13, 14]),
     (
         "pattern_rows",
@@ -121,7 +124,7 @@ impl Counts {
 
         let met = CALLS.map(|(_, of, _)| self.met(of));
         println!("\n{:16}{}", "calls", CALLS.map(|(name, ..)| format!("{name:>15}")).concat());
-        for number in 0..=23 {
+        for number in 0..=25 {
             let cells = met.iter().zip(CALLS).map(|(met, (_, _, can))| match met.get(&number) {
                 Some(times) => format!("{times:>15}"),
                 None if can.contains(&number) => format!("{:>15}", 0),

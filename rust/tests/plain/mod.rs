@@ -1,10 +1,12 @@
 //! A plain reader and writer of volumes, straight from document 01 ("Volume", "Calls" and "Who can
 //! cause which refusal"). It shares nothing with the library or its wrappers: a remainder for each
 //! byte, a look at the whole input for each refusal, sums in 64 bits. `plan` reads plans, `search`
-//! lists documents, `text` reads lists and plans as text, `line` reads and writes typed lines.
+//! lists documents, `join` joins two volumes, `text` reads lists and plans as text, `line` reads
+//! and writes typed lines.
 
 #![allow(dead_code)]
 
+pub mod join;
 pub mod line;
 pub mod plan;
 pub mod search;

@@ -1,5 +1,5 @@
-//! Searches: documents listed, positions tested, and all tuples listed that pass in a document; and
-//! the yardstick of the benchmarks.
+//! Searches: documents listed, in joined volumes too, positions tested, and all tuples listed that
+//! pass in a document; and the yardstick of the benchmarks.
 
 #[path = "../plain/mod.rs"]
 mod plain;
@@ -8,6 +8,7 @@ mod support;
 #[path = "../../benches/yardstick/mod.rs"]
 mod yardstick;
 
+mod join_search;
 mod matches_document;
 mod matches_edges;
 mod matches_pages;

@@ -1,15 +1,16 @@
 //! What the tests share: a seeded generator, lists and damage made with it, plans (in `plans`, and
 //! with their variables in other orders in `orders`), and the comparison of the library with the
 //! plain reader and writer, call by call. `searches` has the same for listing documents and testing
-//! positions, and whole searches; `matches` has it for listing the tuples that pass in a document.
-//! `refused` has volumes and plans that are refused, `files` those of the repository and fresh
-//! folders; `command` runs programs, and `cc` compiles those in C.
+//! positions, and whole searches; `matches` has it for listing the tuples that pass in a document,
+//! `joins` for joining two volumes. `refused` has volumes and plans that are refused, `files` those
+//! of the repository and fresh folders; `command` runs programs, and `cc` compiles those in C.
 
 #![allow(dead_code)]
 
 pub mod cc;
 pub mod command;
 pub mod files;
+pub mod joins;
 pub mod matches;
 pub mod orders;
 pub mod plans;
@@ -353,7 +354,7 @@ fn amid<T: Fill>(elements: &[T]) -> Vec<T> {
 }
 
 /// The public calls. All but `Rows` answer a refusal's number; an empty part of a plan counts as
-/// the refusal that it stands for.
+/// the refusal that it stands for. `JoinSecond` is a join that is refused for its second volume.
 #[derive(Clone, Copy, Debug, PartialEq, Eq, PartialOrd, Ord)]
 pub enum Call {
     Check,
@@ -364,6 +365,8 @@ pub enum Call {
     List,
     Test,
     Matches,
+    Join,
+    JoinSecond,
 }
 
 /// Makes calls of the library and of the plain reader and writer, compares them in the answer and
@@ -556,12 +559,12 @@ pub fn pair(refusal: Refusal) -> Refused {
 /// and so is every element; behind what the answer counts nothing is touched, and on a refusal
 /// nothing at all.
 #[track_caller]
-fn agreed<T: Fill>(
+fn agreed<T: Fill, E: Copy + Debug + PartialEq>(
     case: &str,
-    library: Lent<T, Result<u32, Refused>>,
-    plain: Lent<T, Result<u32, Refused>>,
+    library: Lent<T, Result<u32, E>>,
+    plain: Lent<T, Result<u32, E>>,
     written: impl Fn(u32) -> usize,
-) -> Result<Vec<T>, Refused> {
+) -> Result<Vec<T>, E> {
     assert_eq!(library.answer, plain.answer, "{case}");
     let end = library.answer.map_or(0, &written);
     assert!(

@@ -1,4 +1,5 @@
-//! Volumes: written, read and damaged, and at their limits; and the yardstick of the benchmarks.
+//! Volumes: written, read, damaged and joined, and at their limits; and the yardsticks of the
+//! benchmarks.
 
 #[path = "../plain/mod.rs"]
 mod plain;
@@ -10,7 +11,12 @@ mod yardstick;
 mod damage;
 mod document;
 mod halves;
+mod join;
+mod join_blocks;
+mod join_random;
+mod join_refusals;
 mod late;
 mod limits;
 mod round_trip;
 mod writer;
+mod yardstick_join;
