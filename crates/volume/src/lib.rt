@@ -3,10 +3,11 @@
 // the number and the place of a refusal.
 //
 // None of the four has a `requires`. What each one answers, and what it leaves in a lent buffer, is
-// an equation with a definition of `specs/`. `word_at`, `word_behind`, `posting_at`,
-// `below_in_window`, `below_across`, `count_at`, `list_span` and `list_starts` serve the crates
-// above, on a volume that they have checked; `entry`, `lead` and `extent_of` say where its parts
-// stand. `put_made` stores a block of a volume whose words are made on the way.
+// an equation with a definition of `specs/`. `word_at`, `word_behind`, `word_in_block`,
+// `posting_at`, `below_in_window`, `below_across`, `count_at`, `list_span` and `list_starts` serve
+// the crates above, on a volume that they have checked, and so does `below`; `entry`, `lead` and
+// `extent_of` say where its parts stand. `put_made` stores a block of a volume whose words are made
+// on the way.
 mod answers;
 mod blocks;
 mod checking;
@@ -38,11 +39,13 @@ pub use posting::Posting;
 pub use reading::list_span;
 pub use reading::list_starts;
 pub use reading::read_list;
+pub use stream::below;
 pub use stream::below_across;
 pub use stream::below_in_window;
 pub use stream::count_at;
 pub use stream::posting_at;
 pub use stream::word_at;
 pub use stream::word_behind;
+pub use stream::word_in_block;
 pub use writing::put_made;
 pub use writing::write;

@@ -5,6 +5,7 @@ ghost use Rattle.seq.specs.Numbers.{firstFrom, sumTo};
 ghost use Rattle.volume.specs.Layout.{word, entry, count, streamLength};
 ghost use Rattle.volume.specs.Check.{paddingWrong};
 ghost use Rattle.volume.specs.Inner.Below.{belowOf, belowCount};
+use super::layout::BLOCK_BYTES;
 use super::layout::BLOCK_WORDS;
 use super::layout::entry;
 use super::posting::Posting;
@@ -37,8 +38,17 @@ pub fn word_behind(volume: &[u8], i: usize, k: usize) -> u32
     read32(volume, 4 * i + 8 * (i / BLOCK_WORDS) + 4 + 4 * k)
 }
 
+// Word k of the words of a block.
+pub fn word_in_block(volume: &[u8], block: usize, k: usize) -> u32
+    requires { ⌜ k < 126 ⌝ }
+    requires { ⌜ 126 * block + k < streamLength (now volume) ⌝ }
+    ensures { λ r. ⌜ r ≡ word (now (volume .entry)) (126 * block + k) ⌝ }
+{
+    read32(volume, BLOCK_BYTES * block + 4 * k + 4)
+}
+
 // 1 where x is below y.
-fn below(x: u32, y: u64) -> usize
+pub fn below(x: u32, y: u64) -> usize
     ensures { λ r. ⌜ r ≡ belowOf x y ⌝ }
     ensures { λ r. ⌜ r ≤ 1 ⌝ }
 {

@@ -1,6 +1,7 @@
 -- Where the words of the stream stand, and what stands behind them. No contract cites this file.
 --     offset-in-block, word-in-block    word i of block k
 --     offset-is, word-near              word i by one division, and the words behind it in its block
+--     word-of-block                     word k of a block
 --     word-behind                       behind the last block stand zeros
 -- Assumes nothing.
 use Prim.Native.Nat.{ℕ, _+_, _*_, _/_, _%_, _<_, _≤_}
@@ -27,6 +28,13 @@ offset-is i = omega arith
 pub word-near : (v : List ℕ) (i j : ℕ) → i % 126 + j < 126 → word v (i + j) ≡ le32 v (4 * i + 8 * (i / 126) + 4 + 4 * j)
 unfolding word
 word-near v i j h = let e = offset-is (i + j) in let q : offset (i + j) ≡ 4 * i + 8 * (i / 126) + 4 + 4 * j = omega arith in ap (le32 v) q
+
+pub word-of-block : (v : List ℕ) (block k : ℕ) → k < 126 → word v (126 * block + k) ≡ le32 v (512 * block + 4 * k + 4)
+unfolding word
+word-of-block v block k h =
+    let e = offset-is (126 * block + k) in
+    let q : offset (126 * block + k) ≡ 512 * block + 4 * k + 4 = omega arith in
+    ap (le32 v) q
 
 offset-behind : (n i : ℕ) → 126 * n ≤ i → 512 * n ≤ offset i
 unfolding offset
