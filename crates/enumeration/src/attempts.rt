@@ -71,7 +71,8 @@ fn same_front(a: &[u32], b: &[u32], n: usize) -> bool
 // The least match of a pattern in a document that is in no variable below `lows` and has the first
 // `held` variables at `lows`. The variables are brought there from `marks`, in the order given, and
 // their cursors are left at the match. Whether there is one. As soon as a variable that is held
-// would have to move, there is none.
+// would have to move, there is none. `paras` has for each variable where the start of its paragraph
+// was found last.
 pub fn match_held(
     volume: &[u8],
     plan: &[u32],
@@ -84,6 +85,7 @@ pub fn match_held(
     held: usize,
     here: &mut [usize],
     positions: &mut [u32],
+    paras: &mut [usize],
 ) -> bool
     requires { ⌜ Posed (now volume) (now plan) outline document (now ends) ⌝ }
     requires { ⌜ outline .vars ≤ length (now lows) ⌝ }
@@ -92,6 +94,7 @@ pub fn match_held(
     requires { ⌜ outline .vars ≤ length (now positions) ⌝ }
     requires { ⌜ Marked (now volume) (document .doc) (patternAt (now plan) (outline .pattern)) (now lows) (now marks) ⌝ }
     requires { ⌜ held < outline .vars ⌝ }
+    requires { ⌜ outline .vars ≤ length (now paras) ⌝ }
     requires { ⌜ Order (outline .vars) (now order) ⌝ }
     ensures { λ r. ⌜ HeldMatch (listsOf (now (volume .entry))) (document .doc) (patternAt (now (plan .entry)) (outline .pattern))
         (take (outline .vars) (now (lows .entry))) held r (take (outline .vars) (now (positions .exit))) ⌝ }
@@ -100,6 +103,7 @@ pub fn match_held(
     ensures { λ r. ⌜ (r ≡ true
         → Standing (now (volume .entry)) (document .doc) (patternAt (now (plan .entry)) (outline .pattern)) (now (here .exit))
         (now (positions .exit))) ⌝ }
+    ensures { λ _. ⌜ length (now (paras .exit)) ≡ length (now (paras .entry)) ⌝ }
 {
     if !stand_from(
         volume,
@@ -127,5 +131,6 @@ pub fn match_held(
         ends,
         here,
         positions,
+        paras,
     )
 }

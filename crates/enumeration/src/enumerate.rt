@@ -134,6 +134,7 @@ fn write_matches(
     let mut marks = firsts;
     let mut here: [usize; MOST_PATTERN_VARS] = [0; MOST_PATTERN_VARS];
     let mut positions: [u32; MOST_PATTERN_VARS] = [0; MOST_PATTERN_VARS];
+    let mut paras: [usize; MOST_PATTERN_VARS] = [0; MOST_PATTERN_VARS];
     let mut count: usize = 0;
     while next_match(
         volume,
@@ -147,6 +148,7 @@ fn write_matches(
         &mut marks,
         &mut here,
         &mut positions,
+        &mut paras,
     ) {
         if count == room {
             return with_next(count as u64, &positions, n);

@@ -29,6 +29,7 @@ pub fn next_match(
     marks: &mut [usize],
     here: &mut [usize],
     positions: &mut [u32],
+    paras: &mut [usize],
 ) -> bool
     requires { ⌜ Sought (now volume) (now plan) outline document (now order) (now firsts) (now ends) ⌝ }
     requires { ⌜ outline .vars ≤ length (now lows) ⌝ }
@@ -37,6 +38,7 @@ pub fn next_match(
     requires { ⌜ outline .vars ≤ length (now positions) ⌝ }
     requires { ⌜ Marked (now volume) (document .doc) (patternAt (now plan) (outline .pattern)) (now lows) (now marks) ⌝ }
     requires { ⌜ ((x : ℕ) → x < outline .vars → getD (now lows) x 0 ≤ 65536) ⌝ }
+    requires { ⌜ outline .vars ≤ length (now paras) ⌝ }
     ensures { λ r. ⌜ first (matchesFrom (listsOf (now (volume .entry))) (document .doc) (patternAt (now (plan .entry)) (outline .pattern))
         (take (outline .vars) (now (lows .entry))))
         ≡ givenIf r (take (outline .vars) (now (positions .exit))) ⌝ }
@@ -47,6 +49,7 @@ pub fn next_match(
     ensures { λ r. ⌜ (r ≡ true
         → Standing (now (volume .entry)) (document .doc) (patternAt (now (plan .entry)) (outline .pattern)) (now (here .exit))
         (now (positions .exit))) ⌝ }
+    ensures { λ _. ⌜ length (now (paras .exit)) ≡ length (now (paras .entry)) ⌝ }
 {
     let mut held = outline.vars - 1;
     while !match_held(
@@ -61,6 +64,7 @@ pub fn next_match(
         held,
         here,
         positions,
+        paras,
     ) {
         if held == 0 {
             return false;

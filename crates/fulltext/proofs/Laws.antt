@@ -1,5 +1,6 @@
 -- The laws of `specs/`. No contract cites these files.
 --     Positions    the positions of a document in a list, and membership
+--     Paragraphs   the start of a position's paragraph
 --     Needs        what each predicate says and needs
 --     Least        the first match of a pattern is its least match
 --     Order        the order of tuples
@@ -11,6 +12,7 @@
 --     Docs         the true documents of a stretch, and their rows
 --     Same         what a plan says of a document depends on the positions in it alone
 pub mod Positions
+pub mod Paragraphs
 pub mod Needs
 pub mod Least
 pub mod Order

@@ -1,5 +1,6 @@
 -- The statements that the crate is held to, each a named type. `proofs/Demands.antt` proves each in a line. Assumes nothing.
 --     Demand2        demand 2 for patterns and plans: the tests that compute and the calculus agree
+--     ParaStartIs    what the start of a position's paragraph (02, N8) is
 --     SameparaIs     what SAME TITLE is before a document's first start (02, N3), and behind it
 --     ProximityIs    what APART (02, N2) is beside BEFORE and NEAR, as a phrase, of one variable and the other way round
 --     OrderIs        the order of tuples is strict and total
@@ -20,6 +21,8 @@ use Rattle.plan.specs.Check.{Accepted}
 use Rattle.plan.specs.Accepted.{patternAt}
 use Rattle.plan.specs.Patterns.{Pattern}
 use Rattle.fulltext.specs.Calculus.{at, In, True, openFormula, patternFormula, planFormula}
+use Rattle.fulltext.specs.Positions.{limit}
+use Rattle.fulltext.specs.Paragraphs.{paraStart}
 use Rattle.fulltext.specs.Matches.{holds, matchesAt, matchesIn, leastIn}
 use Rattle.fulltext.specs.Order.{precedes, matchesFrom}
 use Rattle.fulltext.specs.Documents.{found, matching}
@@ -40,6 +43,19 @@ pub record Agrees (v p : List ℕ) : Type 0 where
 unfoldable pub Demand2 : Type 0
 Demand2 = (v p : List ℕ) → Accepted v p → Agrees v p
 
+-- the start of the paragraph of any position p, among any starts
+pub record ParaStarts (starts : List ℕ) (p : ℕ) : Type 0 where
+  -- where p stands before every start it is 65,536
+  pub none : ((s : ℕ) → In s starts → p < s) → paraStart starts p ≡ limit
+  -- else it is a start, it is not above p, and no start that is not above p is greater
+  pub greatest : (s : ℕ) → In s starts → s ≤ p
+      → In (paraStart starts p) starts × ((paraStart starts p ≤ p) × (s ≤ paraStart starts p))
+  -- where starts are positions, it is 65,536 in no other case
+  pub other : ((s : ℕ) → In s starts → s < limit) → paraStart starts p ≡ limit → (s : ℕ) → In s starts → p < s
+
+unfoldable pub ParaStartIs : Type 0
+ParaStartIs = (starts : List ℕ) (p : ℕ) → ParaStarts starts p
+
 -- SAME TITLE of variables a and b, of any positions, in a document with any starts
 pub record Sameparas (starts ps : List ℕ) (a b : ℕ) : Type 0 where
   -- it is false if either stands before every start
@@ -53,6 +69,10 @@ pub record Sameparas (starts ps : List ℕ) (a b : ℕ) : Type 0 where
   pub begun : (s : ℕ) → In s starts → s ≤ at ps a → s ≤ at ps b
       → (holds starts (Samepara a b) ps ≡ true)
       ↔ ((t : ℕ) → In t starts → min (at ps a) (at ps b) < t → t ≤ max (at ps a) (at ps b) → ⊥)
+  -- where starts are positions, it is told by the two starts of a row: they are the same, and not 65,536
+  pub byStarts : ((s : ℕ) → In s starts → s < limit)
+      → (holds starts (Samepara a b) ps ≡ true)
+      ↔ ((paraStart starts (at ps a) ≢ limit) × (paraStart starts (at ps a) ≡ paraStart starts (at ps b)))
   -- whichever is named first; and where it holds of a and b and of b and c, it holds of a and c
   pub turned : holds starts (Samepara a b) ps ≡ holds starts (Samepara b a) ps
   pub onward : (c : ℕ)

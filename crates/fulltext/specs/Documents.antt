@@ -1,7 +1,7 @@
 -- What a plan says of each document of a volume's lists: whether it is true, and its row. Assumes nothing.
-use Prim.Native.Nat.{ℕ, _-_}
+use Prim.Native.Nat.{ℕ, _-_, _*_}
 use mathlib.Core.Bool.{Bool, true, false}
-use mathlib.Core.List.{List, _∷_, map}
+use mathlib.Core.List.{List, [], _∷_, map}
 use mathlib.Core.Option.{Option, none, some}
 use lib.ListN.{length, replicate}
 use Rattle.seq.specs.Lists.{keep, total, joined}
@@ -12,7 +12,8 @@ use Rattle.plan.specs.Rows.{rowsOf}
 use Rattle.plan.specs.declared.row.Row.{Row}
 use Rattle.plan.specs.Patterns.{Pattern, patternsOf, varsOf, answer}
 use Rattle.fulltext.specs.Positions.{listOf, countIn}
-use Rattle.fulltext.specs.Matches.{leastIn}
+use Rattle.fulltext.specs.Paragraphs.{paraStart}
+use Rattle.fulltext.specs.Matches.{startsIn, leastIn}
 
 -- there is something
 abbrev pub present : {A : Type 0} → Option A → Bool
@@ -29,17 +30,25 @@ unfoldable pub matching : List (List ℕ) → List Row → ℕ → Bool
 unfolding found answer
 matching lists rows d = answer (found lists d) rows
 
--- 1 and the least match of a pattern of n variables, or 0 and zeros
-abbrev pub shown : ℕ → Option (List ℕ) → List ℕ
-shown n none = 0 ∷ replicate n 0
-shown n (some ps) = 1 ∷ ps
+-- a position, and the start of its paragraph behind it (02, N8); so for each of several
+abbrev pub pairOf : List ℕ → ℕ → List ℕ
+pairOf starts p = p ∷ (paraStart starts p ∷ [])
+
+unfoldable pub withStarts : List ℕ → List ℕ → List ℕ
+unfolding paraStart joined
+withStarts starts ps = joined (map (pairOf starts) ps)
+
+-- 1 and the least match of a pattern of n variables with its starts, or 0 and zeros
+abbrev pub shown : List ℕ → ℕ → Option (List ℕ) → List ℕ
+shown starts n none = 0 ∷ replicate (2 * n) 0
+shown starts n (some ps) = 1 ∷ withStarts starts ps
 
 abbrev pub shownIn : List (List ℕ) → ℕ → Pattern → List ℕ
-shownIn lists d f = shown (length (f .vars)) (leastIn lists d f)
+shownIn lists d f = shown (startsIn lists d) (length (f .vars)) (leastIn lists d f)
 
 -- the row of document d: the document, then each pattern
 unfoldable pub rowIn : List (List ℕ) → List Row → ℕ → List ℕ
-unfolding leastIn joined
+unfolding leastIn withStarts joined
 rowIn lists rows d = d ∷ joined (map (shownIn lists d) (patternsOf rows))
 
 -- the postings of all variables from document a up to document b, b not counted

@@ -1,46 +1,23 @@
 -- A pattern in one document: its predicates as tests, the tuples of positions that match, and the least of them.
 -- Assumes nothing.
-use Prim.Native.Nat.{ℕ, _+_, _-_, min, max, _≤_}
+use Prim.Native.Nat.{ℕ, _+_, _-_, _≤_}
 use mathlib.Core.Path.{_≡_}
-use mathlib.Core.Bool.{Bool, true, false, not, _&&_, _||_}
+use mathlib.Core.Bool.{Bool, true, false, _&&_, _||_}
 use mathlib.Core.List.{List, [], _∷_, _++_, map}
 use mathlib.Core.Option.{Option}
 use lib.Dec.{eqb, leb, ltb}
-use Rattle.seq.specs.Lists.{keep, all, any, elem, first}
+use Rattle.seq.specs.Lists.{keep, all, elem, first}
 use Rattle.plan.specs.declared.row.Predicate.{Predicate}
 use Rattle.plan.specs.declared.row.Predicate.the-variants.{Distance, Ordered, Samepara, Window, Proximity}
 use Rattle.plan.specs.Limits.{noUpperEnd}
 use Rattle.plan.specs.Patterns.{Pattern}
-use Rattle.fulltext.specs.Positions.{listOf, positionsIn}
+use Rattle.fulltext.specs.Positions.{listOf, positionsIn, largest, smallest}
 use Rattle.fulltext.specs.Calculus.{at}
+use Rattle.fulltext.specs.Paragraphs.{together}
 
 -- by how much two positions differ
 abbrev pub difference : ℕ → ℕ → ℕ
 difference p q = (p - q) + (q - p)
-
-abbrev pub largest : List ℕ → ℕ
-largest [] = 0
-largest (p ∷ ps) = max p (largest ps)
-
-abbrev pub smallestOf : ℕ → List ℕ → ℕ
-smallestOf p [] = p
-smallestOf p (q ∷ qs) = min p (smallestOf q qs)
-
-abbrev pub smallest : List ℕ → ℕ
-smallest [] = 0
-smallest (p ∷ ps) = smallestOf p ps
-
--- a start s separates two positions: smaller < s ≤ larger
-abbrev pub separates : ℕ → ℕ → ℕ → Bool
-separates p q s = ltb (min p q) s && leb s (max p q)
-
--- a position stands in a paragraph: some start is not above it
-abbrev pub inPara : List ℕ → ℕ → Bool
-inPara starts p = any (λ s. leb s p) starts
-
--- two positions stand in one paragraph: both stand in a paragraph, and no start separates them
-abbrev pub together : List ℕ → ℕ → ℕ → Bool
-together starts p q = (inPara starts p && inPara starts q) && all (λ s. not (separates p q s)) starts
 
 -- a number is between least and most, both counted in; a most of 65,535 sets no upper end
 abbrev pub within : ℕ → ℕ → ℕ → Bool
@@ -48,7 +25,7 @@ within least most n = leb least n && (eqb most noUpperEnd || leb n most)
 
 -- a predicate (01: condition) holds of the variables' positions, in a document with these starts
 unfoldable pub holds : List ℕ → Predicate → List ℕ → Bool
-unfolding any all
+unfolding together
 holds starts (Distance a b c) ps = leb (difference (at ps a) (at ps b)) (c + 1)
 holds starts (Ordered a b) ps = ltb (at ps a) (at ps b)
 holds starts (Samepara a b) ps = together starts (at ps a) (at ps b)

@@ -55,7 +55,7 @@ Typed = (v s : List ℕ) (room : ℕ)
     → flatPlan (verdict v (wordsOfLine s)) .refusal ≡ 0
     → TypedSearch v s
 
--- every two volumes that `lhz_join_volumes` joins, in some buffer, with refusal 0, and every plan: the blocks written are an evening of both
+-- every two volumes that `lhz_join_volumes` joins, in some buffer, with refusal 0, and every plan: the blocks written are both's evening
 unfoldable pub DoubleBill : Type 0
 DoubleBill = (h : ℕ) (v w out : List ℕ) → IsBytes v → IsBytes w
     → flatJoin (joinAnswer h v w (length out)) .refusal ≡ 0

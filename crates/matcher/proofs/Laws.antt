@@ -1,8 +1,9 @@
 -- The laws of `specs/`. No contract cites these files.
 --     Volume        the lists of an accepted volume as stretches of its stream
 --     Cursors       where cursors stand, and how they move
---     Paragraphs    the start of a position's paragraph, the first start, and the start that SAME TITLE needs
---     Starts        the first two, by a cursor on list 0
+--     Blocks        the words of a block, and a search among them
+--     Paragraphs    the first start of a document, and the start that SAME TITLE needs
+--     Starts        the start of a position's paragraph and the first start, by a cursor on list 0
 --     Shortfall     what each predicate tells of the positions
 --     Placed        the list of each variable of a plan, and a cursor for each
 --     Rarest        the order of a pattern's variables, rarest first
@@ -16,6 +17,7 @@
 --     Answers       an answer is known from its number and values
 pub mod Volume
 pub mod Cursors
+pub mod Blocks
 pub mod Paragraphs
 pub mod Starts
 pub mod Shortfall

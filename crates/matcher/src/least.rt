@@ -67,8 +67,8 @@ fn next_turn(i: usize, n: usize) -> usize
 // is not in front of them. Its predicates are tried in turn, until all of them hold one behind the
 // other: each time one fails, the variable that it leaves short jumps to the first position that it
 // needs at least. The first `held` variables must stay where they stand. `ends` has the ends of the
-// pattern's lists, and `order` its variables, each once. Whether there is such a match; then the
-// cursors stand at it.
+// pattern's lists, and `order` its variables, each once. `paras` has for each variable where the
+// start of its paragraph was found last. Whether there is such a match; then the cursors stand at it.
 pub fn match_from(
     volume: &[u8],
     plan: &[u32],
@@ -79,6 +79,7 @@ pub fn match_from(
     ends: &[usize],
     here: &mut [usize],
     positions: &mut [u32],
+    paras: &mut [usize],
 ) -> bool
     requires { ⌜ Posed (now volume) (now plan) outline document (now ends) ⌝ }
     requires { ⌜ Order (outline .vars) (now order) ⌝ }
@@ -86,12 +87,14 @@ pub fn match_from(
     requires { ⌜ outline .vars ≤ length (now positions) ⌝ }
     requires { ⌜ Standing (now volume) (document .doc) (patternAt (now plan) (outline .pattern)) (now here) (now positions) ⌝ }
     requires { ⌜ held ≤ outline .vars ⌝ }
+    requires { ⌜ outline .vars ≤ length (now paras) ⌝ }
     ensures { λ r. ⌜ HeldMatch (listsOf (now (volume .entry))) (document .doc) (patternAt (now (plan .entry)) (outline .pattern))
         (take (outline .vars) (now (positions .entry))) held r (take (outline .vars) (now (positions .exit))) ⌝ }
     ensures { λ _. ⌜ Standing (now (volume .entry)) (document .doc) (patternAt (now (plan .entry)) (outline .pattern)) (now (here .exit))
         (now (positions .exit)) ⌝ }
     ensures { λ _. ⌜ Within (outline .vars) (now (here .entry)) (now (here .exit)) ⌝ }
     ensures { λ _. ⌜ Within (outline .vars) (now (positions .entry)) (now (positions .exit)) ⌝ }
+    ensures { λ _. ⌜ length (now (paras .exit)) ≡ length (now (paras .entry)) ⌝ }
 {
     let n = outline.vars;
     let count = outline.last - outline.condition;
@@ -100,7 +103,16 @@ pub fn match_from(
     let mut left = count;
     while 0 < left {
         let predicate = predicate_at(plan, outline.condition + turn);
-        let told = falls_short(volume, document, predicate, order, positions, n, largest);
+        let told = falls_short(
+            volume,
+            document,
+            predicate,
+            order,
+            positions,
+            n,
+            largest,
+            paras,
+        );
         match told {
             Shortfall::Holds => {
                 left -= 1;

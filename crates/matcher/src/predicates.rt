@@ -2,7 +2,7 @@
 ghost use mathlib.Core.Path.{_≡_};
 ghost use mathlib.Core.Bool.{true};
 ghost use mathlib.Core.List.{List};
-ghost use Prim.Native.Nat.{ℕ, _+_, _*_, _<_, _≤_, min, max};
+ghost use Prim.Native.Nat.{ℕ, _<_, _≤_, min, max};
 ghost use lib.ListN.{length, getD, take};
 ghost use Rattle.volume.specs.Check.{Accepted};
 ghost use Rattle.volume.specs.Layout.{listsOf};
@@ -11,11 +11,12 @@ ghost use Rattle.plan.specs.Rows.{InRange};
 ghost use Rattle.plan.specs.declared.row.Predicate.the-variants.{Distance, Ordered, Samepara, Window, Proximity};
 ghost use Rattle.plan.specs.declared.row.Kind.the-variants as kind;
 ghost use Rattle.fulltext.specs.Matches.{startsIn};
-ghost use Rattle.fulltext.specs.Inner.Paragraphs.{paraStart, neededStart};
 ghost use Rattle.matcher.specs.Inner.Shortfall.{InDocument, Largest, Told};
 ghost use Rattle.matcher.specs.Inner.Order.{Order};
-ghost use Rattle.matcher.specs.Inner.Cursors.{seekFrom, AtDocument};
+ghost use Rattle.matcher.specs.Inner.Cursors.{AtDocument};
 use super::cursor::Document;
+use super::paragraphs::needed_start;
+use super::paragraphs::para_of;
 use plan::Predicate;
 use volume::Posting;
 
@@ -24,55 +25,6 @@ use volume::Posting;
 pub enum Shortfall {
     Holds,
     Short(usize, u32),
-}
-
-// The start of the paragraph of a position, by the index from which the starts behind it are: the
-// start in front of that index, if it is in the document; 65,536 where there is none.
-fn para_start(volume: &[u8], document: Document, at: usize) -> u32
-    requires { ⌜ Accepted (now volume) ⌝ }
-    requires { ⌜ AtDocument (now volume) document ⌝ }
-    requires { ⌜ document .starts .at ≤ at ⌝ }
-    requires { ⌜ at ≤ document .starts .end ⌝ }
-    ensures { λ r. ⌜ ((pos : ℕ) → pos ≤ 65535
-        → at ≡ seekFrom (now (volume .entry)) (document .doc * 65536 + pos + 1) (document .starts .at) (document .starts .end)
-        → r ≡ paraStart (startsIn (listsOf (now (volume .entry))) (document .doc)) pos) ⌝ }
-{
-    let starts = document.starts;
-    if at == starts.at {
-        return Posting::POSITIONS;
-    }
-    let last = volume::posting_at(volume, at - 1);
-    if last.doc() != document.doc {
-        return Posting::POSITIONS;
-    }
-    last.pos()
-}
-
-// The start that a position needs at least to stand in one paragraph with `pos`, which is not
-// smaller: that of the paragraph of `pos`; where `pos` stands in none, the first start in the
-// document, which is then behind `pos`; 65,536 where there is none.
-fn needed_start(volume: &[u8], document: Document, pos: u32) -> u32
-    requires { ⌜ Accepted (now volume) ⌝ }
-    requires { ⌜ AtDocument (now volume) document ⌝ }
-    requires { ⌜ pos ≤ 65535 ⌝ }
-    ensures { λ r. ⌜ r ≡ neededStart (startsIn (listsOf (now (volume .entry))) (document .doc)) pos ⌝ }
-{
-    let doc = document.doc;
-    let starts = document.starts;
-    let next = starts.advance_past(volume, doc, pos);
-    let at = next.at;
-    let start = para_start(volume, document, at);
-    if start != Posting::POSITIONS {
-        return start;
-    }
-    if at == starts.end {
-        return Posting::POSITIONS;
-    }
-    let first = volume::posting_at(volume, at);
-    if first.doc() != doc {
-        return Posting::POSITIONS;
-    }
-    first.pos()
 }
 
 // The later of two positions.
@@ -123,20 +75,36 @@ fn ordered(positions: &[u32], a: usize, b: usize) -> Shortfall
     Shortfall::Short(b, first + 1)
 }
 
-// SAME TITLE: whether a and b stand in one paragraph; if not, the earlier one is left short, or b
-// where both stand at one position. Before the document's first start no position stands in a
-// paragraph, so that it can fail also at one position, and where a is b.
-fn samepara(volume: &[u8], document: Document, positions: &[u32], a: usize, b: usize) -> Shortfall
+// SAME TITLE: whether a and b stand in one paragraph: both have a start, and it is the same. It is
+// that of the later one, where that is not above the earlier one. If not, the earlier one is left
+// short, or b where both stand at one position. Before the document's first start no position stands
+// in a paragraph, so that it can fail also at one position, and where a is b. `paras` has for each
+// variable where its start was found last.
+fn samepara(
+    volume: &[u8],
+    document: Document,
+    positions: &[u32],
+    a: usize,
+    b: usize,
+    paras: &mut [usize],
+) -> Shortfall
     requires { ⌜ Accepted (now volume) ⌝ }
     requires { ⌜ AtDocument (now volume) document ⌝ }
     requires { ⌜ InDocument (now positions) ⌝ }
     requires { ⌜ a < length (now positions) ⌝ }
     requires { ⌜ b < length (now positions) ⌝ }
+    requires { ⌜ length (now positions) ≤ length (now paras) ⌝ }
     ensures { λ r. ⌜ Told (startsIn (listsOf (now (volume .entry))) (document .doc)) (Samepara a b) (now (positions .entry)) r ⌝ }
+    ensures { λ _. ⌜ length (now (paras .exit)) ≡ length (now (paras .entry)) ⌝ }
 {
     let first = positions[a];
     let second = positions[b];
-    let start = needed_start(volume, document, later(first, second));
+    let last = if first < second { b } else { a };
+    let other = if first < second { a } else { b };
+    let pos = later(first, second);
+    let para = para_of(volume, document, pos, paras[last], paras[other]);
+    paras[last] = para.at;
+    let start = needed_start(volume, document, para);
     if start <= earlier(first, second) {
         return Shortfall::Holds;
     }
@@ -213,7 +181,8 @@ pub fn largest_of(positions: &[u32], n: usize) -> u32
 }
 
 // Whether a predicate holds of the first n positions, of which `largest` is the largest; if not, a
-// variable that it leaves short. Where it looks at each variable, it does so in the order.
+// variable that it leaves short. Where it looks at each variable, it does so in the order. `paras`
+// has for each variable where the start of its paragraph was found last.
 pub fn falls_short(
     volume: &[u8],
     document: Document,
@@ -222,6 +191,7 @@ pub fn falls_short(
     positions: &[u32],
     n: usize,
     largest: u32,
+    paras: &mut [usize],
 ) -> Shortfall
     requires { ⌜ Accepted (now volume) ⌝ }
     requires { ⌜ AtDocument (now volume) document ⌝ }
@@ -232,13 +202,17 @@ pub fn falls_short(
     requires { ⌜ InRange (kind.Condition predicate) ⌝ }
     requires { ⌜ Order n (now order) ⌝ }
     requires { ⌜ Largest (now positions) n largest ⌝ }
+    requires { ⌜ n ≤ length (now paras) ⌝ }
     ensures { λ r. ⌜ Told (startsIn (listsOf (now (volume .entry))) (document .doc)) predicate (take n (now (positions .entry))) r ⌝ }
+    ensures { λ _. ⌜ length (now (paras .exit)) ≡ length (now (paras .entry)) ⌝ }
 {
     let tuple = &positions[..n];
     match predicate {
         Predicate::Distance { a, b, limit } => distance(tuple, a as usize, b as usize, limit),
         Predicate::Ordered { a, b } => ordered(tuple, a as usize, b as usize),
-        Predicate::Samepara { a, b } => samepara(volume, document, tuple, a as usize, b as usize),
+        Predicate::Samepara { a, b } => {
+            samepara(volume, document, tuple, a as usize, b as usize, paras)
+        }
         Predicate::Window { limit } => window(tuple, order, largest, limit),
         Predicate::Proximity { a, b, least, most } => {
             proximity(tuple, a as usize, b as usize, least, most)

@@ -118,6 +118,7 @@ fn is_match(volume: &[u8], plan: &[u32], outline: Outline, doc: u32, positions: 
     rarest_first(volume, plan, outline, &mut order);
     let mut moved: [u32; MOST_PATTERN_VARS] = [0; MOST_PATTERN_VARS];
     put_row(positions, n, &mut moved, 0);
+    let mut paras: [usize; MOST_PATTERN_VARS] = [0; MOST_PATTERN_VARS];
     let starts = starts_of(volume);
     let document = Document { doc, starts };
     match_from(
@@ -130,6 +131,7 @@ fn is_match(volume: &[u8], plan: &[u32], outline: Outline, doc: u32, positions: 
         &ends,
         &mut here,
         &mut moved,
+        &mut paras,
     )
 }
 

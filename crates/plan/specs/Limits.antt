@@ -33,10 +33,10 @@ mostPatternVars = 8
 abbrev pub mostVars : ℕ
 mostVars = 51
 
--- the words of a row of a listing: the document, a flag for each pattern, a position for each variable
+-- the words of a row of a listing: the document, a flag for each pattern, a position and a start for each variable (02, N8)
 abbrev pub rowWords : ℕ → ℕ → ℕ
-rowWords patterns vars = 1 + patterns + vars
+rowWords patterns vars = 1 + patterns + 2 * vars
 
--- the most of them
+-- the most of them: those of 7 patterns with 51 variables
 abbrev pub mostRowWords : ℕ
-mostRowWords = 59
+mostRowWords = 110

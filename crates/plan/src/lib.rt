@@ -3,9 +3,9 @@
 // `code_of` gives the number and the place of a refusal.
 //
 // None of the three has a `requires`, nor has `pattern_span`. What each one answers is an equation
-// with a definition of `specs/`. `row_at`, `list_at`, `predicate_at`, `has_samepara`, `lay_out`,
-// `outline_at` and `answer_of` serve the crates above, on a plan that they have checked, and so does
-// `is_voice`, on any row.
+// with a definition of `specs/`. `row_at`, `list_at`, `predicate_at`, `lay_out`, `outline_at` and
+// `answer_of` serve the crates above, on a plan that they have checked, and so does `is_voice`, on
+// any row.
 mod answers;
 mod checking;
 mod codes;
@@ -33,7 +33,6 @@ pub use limits::row_words;
 pub use outline::Outline;
 pub use outline::lay_out;
 pub use outline::outline_at;
-pub use reading::has_samepara;
 pub use reading::is_voice;
 pub use reading::list_at;
 pub use reading::predicate_at;

@@ -21,10 +21,10 @@ pub const MOST_PATTERN_VARS: usize = 8;
 // them, which leaves 51 of 64 rows.
 pub const MOST_VARS: usize = 51;
 
-// The words of a row of a listing: the document, a flag for each pattern, a position for each
-// variable.
+// The words of a row of a listing: the document, a flag for each pattern, a position and a start for
+// each variable.
 pub fn row_words(patterns: u32, vars: u32) -> usize
     ensures { λ r. ⌜ r ≡ rowWords patterns vars ⌝ }
 {
-    1 + patterns as usize + vars as usize
+    1 + patterns as usize + 2 * vars as usize
 }

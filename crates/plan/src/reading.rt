@@ -8,7 +8,7 @@ ghost use Rattle.plan.specs.declared.row.Kind.the-variants as kind;
 ghost use Rattle.plan.specs.Rows.{rowCount, rowAt, formWrongAt, isVoice, isEnd};
 ghost use Rattle.plan.specs.Check.{Accepted};
 ghost use Rattle.plan.specs.Parts.{firstOf};
-ghost use Rattle.plan.specs.Inner.Reading.{isSamepara, isOf, hasSamepara};
+ghost use Rattle.plan.specs.Inner.Reading.{isOf};
 use super::row::Kind;
 use super::row::Predicate;
 use super::row::row_at;
@@ -19,8 +19,6 @@ pub enum Sort {
     // Any row but a VOICE.
     Other,
     End,
-    // SAME TITLE.
-    Samepara,
 }
 
 // Whether a row adds a variable.
@@ -46,32 +44,6 @@ fn is_end(kind: Kind) -> bool
     }
 }
 
-fn is_samepara(kind: Kind) -> bool
-    ensures { λ r. ⌜ r ≡ isSamepara kind ⌝ }
-{
-    match kind {
-        Kind::Voice(_) => false,
-        Kind::Condition(predicate) => match predicate {
-            Predicate::Distance {
-                a: _,
-                b: _,
-                limit: _,
-            } => false,
-            Predicate::Ordered { a: _, b: _ } => false,
-            Predicate::Samepara { a: _, b: _ } => true,
-            Predicate::Window { limit: _ } => false,
-            Predicate::Proximity {
-                a: _,
-                b: _,
-                least: _,
-                most: _,
-            } => false,
-        },
-        Kind::End => false,
-        Kind::Operator(_) => false,
-    }
-}
-
 // Whether a row is of a sort, by its kind.
 fn is_of(sort: Sort, kind: Kind) -> bool
     ensures { λ r. ⌜ r ≡ isOf sort kind ⌝ }
@@ -80,7 +52,6 @@ fn is_of(sort: Sort, kind: Kind) -> bool
         Sort::Voice => is_voice(kind),
         Sort::Other => !is_voice(kind),
         Sort::End => is_end(kind),
-        Sort::Samepara => is_samepara(kind),
     }
 }
 
@@ -135,12 +106,4 @@ pub fn predicate_at(plan: &[u32], row: usize) -> Predicate
         Kind::End => Predicate::Window { limit: 1 },
         Kind::Operator(_) => Predicate::Window { limit: 1 },
     }
-}
-
-// Whether a plan has a SAME TITLE row.
-pub fn has_samepara(plan: &[u32]) -> bool
-    requires { ⌜ ((v : List ℕ) × Accepted v (now plan)) ⌝ }
-    ensures { λ r. ⌜ r ≡ hasSamepara (now (plan .entry)) ⌝ }
-{
-    first_of(plan, Sort::Samepara, 0) < plan.len() / 4
 }

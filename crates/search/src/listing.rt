@@ -18,15 +18,17 @@ use super::setup::set_orders;
 use super::walk::Walk;
 use super::walk::visit;
 use matcher::Cursor;
+use matcher::Document;
+use matcher::blocks_of;
 use matcher::starts_of;
 use plan::Checked;
 use plan::MOST_FOUND_SETS;
 use plan::MOST_PATTERNS;
 use plan::MOST_VARS;
 use plan::answer_of;
-use plan::has_samepara;
 use plan::lay_out;
 use plan::row_words;
+use volume::BLOCK_WORDS;
 use volume::Posting;
 
 // How many postings the lists of all variables have from document `start` up to document `doc`, doc
@@ -82,8 +84,11 @@ fn list_docs(
     let patterns = table.len() / 4;
     let width = row_words(patterns as u32, firsts.len() as u32);
     let room = out.len() / width;
-    let paras = has_samepara(plan);
-    let mut starts = starts_of(volume);
+    let list = starts_of(volume);
+    let starts = list.seek(volume, start);
+    let blocks = blocks_of(starts);
+    let mut block = starts.at / BLOCK_WORDS;
+    let mut paras: [usize; MOST_VARS] = [0; MOST_VARS];
     let mut docs: [u32; MOST_PATTERNS] = [0; MOST_PATTERNS];
     let mut known: [u8; MOST_FOUND_SETS] = [0; MOST_FOUND_SETS];
     let mut rows: usize = 0;
@@ -93,7 +98,6 @@ fn list_docs(
             from,
             fresh: from == start,
             starts,
-            paras,
         };
         let seen = visit(
             volume,
@@ -105,6 +109,7 @@ fn list_docs(
             ends,
             positions,
             &mut docs[..patterns],
+            &mut paras,
         );
         let doc = seen.doc;
         if doc == Posting::DOCS {
@@ -112,7 +117,6 @@ fn list_docs(
             return Listed::Done(rows as u32, passed);
         }
         from = doc + 1;
-        starts = seen.starts;
         if !answer_of(plan, seen.found, &mut known) {
             continue;
         }
@@ -120,10 +124,14 @@ fn list_docs(
             let passed = tally(volume, plan, start, doc, firsts, ends);
             return Listed::More(doc, rows as u32, passed);
         }
-        write_row(
+        let document = Document { doc, starts };
+        block = write_row(
+            volume,
+            document,
+            blocks,
+            block,
             table,
             patterns,
-            doc,
             seen.found,
             positions,
             out,

@@ -4,7 +4,7 @@ ghost use mathlib.Core.Path.{_≡_};
 ghost use Prim.Native.Nat.{ℕ, _<_, _≤_};
 ghost use lib.ListN.{length, getD};
 ghost use Rattle.plan.specs.Check.{sizes};
-ghost use Rattle.matcher.specs.Inner.Cursors.{Stretch, listEnd, Stands, AtDocument};
+ghost use Rattle.matcher.specs.Inner.Cursors.{AtDocument};
 ghost use Rattle.search.specs.Inner.Walk.{Candidate, Pending, Brought, LeastDoc, Walks, Ready, Settled, SettledAll};
 ghost use Rattle.search.specs.Inner.Walk.{Walking, Visited};
 use super::align::align;
@@ -15,21 +15,18 @@ use plan::Outline;
 use plan::outline_at;
 use volume::Posting;
 
-// Where a walk goes on: the document from which on, whether no pattern has a document yet, a cursor
-// on list 0 that has not passed it, and whether that cursor is asked for.
+// Where a walk goes on: the document from which on, whether no pattern has a document yet, and a
+// cursor on list 0 that has not passed it.
 pub struct Walk {
     pub from: u32,
     pub fresh: bool,
     pub starts: Cursor,
-    pub paras: bool,
 }
 
-// A document, a bit for each pattern, 1 where it is found there, pattern 0 the lowest, and a cursor
-// on list 0 that has not passed it.
+// A document, and a bit for each pattern, 1 where it is found there, pattern 0 the lowest.
 pub struct Seen {
     pub doc: u32,
     pub found: u32,
-    pub starts: Cursor,
 }
 
 // Brings each pattern that has no document yet, or one before `doc`, to the first document from `doc`
@@ -97,20 +94,6 @@ fn least_of(docs: &[u32]) -> u32
     least
 }
 
-// A cursor on list 0 that has not passed a document, brought there if it is needed.
-fn bring_starts(volume: &[u8], starts: Cursor, needed: bool, doc: u32) -> Cursor
-    requires { ⌜ Stands (now volume) 0 doc (starts .at) ⌝ }
-    requires { ⌜ starts .end ≡ listEnd (now volume) 0 ⌝ }
-    requires { ⌜ Stretch (now volume) (starts .at) (starts .end) ⌝ }
-    ensures { λ r. ⌜ Stands (now (volume .entry)) 0 doc (r .at) ⌝ }
-    ensures { λ r. ⌜ r .end ≡ listEnd (now (volume .entry)) 0 ⌝ }
-{
-    if !needed {
-        return starts;
-    }
-    starts.seek(volume, doc)
-}
-
 // Brings a pattern that stands in a document to its least match there. Whether there is one. A
 // pattern without predicates is found where it stands.
 fn settle(
@@ -122,10 +105,13 @@ fn settle(
     ends: &[usize],
     ats: &mut [usize],
     positions: &mut [u32],
+    paras: &mut [usize],
 ) -> bool
     requires { ⌜ Ready (now volume) (now plan) outline document (now orders) (now ends) (now ats) (now positions) ⌝ }
+    requires { ⌜ sizes (now plan) .vars ≤ length (now paras) ⌝ }
     ensures { λ r. ⌜ Settled (now (volume .entry)) (now (plan .entry)) (now (ends .entry)) (outline .pattern) (document .doc)
         (now (ats .entry)) (now (positions .entry)) r (now (ats .exit)) (now (positions .exit)) ⌝ }
+    ensures { λ _. ⌜ length (now (paras .exit)) ≡ length (now (paras .entry)) ⌝ }
 {
     if outline.condition == outline.last {
         return true;
@@ -141,6 +127,7 @@ fn settle(
         &ends[first..],
         &mut ats[first..],
         &mut positions[first..],
+        &mut paras[first..],
     )
 }
 
@@ -157,6 +144,7 @@ fn settle_all(
     ats: &mut [usize],
     positions: &mut [u32],
     docs: &[u32],
+    paras: &mut [usize],
 ) -> u32
     requires { ⌜ Walks (now volume) (now plan) (now table) (now orders) (now ends) ⌝ }
     requires { ⌜ AtDocument (now volume) document ⌝ }
@@ -165,8 +153,10 @@ fn settle_all(
     requires { ⌜ sizes (now plan) .vars ≤ length (now positions) ⌝ }
     requires { ⌜ ((k : ℕ) → k < sizes (now plan) .patterns
         → Candidate (now volume) (now plan) (now ats) (now ends) (now positions) k (document .doc) (getD (now docs) k 0)) ⌝ }
+    requires { ⌜ sizes (now plan) .vars ≤ length (now paras) ⌝ }
     ensures { λ r. ⌜ SettledAll (now (volume .entry)) (now (plan .entry)) (now (ends .entry)) (now (docs .entry)) (document .doc)
         (now (ats .entry)) (now (positions .entry)) r (now (ats .exit)) (now (positions .exit)) ⌝ }
+    ensures { λ _. ⌜ length (now (paras .exit)) ≡ length (now (paras .entry)) ⌝ }
 {
     let mut bits: u32 = 0;
     let mut weight: u32 = 1;
@@ -183,6 +173,7 @@ fn settle_all(
                 ends,
                 ats,
                 positions,
+                paras,
             ) {
                 bits += weight;
             }
@@ -194,7 +185,8 @@ fn settle_all(
 }
 
 // The next document in which a pattern can be found, 65,536 where there is none: which patterns are
-// found there, and the positions of each one that is.
+// found there, and the positions of each one that is. `paras` has for each variable where the start
+// of its paragraph was found last.
 pub fn visit(
     volume: &[u8],
     plan: &[u32],
@@ -205,12 +197,15 @@ pub fn visit(
     ends: &[usize],
     positions: &mut [u32],
     docs: &mut [u32],
+    paras: &mut [usize],
 ) -> Seen
     requires { ⌜ Walks (now volume) (now plan) (now table) (now orders) (now ends) ⌝ }
     requires { ⌜ Walking (now volume) (now plan) (now ends) (now ats) (now positions) (now docs) (walk .from) (walk .fresh)
         (walk .starts) ⌝ }
+    requires { ⌜ sizes (now plan) .vars ≤ length (now paras) ⌝ }
     ensures { λ r. ⌜ Visited (now (volume .entry)) (now (plan .entry)) (now (ends .entry)) (walk .from) r
-        (now (ats .exit)) (now (positions .exit)) (now (docs .exit)) ⌝ }
+        (now (ats .exit)) (now (positions .exit)) (now (docs .exit)) (walk .starts) ⌝ }
+    ensures { λ _. ⌜ length (now (paras .exit)) ≡ length (now (paras .entry)) ⌝ }
 {
     next_docs(
         volume,
@@ -225,15 +220,10 @@ pub fn visit(
         docs,
     );
     let doc = least_of(docs);
-    let passed = walk.starts;
     if doc == Posting::DOCS {
-        return Seen {
-            doc,
-            found: 0,
-            starts: passed,
-        };
+        return Seen { doc, found: 0 };
     }
-    let starts = bring_starts(volume, passed, walk.paras, doc);
+    let starts = walk.starts;
     let document = Document { doc, starts };
     let found = settle_all(
         volume,
@@ -245,6 +235,7 @@ pub fn visit(
         ats,
         positions,
         docs,
+        paras,
     );
-    Seen { doc, found, starts }
+    Seen { doc, found }
 }

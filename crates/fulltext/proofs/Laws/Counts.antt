@@ -17,7 +17,7 @@ use mathlib.Core.Option.{Option, none, some}
 use lib.ListN.{length, getD, length-map, length-replicate}
 use lib.Dec.{eqb, leb, ltb, eqb·suc-suc}
 use borrow.Author.Tests.{eqb-true, leb-true, leb-false, le-leb, lt-leb, lt-ltb, le-ltb}
-use Rattle.seq.specs.Lists.{keep, all, total}
+use Rattle.seq.specs.Lists.{keep, all, total, joined}
 use Rattle.seq.specs.Numbers.{firstFrom, run}
 use Rattle.seq.proofs.Laws.Tests.{both-true, below-or}
 use Rattle.seq.proofs.Laws.Lists.{length-joined}
@@ -39,7 +39,7 @@ use Rattle.plan.specs.Accepted.{patternAt}
 use Rattle.plan.proofs.Laws.Accepted.{given}
 use Rattle.fulltext.specs.Positions.{limit, listOf, positionsIn, countIn}
 use Rattle.fulltext.specs.Matches.{withEach, tuples, matches, allHold, startsIn, varsIn, leastIn}
-use Rattle.fulltext.specs.Documents.{shown, shownIn, rowIn, postingsIn, workOf, work}
+use Rattle.fulltext.specs.Documents.{withStarts, shown, shownIn, rowIn, postingsIn, workOf, work}
 
 -- a tuple has n positions
 abbrev ofLength : ℕ → List ℕ → Bool
@@ -69,13 +69,20 @@ length-least lists d f ps e =
     (all-first (ofLength (length vs)) (matches (startsIn lists d) vs (f .predicates)) ps (all-keep (ofLength (length vs)) (λ qs. allHold (startsIn lists d) (f .predicates) qs) (tuples vs) (length-tuples vs)) e)
     ∙ length-map (f .vars) (λ l. positionsIn d (listOf lists l))
 
--- a pattern has one word more than it has variables
-pub length-shown : (lists : List (List ℕ)) (d : ℕ) (f : Pattern) → length (shownIn lists d f) ≡ 1 + length (f .vars)
+-- positions with their starts are twice as many words
+pub length-pairs : (starts ps : List ℕ) → length (withStarts starts ps) ≡ 2 * length ps
+unfolding withStarts joined
+length-pairs starts [] = refl
+length-pairs starts (p ∷ ps) = let l : length (withStarts starts ps) ≡ 2 * length ps = length-pairs starts ps in omega arith
+
+-- a pattern has a word, and two for each variable
+pub length-shown : (lists : List (List ℕ)) (d : ℕ) (f : Pattern) → length (shownIn lists d f) ≡ 1 + 2 * length (f .vars)
 length-shown lists d f = go (leastIn lists d f) refl
   where
-    go : (o : Option (List ℕ)) → leastIn lists d f ≡ o → length (shown (length (f .vars)) o) ≡ 1 + length (f .vars)
-    go none e = let l = length-replicate {A = ℕ} (length (f .vars)) 0 in omega arith
-    go (some ps) e = let l = length-least lists d f ps e in omega arith
+    go : (o : Option (List ℕ)) → leastIn lists d f ≡ o
+        → length (shown (startsIn lists d) (length (f .vars)) o) ≡ 1 + 2 * length (f .vars)
+    go none e = let l = length-replicate {A = ℕ} (2 * length (f .vars)) 0 in omega arith
+    go (some ps) e = let l = length-least lists d f ps e in let m = length-pairs (startsIn lists d) ps in omega arith
 
 -- every row has the work's width
 even : (lists : List (List ℕ)) (rows : List Row) (d : ℕ) → length (workOf lists rows .rowOf d) ≡ workOf lists rows .width
@@ -84,8 +91,9 @@ even lists rows d =
     let fs = patternsOf rows in
     let a = length-joined (map (shownIn lists d) fs) in
     let b = total-map length (shownIn lists d) fs in
-    let c = total-ext (λ f. length (shownIn lists d f)) (λ f. 1 + length (f .vars)) fs (length-shown lists d) in
-    let e = total-add (λ f. 1) (λ f. length (f .vars)) fs in
+    let c = total-ext (λ f. length (shownIn lists d f)) (λ f. 1 + (length (f .vars) + length (f .vars))) fs (λ f. let s = length-shown lists d f in omega arith) in
+    let e = total-add (λ f. 1) (λ f. length (f .vars) + length (f .vars)) fs in
+    let t = total-add (λ (f : Pattern). length (f .vars)) (λ f. length (f .vars)) fs in
     let g = total-ones fs in
     omega arith
 

@@ -1,7 +1,6 @@
 -- What each predicate says and needs. No other law knows the predicates' tests, and no contract cites this file.
 --     Begun, Together              a position that stands in a paragraph, and two that stand in one
 --     Fact, holds-decides          what a predicate says of positions; its test decides it
---     at-largest, smallest-at      positions lie between the smallest and the largest
 --     distance-holds, ordered-holds, samepara-holds, window-holds, proximity-holds
 --                                  the test is true where this is so
 --     distance-needs-first, distance-needs-second, ordered-needs, samepara-needs, samepara-needs-start, window-needs,
@@ -15,25 +14,26 @@
 -- Assumes nothing.
 use Prim.Native.Nat.{ℕ, zero, suc, _+_, _-_, min, max, _<_, _≤_}
 use native.Mathlib.Omega.{arith}
-use mathlib.Core.Path.{_≡_, refl, ap, subst}
+use mathlib.Core.Path.{_≡_, refl, ap, subst, _∙_}
 use mathlib.Core.Bool.{true, not, _&&_}
 use mathlib.Core.Logic.{inl, inr, ⊎-elim, _↔_, _≢_}
 use mathlib.Core.List.{List, [], _∷_}
-use lib.ListN.{length, getD}
+use lib.ListN.{length}
 use lib.Dec.{leb, ltb}
-use Rattle.seq.specs.Lists.{all}
-use Rattle.seq.proofs.Laws.Tests.{below-or, contrary}
+use Rattle.seq.proofs.Laws.Tests.{below-or}
 use Rattle.seq.proofs.Laws.Decides as decides
-use Rattle.seq.proofs.Laws.Decides.{Decides, eqb-decides, leb-decides, ltb-decides, not-decides, and-decides, or-decides, same-decides, one-test}
-use Rattle.seq.proofs.Laws.Lists.{all-each}
+use Rattle.seq.proofs.Laws.Decides.{Decides, eqb-decides, leb-decides, ltb-decides, and-decides, or-decides, same-decides, one-test}
 use Rattle.plan.specs.declared.row.Predicate.{Predicate}
 use Rattle.plan.specs.declared.row.Predicate.the-variants.{Distance, Ordered, Samepara, Window, Proximity}
 use Rattle.plan.specs.Limits.{noUpperEnd}
 use Rattle.fulltext.specs.Calculus.{at, In, Within, Proximal}
-use Rattle.fulltext.specs.Matches.{difference, largest, smallestOf, smallest, separates, inPara, together, within, holds}
+use Rattle.fulltext.specs.Positions.{limit, largest, smallestOf, smallest}
+use Rattle.fulltext.specs.Paragraphs.{paraStart, inPara, together}
+use Rattle.fulltext.specs.Matches.{difference, within, holds}
 use Rattle.fulltext.specs.Inner.Bounds.{Needs}
 use Rattle.fulltext.specs.Demands.{Sameparas, Proximities}
-use Rattle.fulltext.proofs.Laws.Positions.{in-none, any-decides}
+use Rattle.fulltext.proofs.Laws.Positions.{in-none, any-decides, at-largest, smallest-at}
+use Rattle.fulltext.proofs.Laws.Paragraphs.{para-told, para-begun, start-unparted, unparted-start}
 
 -- a position stands in a paragraph: some start is not above it
 abbrev pub Begun : List ℕ → ℕ → Type 0
@@ -69,36 +69,18 @@ module _ (p q s : ℕ) where
   unparted : (s ≤ p) ↔ (s ≤ q) → (min p q < s) × (s ≤ max p q) → ⊥
   unparted h w = ⊎-elim (λ (l : p < s). ⊎-elim (λ (k : q < s). omega arith) (λ (k : s ≤ q). omega (arith, h .1 k)) (below-or q s)) (λ (l : s ≤ p). omega (arith, h .0 l)) (below-or p s)
 
-  separates-decides : Decides (not (separates p q s)) ((s ≤ p) ↔ (s ≤ q))
-  separates-decides = same-decides (not-decides (and-decides (ltb-decides (min p q) s) (leb-decides s (max p q)))) alike unparted
-
-unparted-decides : (ss : List ℕ) (p q : ℕ) → Decides (all (λ s. not (separates p q s)) ss) (Unparted ss p q)
-unparted-decides ss p q = record {
-  yes = λ e s i. rw (i .2) at (separates-decides p q (getD ss (i .0) 0) .yes (each .0 e (i .0) (i .1)));
-  no = λ e h. contrary (each .1 (λ i l. decides.holds (separates-decides p q (getD ss i 0)) (h (getD ss i 0) (i, l, refl)))) e;
-}
-  where
-    each : (all (λ s. not (separates p q s)) ss ≡ true) ↔ ((i : ℕ) → i < length ss → not (separates p q (getD ss i 0)) ≡ true)
-    each = all-each (λ s. not (separates p q s)) 0 ss
-
 begun-decides : (ss : List ℕ) (p : ℕ) → Decides (inPara ss p) (Begun ss p)
 begun-decides ss p = any-decides (λ s. leb s p) (λ s. s ≤ p) (λ s. leb-decides s p) ss
 
 together-decides : (ss : List ℕ) (p q : ℕ) → Decides (together ss p q) (Together ss p q)
-together-decides ss p q = and-decides (and-decides (begun-decides ss p) (begun-decides ss q)) (unparted-decides ss p q)
+unfolding together
+together-decides ss p q =
+    same-decides
+    (and-decides (and-decides (begun-decides ss p) (begun-decides ss q)) (eqb-decides (paraStart ss p) (paraStart ss q)))
+    (λ h. (h .0, start-unparted ss p q (h .0 .0) (h .0 .1) (h .1)))
+    (λ h. (h .0, unparted-start ss p q (h .0 .0) (h .0 .1) (h .1)))
 
--- positions lie between the smallest and the largest, and so do the bounds of all positions
-pub at-largest : (ps : List ℕ) (x : ℕ) → at ps x ≤ largest ps
-at-largest [] x = omega arith
-at-largest (p ∷ ps) zero = omega arith
-at-largest (p ∷ ps) (suc x) = let h : at ps x ≤ largest ps = at-largest ps x in omega arith
-
-pub smallest-at : (p : ℕ) (ps : List ℕ) (x : ℕ) → x < suc (length ps) → smallestOf p ps ≤ at (p ∷ ps) x
-smallest-at p [] zero h = omega arith
-smallest-at p [] (suc x) h = absurd (omega arith)
-smallest-at p (q ∷ ps) zero h = omega arith
-smallest-at p (q ∷ ps) (suc x) h = let l : smallestOf q ps ≤ at (q ∷ ps) x = smallest-at q ps x (omega arith) in omega arith
-
+-- the bounds of all positions are those of the largest and the smallest
 largest-le : (ps : List ℕ) (b : ℕ) → ((x : ℕ) → x < length ps → at ps x ≤ b) → largest ps ≤ b
 largest-le [] b h = omega arith
 largest-le (p ∷ ps) b h =
@@ -278,11 +260,31 @@ sameparas ss ps a b = record {
     samepara-holds ss ps a b s i h k,
   );
   turned = samepara-turned ss ps a b;
+  byStarts = λ below. (
+    λ e. let f = fact-of ss (Samepara a b) ps e in by-starts below (f .0 .0) (f .0 .1) (f .1),
+    λ h. fact-holds ss (Samepara a b) ps (starts-by (h .0) (h .1)),
+  );
   onward = λ c e f. fact-holds ss (Samepara a c) ps (together-onward ss (at ps a) (at ps b) (at ps c) (fact-of ss (Samepara a b) ps e) (fact-of ss (Samepara b c) ps f));
 }
   where
     not-begun : (ss : List ℕ) (p : ℕ) → ((s : ℕ) → In s ss → p < s) → Begun ss p → ⊥
     not-begun ss p before w = omega (arith, before (w .0) (w .1), w .2)
+
+    by-starts : ((s : ℕ) → In s ss → s < limit) → Begun ss (at ps a) → Begun ss (at ps b) → Unparted ss (at ps a) (at ps b)
+        → (paraStart ss (at ps a) ≢ limit) × (paraStart ss (at ps a) ≡ paraStart ss (at ps b))
+    by-starts below x y u =
+        let w = para-begun ss (at ps a) (x .0) (x .1) (x .2) in
+        let l = below (paraStart ss (at ps a)) (w .0) in
+        (λ e. omega arith, unparted-start ss (at ps a) (at ps b) x y u)
+
+    start-of : (p : ℕ) → paraStart ss p ≢ limit → Begun ss p
+    start-of p n = ⊎-elim (λ x. absurd (n (x .0))) (λ x. (paraStart ss p, x .0, x .1 .0)) (para-told ss p)
+
+    starts-by : paraStart ss (at ps a) ≢ limit → paraStart ss (at ps a) ≡ paraStart ss (at ps b) → Together ss (at ps a) (at ps b)
+    starts-by n e =
+        let x = start-of (at ps a) n in
+        let y = start-of (at ps b) (λ z. n (e ∙ z)) in
+        ((x, y), start-unparted ss (at ps a) (at ps b) x y e)
 
     together-onward : (ss : List ℕ) (p q r : ℕ) → Together ss p q → Together ss q r → Together ss p r
     together-onward ss p q r f g = ((f .0 .0, g .0 .1), λ s i. (λ h. g .1 s i .0 (f .1 s i .0 h), λ h. f .1 s i .1 (g .1 s i .1 h)))

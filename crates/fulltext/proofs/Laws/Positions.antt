@@ -1,5 +1,6 @@
 -- The laws of `specs/Positions.antt`, and of membership. No contract cites this file.
 --     in-none, in-here, in-later, in-cons     membership in a list, and in one with one more in front
+--     at-largest, smallest-at                 positions lie between the smallest and the largest
 --     elem-decides, any-decides               `elem` decides membership, `any` that an element is so
 --     positions-hold, in-positions, positions-in     the positions of a document are those that its list holds there
 --     positions-rise                          they rise where the list does
@@ -25,8 +26,8 @@ use Rattle.volume.specs.Layout.{listCount, listsOf}
 use Rattle.volume.specs.Check.{Accepted}
 use Rattle.volume.proofs.Laws.Check.{good}
 use Rattle.volume.proofs.Laws.Volume.{length-listsOf, list-of}
-use Rattle.fulltext.specs.Positions.{limit, listOf, positionsIn}
-use Rattle.fulltext.specs.Calculus.{In, Holds}
+use Rattle.fulltext.specs.Positions.{limit, listOf, positionsIn, largest, smallestOf}
+use Rattle.fulltext.specs.Calculus.{at, In, Holds}
 
 pub in-none : (n : ℕ) → In n [] → ⊥
 in-none n h = omega (arith, h .1)
@@ -44,6 +45,18 @@ in-cons n x xs h = go (h .0) (h .1) (h .2)
     go : (i : ℕ) → i < length (x ∷ xs) → getD (x ∷ xs) i 0 ≡ n → (x ≡ n) ⊎ In n xs
     go zero l e = inl e
     go (suc i) l e = inr (i, omega arith, e)
+
+-- positions lie between the smallest and the largest
+pub at-largest : (ps : List ℕ) (x : ℕ) → at ps x ≤ largest ps
+at-largest [] x = omega arith
+at-largest (p ∷ ps) zero = omega arith
+at-largest (p ∷ ps) (suc x) = let h : at ps x ≤ largest ps = at-largest ps x in omega arith
+
+pub smallest-at : (p : ℕ) (ps : List ℕ) (x : ℕ) → x < suc (length ps) → smallestOf p ps ≤ at (p ∷ ps) x
+smallest-at p [] zero h = omega arith
+smallest-at p [] (suc x) h = absurd (omega arith)
+smallest-at p (q ∷ ps) zero h = omega arith
+smallest-at p (q ∷ ps) (suc x) h = let l : smallestOf q ps ≤ at (q ∷ ps) x = smallest-at q ps x (omega arith) in omega arith
 
 pub elem-decides : (n : ℕ) (xs : List ℕ) → Decides (elem n xs) (In n xs)
 unfolding elem

@@ -34,7 +34,10 @@ module _ (xs ys : List (List ℕ)) (d e : ℕ) (same : (l : ℕ) → positionsIn
 
   pub patterns-same : (rows : List Row) → joined (map (shownIn xs d) (patternsOf rows)) ≡ joined (map (shownIn ys e) (patternsOf rows))
   patterns-same rows =
-      ap (λ (least : Pattern → Option (List ℕ)). joined (map (λ (f : Pattern). shown (length (f .vars)) (least f)) (patternsOf rows))) (fun-ext least-same)
+      ap₂
+      (λ (starts : List ℕ) (least : Pattern → Option (List ℕ)). joined (map (λ (f : Pattern). shown starts (length (f .vars)) (least f)) (patternsOf rows)))
+      (same 0)
+      (fun-ext least-same)
 
 -- m documents from a on of work w, and those h further on of work u
 pub rows-shift : (u w : Work) (g : ℕ → List ℕ) (h a m : ℕ)

@@ -1,21 +1,10 @@
--- The start of a position's paragraph, the first start of a document, and the start that SAME TITLE needs. Assumes nothing.
+-- The first start of a document, and the start that SAME TITLE needs. Assumes nothing.
 use Prim.Native.Nat.{ℕ}
 use mathlib.Core.Bool.{cond}
 use mathlib.Core.List.{List, [], _∷_}
-use lib.Dec.{eqb, leb}
-use Rattle.seq.specs.Lists.{keep}
-use Rattle.fulltext.specs.Positions.{limit}
-use Rattle.fulltext.specs.Matches.{largest, smallest}
-
--- the greatest of some numbers, or 65,536 where there is none
-abbrev pub greatest : List ℕ → ℕ
-greatest [] = limit
-greatest (s ∷ ss) = largest (s ∷ ss)
-
--- the start of the paragraph of position p: the greatest start not above it, or 65,536 where there is none
-unfoldable pub paraStart : List ℕ → ℕ → ℕ
-unfolding keep
-paraStart starts p = greatest (keep (λ s. leb s p) starts)
+use lib.Dec.{eqb}
+use Rattle.fulltext.specs.Positions.{limit, smallest}
+use Rattle.fulltext.specs.Paragraphs.{paraStart}
 
 -- the first start: the least, or 65,536 where there is none
 unfoldable pub firstStart : List ℕ → ℕ

@@ -68,7 +68,7 @@ pub record StandsAt (v w : List ℕ) (c : Place) : Type 0 where
 abbrev pub indexOf : List ℕ → Place → ℕ
 indexOf v c = readOf c - lead (listCount v)
 
--- a place in front of block k: what comes next is the block's first word, but not a count, and nothing where the block lies behind the lists
+-- a place in front of block k: what comes next is the block's first word, but not a count, and nothing where the block is behind the lists
 pub record StandsBefore (v w : List ℕ) (c : Place) (k : ℕ) : Type 0 where
   pub stands : StandsAt v w c
   pub index : indexOf v c ≡ max (lead (listCount v)) (min (126 * k) (extentOfBoth v w))

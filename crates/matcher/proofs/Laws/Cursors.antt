@@ -3,7 +3,9 @@
 --     seek-at, seek-below        the word there is not below the target; those passed are
 --     seek-is                    the only such index
 --     Narrowed                   what a search by halves knows
---     Galloped                   what a search in doubling steps knows
+--     galloped-first, galloped-next, galloped-hit, galloped-end, galloped-mark, galloped-on
+--                                what a search in doubling steps knows
+--     seek-between               the sought index, by two words beside each other
 --     window-hit, window-passed  what a word tells of those in front of it
 -- Assumes nothing.
 use Prim.Native.Nat.{ℕ, zero, suc, _+_, _-_, _<_, _≤_}
@@ -19,7 +21,7 @@ use Rattle.seq.proofs.Laws.Tests.{below-or}
 use Rattle.volume.specs.Layout.{word}
 use Rattle.volume.specs.Inner.Below.{belowOf, belowCount}
 use Rattle.matcher.specs.declared.cursor.Cursor.{Cursor}
-use Rattle.matcher.specs.Inner.Cursors.{seekFrom, Stretch, sought, Forward}
+use Rattle.matcher.specs.Inner.Cursors.{seekFrom, Stretch, sought, Galloped, Forward}
 
 module _ (v : List ℕ) (target i e : ℕ) where
   pub seek-ge : i ≤ seekFrom v target i e
@@ -38,7 +40,7 @@ module _ (v : List ℕ) (target i e : ℕ) where
   unfolding seekFrom
   seek-below j h l = leb-false target _ (first-before (λ j. leb target (word v j)) i (e - i) j h l)
 
-  seek-is : (k : ℕ) → i ≤ k → k ≤ e → ((j : ℕ) → i ≤ j → j < k → word v j < target) → (k < e → target ≤ word v k) → seekFrom v target i e ≡ k
+  pub seek-is : (k : ℕ) → i ≤ k → k ≤ e → ((j : ℕ) → i ≤ j → j < k → word v j < target) → (k < e → target ≤ word v k) → seekFrom v target i e ≡ k
   seek-is k h l below here = ⊎-elim early (λ (g : k ≤ seekFrom v target i e). ⊎-elim late (λ (f : seekFrom v target i e ≤ k). omega arith) (below-or k (seekFrom v target i e))) (below-or (seekFrom v target i e) k)
     where
       early : seekFrom v target i e < k → seekFrom v target i e ≡ k
@@ -83,12 +85,7 @@ module _ (v : List ℕ) (target i e : ℕ) where
 pub stretch-within : (v : List ℕ) (i e a b : ℕ) → Stretch v i e → i ≤ a → a ≤ b → b ≤ e → Stretch v a b
 stretch-within v i e a b s h k l = record { order = k; within = let w = s .within in omega arith; rising = λ x y f g m. s .rising x y (omega arith) g (omega arith) }
 
--- what a search in doubling steps knows: words in front of low are below the target
-pub record Galloped (v : List ℕ) (target i e low : ℕ) : Type 0 where
-  pub from : i ≤ low
-  pub to : low ≤ e
-  pub below : (j : ℕ) → i ≤ j → j < low → word v j < target
-
+-- what a search in doubling steps knows
 module _ (v : List ℕ) (target i e : ℕ) (s : Stretch v i e) where
   pub galloped-first : Galloped v target i e i
   galloped-first = record { from = omega arith; to = s .order; below = λ j a b. absurd (let z : ⊥ = omega arith in z) }
@@ -118,6 +115,24 @@ module _ (v : List ℕ) (target i e : ℕ) (s : Stretch v i e) where
       (seek-le v target low e (g .to))
       (λ j x y. ⊎-elim (λ (c : j < low). g .below j x c) (λ (c : low ≤ j). seek-below v target low e j c y) (below-or j low)) (λ l. seek-at v target low e (g .to) l) in
       omega arith
+
+  -- a word right in front of index m is below the target, and so are those in front of it
+  pub galloped-mark : (m : ℕ) → i < m → m ≤ e → word v (m - 1) < target → Galloped v target i e m
+  galloped-mark m a b w =
+      let q : m - 1 + 1 ≡ m = omega arith in
+      rw q at (galloped-next i (m - 1) galloped-first (omega arith) (omega arith) w)
+
+  -- the sought index, between a word below the target and one that is not
+  pub seek-between : (x : ℕ) → i ≤ x → x + 1 < e → word v x < target → target ≤ word v (x + 1) → seekFrom v target i e ≡ x + 1
+  seek-between x a b w u = let g = galloped-next i x galloped-first a (omega arith) w in seek-is v target i e (x + 1) (omega arith) (omega arith) (g .below) (λ h. u)
+
+-- one step behind another
+pub galloped-on : {v : List ℕ} {target i e a b : ℕ} → Galloped v target i e a → Galloped v target a e b → Galloped v target i e b
+galloped-on {a = a} f g = record {
+  from = let x = f .from in let y = g .from in omega arith;
+  to = g .to;
+  below = λ j x y. ⊎-elim (λ (l : j < a). f .below j x l) (λ (l : a ≤ j). g .below j l y) (below-or j a);
+}
 
 -- numbers of which the first k are 1 and the rest 0
 sum-flags : (f : ℕ → ℕ) (k m : ℕ) → k ≤ m → ((j : ℕ) → j < k → f j ≡ 1) → ((j : ℕ) → k ≤ j → j < m → f j ≡ 0) → sumTo f m ≡ k

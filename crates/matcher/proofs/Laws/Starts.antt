@@ -2,28 +2,34 @@
 --     starts-below                    no start is behind the last position
 --     stands-stretch                  the postings of list 0 from the cursor on
 --     past-from, past-to              the first posting behind position p of the document
---     para-first, para-other, para-last     the paragraph's start, by the posting in front of that one
+--     para-first, para-other, para-last, para-in     the paragraph's start, by the posting in front of that one
 --     first-none, first-other, first-here     the first start, by that one, where p stands in no paragraph
 -- Assumes nothing.
 use Prim.Native.Nat.{ℕ, _+_, _-_, _*_, _/_, _%_, _<_, _≤_}
 use native.Mathlib.Omega.{arith}
 use mathlib.Core.Path.{_≡_, refl, ap, _∙_}
+use mathlib.Core.Bool.{Bool, true, false, cond}
 use mathlib.Core.Logic.{inl, inr, ⊎-elim, _≢_}
 use mathlib.Core.List.{List}
+use lib.Dec.{eqb}
 use Rattle.seq.proofs.Laws.Tests.{below-or}
+use Rattle.seq.proofs.Laws.Decides.{Decides, eqb-decides}
 use Rattle.volume.specs.Layout.{word, start, listCount, listsOf}
 use Rattle.volume.specs.Check.{Accepted}
 use Rattle.volume.proofs.Laws.Check.{good}
 use Rattle.fulltext.specs.Positions.{limit, listOf}
 use Rattle.fulltext.specs.Calculus.{In}
 use Rattle.fulltext.specs.Matches.{startsIn}
-use Rattle.fulltext.specs.Inner.Paragraphs.{paraStart, firstStart}
+use Rattle.fulltext.specs.Paragraphs.{paraStart}
+use Rattle.fulltext.specs.Inner.Paragraphs.{firstStart}
 use Rattle.matcher.specs.declared.cursor.Document.{Document}
+use Rattle.matcher.specs.Inner.Blocks.{startIn}
 use Rattle.matcher.specs.Inner.Cursors.{seekFrom, Stretch, listEnd, Stands, AtDocument}
 use Rattle.fulltext.proofs.Laws.Positions.{in-positions, positions-in}
 use Rattle.matcher.proofs.Laws.Cursors.{seek-ge, seek-le, seek-at, seek-below, stretch-within}
 use Rattle.matcher.proofs.Laws.Volume.{list-stretch, held, holds-at}
-use Rattle.matcher.proofs.Laws.Paragraphs.{para-is, para-none, first-is}
+use Rattle.fulltext.proofs.Laws.Paragraphs.{para-is, para-none}
+use Rattle.matcher.proofs.Laws.Paragraphs.{first-is}
 
 pub starts-below : (lists : List (List ℕ)) (d s : ℕ) → In s (startsIn lists d) → s < limit
 starts-below lists d s i = positions-in d s (listOf lists 0) i .0
@@ -54,6 +60,10 @@ module _ {v : List ℕ} {doc : Document} (ok : Accepted v) (placed : AtDocument 
   pub stands-stretch : Stretch v i end
   stands-stretch = rw (placed .starts-end) rest
 
+  -- the words do not fall
+  up-to : (j k : ℕ) → i ≤ j → j ≤ k → k < listEnd v 0 → word v j ≤ word v k
+  up-to j k a h l = ⊎-elim (λ (q : j < k). let r = rest .rising j k a q l in omega arith) (λ (q : k ≤ j). let f : j ≡ k = omega arith in let g = ap (word v) f in omega arith) (below-or j k)
+
   -- a start of the document stands at the cursor or behind it
   ahead : (s : ℕ) → In s (startsIn (listsOf v) d) → (j : ℕ) × ((i ≤ j) × ((j < listEnd v 0) × (word v j ≡ d * 65536 + s)))
   ahead s m = (j, (after, (to, same)))
@@ -75,10 +85,6 @@ module _ {v : List ℕ} {doc : Document} (ok : Accepted v) (placed : AtDocument 
 
       after : i ≤ j
       after = ⊎-elim (λ (k : j < i). let b = st .behind j from k in let e = same in absurd (let z : ⊥ = omega arith in z)) (λ k. k) (below-or j i)
-
-  -- the words do not fall
-  up-to : (j k : ℕ) → i ≤ j → j ≤ k → k < listEnd v 0 → word v j ≤ word v k
-  up-to j k a h l = ⊎-elim (λ (q : j < k). let r = rest .rising j k a q l in omega arith) (λ (q : k ≤ j). let f : j ≡ k = omega arith in let g = ap (word v) f in omega arith) (below-or j k)
 
   -- the first index from the cursor on whose word is not below t
   module _ (t : ℕ) where
@@ -166,11 +172,11 @@ module _ {v : List ℕ} {doc : Document} (ok : Accepted v) (placed : AtDocument 
           omega arith
 
       -- it is of another document
-      pub para-other : w / 65536 ≢ d → 65536 ≡ paraStart (startsIn (listsOf v) d) p
+      para-other : w / 65536 ≢ d → 65536 ≡ paraStart (startsIn (listsOf v) d) p
       para-other n = para-is (startsIn (listsOf v) d) p 65536 (inl (refl, λ s m h. let u = up-to-last s m h in let b = last-below in n (omega arith)))
 
       -- it is of this document
-      pub para-last : w / 65536 ≡ d → w % 65536 ≡ paraStart (startsIn (listsOf v) d) p
+      para-last : w / 65536 ≡ d → w % 65536 ≡ paraStart (startsIn (listsOf v) d) p
       para-last e =
           let b = last-below in
           let g = past-ge in
@@ -183,6 +189,14 @@ module _ {v : List ℕ} {doc : Document} (ok : Accepted v) (placed : AtDocument 
             in-positions d (w % 65536) (listOf (listsOf v) 0) (holds-at v ok 0 some d (w % 65536) (past - 1) (omega arith) (omega arith) (omega arith) (omega arith)),
             (omega arith, λ s m h. let u = up-to-last s m h in omega arith),
           ))
+
+      -- of either
+      pub para-in : startIn d w ≡ paraStart (startsIn (listsOf v) d) p
+      para-in = go (eqb (w / 65536) d) (eqb-decides (w / 65536) d)
+        where
+          go : (t : Bool) → Decides t (w / 65536 ≡ d) → cond t (w % 65536) limit ≡ paraStart (startsIn (listsOf v) d) p
+          go true e = para-last (e .yes refl)
+          go false e = para-other (e .no refl)
 
     -- p stands in no paragraph
     module _ (bare : paraStart (startsIn (listsOf v) d) p ≡ limit) where

@@ -25,6 +25,12 @@ pub record Stretch (v : List ℕ) (i e : ℕ) : Type 0 where
 abbrev pub sought : List ℕ → ℕ → Cursor → Cursor
 sought v target c = record { at = seekFrom v target (c .at) (c .end); end = c .end }
 
+-- stream index low lies from i up to e, and all words from i on in front of it are below target
+pub record Galloped (v : List ℕ) (target i e low : ℕ) : Type 0 where
+  pub from : i ≤ low
+  pub to : low ≤ e
+  pub below : (j : ℕ) → i ≤ j → j < low → word v j < target
+
 -- a cursor moves forward only, on one list
 pub record Forward (c r : Cursor) : Type 0 where
   pub same-end : r .end ≡ c .end

@@ -5,9 +5,10 @@
 --     seen-here                 each pattern in the document
 --     seen-out, seen-in         there is none; its found patterns, their positions, and where the walk goes on
 --     seen-true                 whether it is true
---     starts-later, starts-sought, starts-stretch     the cursor on list 0
+--     starts-stretch, starts-later, at-document     the cursor on list 0, and a document with it
+--     block-first               the block of that cursor begins within the stream
 -- Assumes nothing.
-use Prim.Native.Nat.{ℕ, _+_, _*_, _<_, _≤_}
+use Prim.Native.Nat.{ℕ, _+_, _*_, _/_, _<_, _≤_}
 use native.Mathlib.Omega.{arith}
 use mathlib.Core.Path.{_≡_, refl, sym, ap, _∙_}
 use mathlib.Core.Bool.{Bool, true, false, true≢false}
@@ -28,7 +29,7 @@ use Rattle.matcher.specs.declared.cursor.Cursor.{Cursor}
 use Rattle.fulltext.specs.Positions.{limit}
 use Rattle.fulltext.specs.Documents.{found, matching, workOf, work}
 use Rattle.fulltext.proofs.Laws.Skips.{matching-none}
-use Rattle.matcher.specs.Inner.Cursors.{seekFrom, Stretch, listEnd, Stands, listCursor}
+use Rattle.matcher.specs.Inner.Cursors.{seekFrom, sought, Stretch, listEnd, listCursor, Stands, AtDocument}
 use Rattle.plan.specs.Inner.Outline.{Tabled}
 use Rattle.matcher.specs.Inner.Tables.{varAt, Placed, Cursors}
 use Rattle.matcher.proofs.Laws.Cursors.{seek-ge, seek-le, seek-below}
@@ -44,15 +45,22 @@ unfolding work sizes
 work-words v p = refl
 
 -- a cursor that has passed documents below one alone has passed those below a later one alone
-pub starts-later : (v : List ℕ) (l from doc i : ℕ) → from ≤ doc → Stands v l from i → Stands v l doc i
+starts-later : (v : List ℕ) (l from doc i : ℕ) → from ≤ doc → Stands v l from i → Stands v l doc i
 starts-later v l from doc i h s = record { from = s .from; to = s .to; behind = λ j a b. let t = s .behind j a b in omega arith }
 
--- a cursor on list 0 that seeks a later document
-pub starts-sought : (v : List ℕ) (from doc i : ℕ) → from ≤ doc → Stands v 0 from i → Stands v 0 doc (seekFrom v (doc * 65536) i (listEnd v 0))
-starts-sought v from doc i h s = record {
-  from = let f = s .from in let g = seek-ge v (doc * 65536) i (listEnd v 0) in omega arith;
-  to = seek-le v (doc * 65536) i (listEnd v 0) (s .to);
-  behind = λ j a b. ⊎-elim (λ (l : j < i). let t = s .behind j a l in omega arith) (λ (l : i ≤ j). seek-below v (doc * 65536) i (listEnd v 0) j l b) (below-or j i);
+-- a document, with a cursor on list 0 that has not passed an earlier one
+pub at-document : (v : List ℕ) (from doc : ℕ) (starts : Cursor) → from ≤ doc → doc < limit → Stands v 0 from (starts .at)
+    → starts .end ≡ listEnd v 0 → AtDocument v (record { doc = doc; starts = starts })
+at-document v from doc starts h l s e =
+    record { small = omega arith; starts-at = starts-later v 0 from doc (starts .at) h s; starts-end = e }
+
+-- a cursor that has sought a document from the first posting of its list on
+sought-stands : (v : List ℕ) (l d : ℕ) → Stretch v (layout.start v l) (listEnd v l)
+    → Stands v l d (seekFrom v (d * 65536) (layout.start v l) (listEnd v l))
+sought-stands v l d s = record {
+  from = seek-ge v (d * 65536) (layout.start v l) (listEnd v l);
+  to = seek-le v (d * 65536) (layout.start v l) (listEnd v l) (s .order);
+  behind = λ j a b. seek-below v (d * 65536) (layout.start v l) (listEnd v l) j a b;
 }
 
 -- the part of a table that has four numbers for each pattern
@@ -70,28 +78,30 @@ unfolding work workOf matching
 seen-true v p bits doc r told f = sym (told (found (listsOf v) doc) f)
 
 module _ (v p table orders ends : List ℕ) (w : Walks v p table orders ends) where
-  -- the words that the cursor on list 0 has before it
-  pub starts-stretch : (from : ℕ) (c : Cursor) → Stands v 0 from (c .at) → c .end ≡ listEnd v 0 → Stretch v (c .at) (c .end)
-  starts-stretch from c s e =
-      let g = given v p (w .accepted) .volume-accepted in
-      let l = list-stretch v g 0 (good v g .lists-some) in
-      rw e (record { order = s .to; within = l .within; rising = λ i j a b k. let f = s .from in l .rising i j (omega arith) b k })
+  -- the words of list 0
+  pub starts-stretch : Stretch v (layout.start v 0) (listEnd v 0)
+  starts-stretch = let g = given v p (w .accepted) .volume-accepted in list-stretch v g 0 (good v g .lists-some)
+
+  -- the block in which a cursor on list 0 stands begins within the stream
+  pub block-first : (start : ℕ) (starts : Cursor) → starts ≡ sought v (start * 65536) (listCursor v 0)
+      → 126 * (starts .at / 126) ≤ layout.streamLength v
+  block-first start starts e = rw e (let t = sought-stands v 0 start starts-stretch .to in let h = starts-stretch .within in omega arith)
 
   pub walking-first : (start : ℕ) (firsts ats ps docs : List ℕ) → start ≤ limit → sizes p .vars ≤ length firsts → sizes p .vars ≤ length ps
       → Cursors v p start firsts ends → ats ≡ firsts → length docs ≡ sizes p .patterns
-      → (starts : Cursor) → starts ≡ listCursor v 0 → Walking v p ends ats ps docs start true starts
+      → (starts : Cursor) → starts ≡ sought v (start * 65536) (listCursor v 0) → Walking v p ends ats ps docs start true starts
   walking-first start firsts ats ps docs low room reach placed same d starts e = record {
     to = low;
     docs-length = d;
     ats-room = rw same room;
     positions-room = reach;
     pending = λ k h. record { due = λ c. stood k h; ahead = λ n. absurd (true≢false n) };
-    starts-at = rw e (record { from = omega arith; to = omega arith; behind = λ j a b. absurd (let z : ⊥ = omega arith in z) });
+    starts-at = rw e (sought-stands v 0 start starts-stretch);
     starts-end = ap (λ (c : Cursor). c .end) e;
   }
     where
       stood : (k : ℕ) → k < sizes p .patterns → Stood v p ats ends k start
-      stood k h x a = rw same (stands, q .end-is)
+      stood k h x a = rw same (rw (q .at-is) (sought-stands v (varAt p x) start s), q .end-is)
         where
           inside : x < sizes p .vars
           inside = let s = vars-within p k h in omega arith
@@ -101,13 +111,6 @@ module _ (v p table orders ends : List ℕ) (w : Walks v p table orders ends) wh
 
           s : Stretch v (layout.start v (varAt p x)) (listEnd v (varAt p x))
           s = list-stretch v (given v p (w .accepted) .volume-accepted) (varAt p x) (var-there v p (w .accepted) x inside)
-
-          stands : Stands v (varAt p x) start (getD firsts x 0)
-          stands = rw (q .at-is) (record {
-            from = seek-ge v (start * 65536) (layout.start v (varAt p x)) (listEnd v (varAt p x));
-            to = seek-le v (start * 65536) (layout.start v (varAt p x)) (listEnd v (varAt p x)) (s .order);
-            behind = λ j b c. seek-below v (start * 65536) (layout.start v (varAt p x)) (listEnd v (varAt p x)) j b c;
-          })
 
   module _ (ats₀ ps₀ docs₀ ats ps docs : List ℕ) (from doc : ℕ) (b : Brought v p ends ats₀ ps₀ docs₀ from ats ps docs)
       (l : LeastDoc docs (length docs) doc) (size : length docs₀ ≡ sizes p .patterns) where
@@ -140,7 +143,7 @@ module _ (v p table orders ends : List ℕ) (w : Walks v p table orders ends) wh
       pos = c .pos;
     }
 
-    pub seen-out : (starts : Cursor) → doc ≡ limit → Visited v p ends from (record { doc = doc; found = 0; starts = starts }) ats ps docs
+    pub seen-out : (starts : Cursor) → doc ≡ limit → Visited v p ends from (record { doc = doc; found = 0 }) ats ps docs starts
     seen-out starts e = record {
       later = seen-from;
       most = l .most;
@@ -151,9 +154,9 @@ module _ (v p table orders ends : List ℕ) (w : Walks v p table orders ends) wh
     }
 
     pub seen-in : (bits : ℕ) (starts : Cursor) (nexts qs : List ℕ) → SettledAll v p ends docs doc ats ps bits nexts qs
-        → Stands v 0 doc (starts .at) → starts .end ≡ listEnd v 0 → sizes p .vars ≤ length ats → sizes p .vars ≤ length ps
-        → Visited v p ends from (record { doc = doc; found = bits; starts = starts }) nexts qs docs
-    seen-in bits starts nexts qs t s e room reach = record {
+        → AtDocument v (record { doc = doc; starts = starts }) → sizes p .vars ≤ length ats → sizes p .vars ≤ length ps
+        → Visited v p ends from (record { doc = doc; found = bits }) nexts qs docs starts
+    seen-in bits starts nexts qs t s room reach = record {
       later = seen-from;
       most = l .most;
       none = seen-none;
@@ -165,8 +168,8 @@ module _ (v p table orders ends : List ℕ) (w : Walks v p table orders ends) wh
         ats-room = let m = t .ats-length in omega arith;
         positions-room = let m = t .positions-length in omega arith;
         pending = pending;
-        starts-at = starts-later v 0 doc (doc + 1) (starts .at) (omega arith) s;
-        starts-end = e;
+        starts-at = starts-later v 0 doc (doc + 1) (starts .at) (omega arith) (s .starts-at);
+        starts-end = s .starts-end;
       };
     }
       where

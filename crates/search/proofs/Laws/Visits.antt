@@ -3,13 +3,14 @@
 --     visiting-first                before the first document
 --     visiting-part, part-length     the patterns' documents at the front of an array
 --     visit-reached                 the rows that are laid when the next document in which a pattern can be found is reached
+--     visit-small                   the positions of its found patterns are those of a document
 --     visit-row, visit-wide         its row from its bits and positions, and how many words it has
 --     visit-passed, visit-put       behind it, with or without its row
 --     visit-room, visit-words       one more row fits; the words of all rows are few
 --     visit-rows                    the rows are no more than the documents
 --     visit-done, visit-more        the ways out of the loop
 -- Assumes nothing.
-use Prim.Native.Nat.{ℕ, _+_, _-_, _*_, _/_, _<_, _≤_}
+use Prim.Native.Nat.{ℕ, _+_, _-_, _*_, _/_, _%_, _<_, _≤_}
 use native.Mathlib.Omega.{arith}
 use native.Mathlib.Nat.{add-mul, one-mul, mul-le-mul-left, mul-le-mul-right, le-div-iff-mul-le}
 use mathlib.Core.Path.{_≡_, refl, sym, ap, ap₂, subst, _∙_}
@@ -28,19 +29,22 @@ use Rattle.volume.specs.Layout.{listsOf}
 use Rattle.plan.specs.Limits.{mostPatterns, rowWords, mostRowWords}
 use Rattle.plan.specs.Rows.{rowsOf}
 use Rattle.plan.specs.Check.{sizes}
+use Rattle.plan.specs.Inner.Outline.{outlineAt}
 use Rattle.plan.proofs.Laws.Accepted.{given}
 use Rattle.matcher.specs.declared.cursor.Cursor.{Cursor}
+use Rattle.matcher.specs.Inner.Shortfall.{InDocument}
 use Rattle.fulltext.specs.Positions.{limit}
+use Rattle.fulltext.specs.Matches.{startsIn}
 use Rattle.fulltext.specs.Documents.{Work, postingsIn, workOf, docsIn, work}
 use Rattle.fulltext.proofs.Laws.Counts.{work-even, work-wide}
 use Rattle.search.specs.declared.walk.Seen.{Seen}
 use Rattle.search.specs.Answers.{done, more}
 use Rattle.search.specs.Search.{Kept}
-use Rattle.search.specs.Inner.Rows.{rowBy}
+use Rattle.search.specs.Inner.Rows.{halved, rowBy}
 use Rattle.search.specs.Inner.Walk.{Walks, Walking, Visited}
 use Rattle.search.proofs.Laws.Loop.{Progress, begins, same-size, room-rows, over, wrote}
 use Rattle.search.proofs.Laws.Listing.{stops-kept, ends-kept}
-use Rattle.search.proofs.Laws.Rows.{row-is}
+use Rattle.search.proofs.Laws.Rows.{row-is, row-small}
 use Rattle.search.proofs.Laws.Seen.{work-words}
 
 pub record Visiting (v p ends : List ℕ) (start : ℕ) (out₀ ats ps docs out : List ℕ) (from rows : ℕ) (starts : Cursor) : Type 0 where
@@ -73,27 +77,36 @@ visit-rows v p start out₀ out d n g = let l = docs-few (work v p) start d in l
 
 -- the row of the document, from its bits and positions, and its words
 module _ (v p table orders ends : List ℕ) (w : Walks v p table orders ends) (from : ℕ) (seen : Seen) (ats ps docs : List ℕ)
-    (s : Visited v p ends from seen ats ps docs) (inside : seen .doc < limit) (n : ℕ) (e : n ≡ sizes p .patterns) where
-  visit-row : rowBy table (seen .doc) (seen .found) ps n ≡ work v p .rowOf (seen .doc)
-  visit-row =
-      let room = s .walking inside .positions-room in
-      row-is v p table (w .tabled) (seen .doc) (seen .found) ps (s .found-are inside) (s .least inside) room n e
+    (starts : Cursor) (s : Visited v p ends from seen ats ps docs starts) (inside : seen .doc < limit) (n : ℕ) (e : n ≡ sizes p .patterns)
+  where
+    pub visit-small : (k : ℕ) → k < n → halved (seen .found) k % 2 ≡ 1
+        → InDocument (take (outlineAt table k .vars) (drop (outlineAt table k .first) ps))
+    visit-small k h =
+        let room = s .walking inside .positions-room in
+        row-small v p table (w .tabled) (seen .doc) (seen .found) ps (s .found-are inside) (s .least inside) room k (omega arith)
 
-  pub visit-wide : length (rowBy table (seen .doc) (seen .found) ps n) ≡ rowWords (sizes p .patterns) (sizes p .vars)
-  visit-wide = ap length visit-row ∙ work-even v p (seen .doc) ∙ work-words v p
+    visit-row : rowBy (startsIn (listsOf v) (seen .doc)) table (seen .doc) (seen .found) ps n ≡ work v p .rowOf (seen .doc)
+    visit-row =
+        let room = s .walking inside .positions-room in
+        row-is v p table (w .tabled) (seen .doc) (seen .found) ps (s .found-are inside) (s .least inside) room n e
+
+    pub visit-wide : length (rowBy (startsIn (listsOf v) (seen .doc)) table (seen .doc) (seen .found) ps n)
+        ≡ rowWords (sizes p .patterns) (sizes p .vars)
+    visit-wide = ap length visit-row ∙ work-even v p (seen .doc) ∙ work-words v p
 
 module _ (v p ends : List ℕ) (start : ℕ) (out₀ : List ℕ) (from : ℕ) (seen : Seen) (ats ps docs : List ℕ)
-    (s : Visited v p ends from seen ats ps docs) (rows : ℕ) (out : List ℕ) (g : Progress (work v p) start out₀ from rows out) where
+    (starts : Cursor) (s : Visited v p ends from seen ats ps docs starts) (rows : ℕ) (out : List ℕ)
+    (g : Progress (work v p) start out₀ from rows out) where
   pub visit-reached : Progress (work v p) start out₀ (seen .doc) rows out
   visit-reached = over (work v p) (work-even v p) g (seen .doc) (s .later) (s .most) (s .none)
 
   module _ (inside : seen .doc < limit) where
     -- it is behind the first document
-    onward : Walking v p ends ats ps docs (seen .doc + 1) (eqb (seen .doc + 1) start) (seen .starts)
+    onward : Walking v p ends ats ps docs (seen .doc + 1) (eqb (seen .doc + 1) start) starts
     onward = rw (ne-eqb (seen .doc + 1) start (λ e. let f = g .from in let l = s .later in omega arith)) (s .walking inside)
 
     pub visit-passed : work v p .isTrue (seen .doc) ≡ false
-        → Visiting v p ends start out₀ ats ps docs out (seen .doc + 1) rows (seen .starts)
+        → Visiting v p ends start out₀ ats ps docs out (seen .doc + 1) rows starts
     visit-passed t = record {
       progress = over (work v p) (work-even v p) visit-reached (seen .doc + 1) (omega arith) (omega arith) (λ j a b. let q : j ≡ seen .doc = omega arith in rw q t);
       walking = onward;
@@ -103,9 +116,9 @@ module _ (v p ends : List ℕ) (start : ℕ) (out₀ : List ℕ) (from : ℕ) (s
     pub visit-put : work v p .isTrue (seen .doc) ≡ true → (wide : ℕ) → wide ≡ rowWords (sizes p .patterns) (sizes p .vars)
         → rows ≢ length out₀ / wide → (table orders : List ℕ) → Walks v p table orders ends → (n : ℕ) → n ≡ sizes p .patterns
         → (out′ : List ℕ)
-        → out′ ≡ take (rows * wide) out ++ rowBy table (seen .doc) (seen .found) ps n
-        ++ drop (rows * wide + length (rowBy table (seen .doc) (seen .found) ps n)) out
-        → Visiting v p ends start out₀ ats ps docs out′ (seen .doc + 1) (rows + 1) (seen .starts)
+        → out′ ≡ take (rows * wide) out ++ rowBy (startsIn (listsOf v) (seen .doc)) table (seen .doc) (seen .found) ps n
+        ++ drop (rows * wide + length (rowBy (startsIn (listsOf v) (seen .doc)) table (seen .doc) (seen .found) ps n)) out
+        → Visiting v p ends start out₀ ats ps docs out′ (seen .doc + 1) (rows + 1) starts
     visit-put t wide e less table orders w n many out′ put = record {
       progress = wrote (work v p) (work-even v p) visit-reached (work-wide v p) inside t fits out′
           (put ∙ ap₂ (λ (m : ℕ) (xs : List ℕ). take (rows * m) out ++ xs ++ drop (rows * m + length xs) out) same row
@@ -117,8 +130,8 @@ module _ (v p ends : List ℕ) (start : ℕ) (out₀ : List ℕ) (from : ℕ) (s
         same : wide ≡ work v p .width
         same = e ∙ sym (work-words v p)
 
-        row : rowBy table (seen .doc) (seen .found) ps n ≡ work v p .rowOf (seen .doc)
-        row = visit-row v p table orders ends w from seen ats ps docs s inside n many
+        row : rowBy (startsIn (listsOf v) (seen .doc)) table (seen .doc) (seen .found) ps n ≡ work v p .rowOf (seen .doc)
+        row = visit-row v p table orders ends w from seen ats ps docs starts s inside n many
 
         fits : rows < length out₀ / work v p .width
         fits = let r = room-rows (work v p) (work-even v p) g (work-wide v p) in let q = ap (λ (n : ℕ). length out₀ / n) same in omega arith

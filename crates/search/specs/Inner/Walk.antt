@@ -150,10 +150,10 @@ pub record Walking (v p ends ats ps docs : List ℕ) (from : ℕ) (fresh : Bool)
 
 -- the next document in which a pattern can be found, or 65,536: no true one is in front of it, which patterns are found there, and at
 -- which positions, and where the walk goes on
-pub record Visited (v p ends : List ℕ) (from : ℕ) (seen : Seen) (ats ps docs : List ℕ) : Type 0 where
+pub record Visited (v p ends : List ℕ) (from : ℕ) (seen : Seen) (ats ps docs : List ℕ) (starts : Cursor) : Type 0 where
   pub later : from ≤ seen .doc
   pub most : seen .doc ≤ limit
   pub none : (d : ℕ) → from ≤ d → d < seen .doc → work v p .isTrue d ≡ false
   pub found-are : seen .doc < limit → seen .found ≡ foundBits (found (listsOf v) (seen .doc)) p
   pub least : seen .doc < limit → (k : ℕ) → k < sizes p .patterns → LeastAt v p (seen .doc) ps k
-  pub walking : seen .doc < limit → Walking v p ends ats ps docs (seen .doc + 1) false (seen .starts)
+  pub walking : seen .doc < limit → Walking v p ends ats ps docs (seen .doc + 1) false starts

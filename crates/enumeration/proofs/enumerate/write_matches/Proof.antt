@@ -1,4 +1,5 @@
--- The matches that were sought are written, and those left are the matches from `lows` on (`Writing`). The measure is the room left.
+-- The matches that were sought are written, and those left are the matches from `lows` on (`Writing`); `paras` keeps its length.
+-- The measure is the room left.
 use Prim.Native.Nat.{_-_, _/_, _<_, _≤_}
 use native.Mathlib.Nat.{div-le-self}
 use native.Mathlib.Omega.{arith}
@@ -20,18 +21,18 @@ use Rattle.enumeration.proofs.enumerate.write_matches.Statement.{statem
 use Rattle.enumeration.proofs.enumerate.write_matches.Tie as tie
 
 abbrev Inv-loop : tie.InvT-loop
-Inv-loop volume plan outline document order ends from out₀ firsts n room lows₀ marks₀ here₀ positions₀ count₀ out lows marks here positions
-    count =
+Inv-loop volume plan outline document order ends from out₀ firsts n room lows₀ marks₀ here₀ positions₀ paras₀ count₀ out lows marks here
+    positions paras count =
     Writing volume (document .doc) (patternAt plan (outline .pattern)) (outline .vars) from out₀ lows marks here positions out count
-    × ((room ≡ length out₀ / outline .vars) × (n ≡ outline .vars))
+    × ((room ≡ length out₀ / outline .vars) × ((n ≡ outline .vars) × (length paras ≡ 8)))
 
 abbrev μ-loop : tie.MeasureT-loop
-μ-loop volume plan outline document order ends from out₀ firsts n room lows₀ marks₀ here₀ positions₀ count₀ out lows marks here positions
-    count = room - count
+μ-loop volume plan outline document order ends from out₀ firsts n room lows₀ marks₀ here₀ positions₀ paras₀ count₀ out lows marks here
+    positions paras count = room - count
 
 -- the places that the answers speak of: from a match that was sought to its turn, and from a turn to the function's start
 abbrev turn : tie.After-next-match Inv-loop μ-loop → tie.At-loop Inv-loop μ-loop
-turn m = m .before .before .before .before .before .before
+turn m = m .before .before .before .before .before .before .before
 
 abbrev start : tie.At-loop Inv-loop μ-loop → tie.Start Inv-loop μ-loop
 start l = l .before .before .before .before .before .before .before .before .before .before
@@ -68,7 +69,7 @@ loop-holds c =
     let s = c .before .before .before .before .before .before .before .before .before in
     let p = s .pre in
     let e = c .before .put-row .ensures in
-    (begins _ _ _ _ _ _ _ (p .0) _ _ _ _ _ (p .1 .0) (few-vars s) (p .1 .1 .0) (firsts-long s) refl refl e, (refl, refl))
+    (begins _ _ _ _ _ _ _ (p .0) _ _ _ _ _ (p .1 .0) (few-vars s) (p .1 .1 .0) (firsts-long s) refl refl e, (refl, (refl, refl)))
 
 slice-aggregate-next-match : tie.Need-slice-aggregate-next-match Inv-loop μ-loop
 slice-aggregate-next-match c = search needs
@@ -85,16 +86,20 @@ slice-aggregate-next-match-4 c = search needs
 slice-aggregate-next-match-5 : tie.Need-slice-aggregate-next-match-5 Inv-loop μ-loop
 slice-aggregate-next-match-5 c = search needs
 
+slice-aggregate-next-match-6 : tie.Need-slice-aggregate-next-match-6 Inv-loop μ-loop
+slice-aggregate-next-match-6 c = search needs
+
 next-match-requires : tie.Need-next-match-requires Inv-loop μ-loop
 next-match-requires c κs =
-    let l = c .before .before .before .before .before in
+    let l = c .before .before .before .before .before .before in
     let g = l .loop .inv .0 in
     let f = few-vars (start l) in
     let a = g .lows-length in
     let b = g .marks-length in
     let d = g .here-length in
     let e = g .ps-length in
-    (start l .pre .0, (omega arith, (omega arith, (omega arith, (omega arith, (g .marked, g .small))))))
+    let h = l .loop .inv .1 .1 .1 in
+    (start l .pre .0, (omega arith, (omega arith, (omega arith, (omega arith, (g .marked, (g .small, omega arith)))))))
 
 -- what was sought, by whether there is one
 sought : (m : tie.After-next-match Inv-loop μ-loop) (t : Bool) → m .next-match .result ≡ t
@@ -111,25 +116,28 @@ here-long m = m .next-match .ensures .1 .1 .1 .0 ∙ turn m .loop .inv .0 .here-
 positions-long : (m : tie.After-next-match Inv-loop μ-loop) → length (m .next-match .last .1 .1 .1 .1 .1 .1 .1 .1 .1 .1 .0) ≡ 8
 positions-long m = m .next-match .ensures .1 .1 .1 .1 .0 ∙ turn m .loop .inv .0 .ps-length
 
+paras-long : (m : tie.After-next-match Inv-loop μ-loop) → length (m .next-match .last .1 .1 .1 .1 .1 .1 .1 .1 .1 .1 .1 .0) ≡ 8
+paras-long m = m .next-match .ensures .1 .1 .1 .1 .1 .1 ∙ turn m .loop .inv .1 .1 .1
+
 slice-aggregate-with-next : tie.Need-slice-aggregate-with-next Inv-loop μ-loop
 slice-aggregate-with-next c = search needs
 
 with-next-requires : tie.Need-with-next-requires Inv-loop μ-loop
 with-next-requires c κs =
-    let m = c .before .before .before .before .before .before .before in
+    let m = c .before .before .before .before .before .before .before .before in
     let f = few-vars (start (turn m)) in
-    let e = turn m .loop .inv .1 .1 in
+    let e = turn m .loop .inv .1 .1 .0 in
     let b = positions-long m in
     (omega arith, omega arith)
 
 same-length : tie.Need-same-length Inv-loop μ-loop
 same-length c =
-    let l = turn (c .before .before .before .before .before .before .before .before) in
+    let l = turn (c .before .before .before .before .before .before .before .before .before) in
     same-size _ _ _ _ _ _ _ (start l .pre .0) _ _ _ _ _ _ _ _ (l .loop .inv .0)
 
 returns : tie.Need-returns Inv-loop μ-loop
 returns c =
-    let m = c .before .before .before .before .before .before .before .before in
+    let m = c .before .before .before .before .before .before .before .before .before in
     let l = turn m in
     let p = start l .pre in
     let i = l .loop .inv in
@@ -145,17 +153,17 @@ slice-aggregate-put-row-2 c = search needs
 
 mul-put-row : tie.Need-mul-put-row Inv-loop μ-loop
 mul-put-row c =
-    let l = turn (c .before .before .before .before .before .before .before .before) in
+    let l = turn (c .before .before .before .before .before .before .before .before .before) in
     let r = l .loop .inv .0 .room in
-    let e = l .loop .inv .1 .1 in
+    let e = l .loop .inv .1 .1 .0 in
     let z = out-small (start l) in
     omega arith
 
 put-row-requires-2 : tie.Need-put-row-requires-2 Inv-loop μ-loop
 put-row-requires-2 c κs =
-    let m = c .before .before .before .before .before .before .before .before in
+    let m = c .before .before .before .before .before .before .before .before .before in
     let s = start (turn m) in
-    let e = turn m .loop .inv .1 .1 in
+    let e = turn m .loop .inv .1 .1 .0 in
     let f = few-vars s in
     let b = positions-long m in
     let k = room-count _ _ _ _ _ _ _ (s .pre .0) _ _ _ _ _ _ _ _ (turn m .loop .inv .0) in
@@ -167,7 +175,7 @@ put-row-requires-2 c κs =
 
 add-count : tie.Need-add-count Inv-loop μ-loop
 add-count c =
-    let m = c .before .before .before .before .before .before .before .before .before .before .before in
+    let m = c .before .before .before .before .before .before .before .before .before .before .before .before in
     let s = start (turn m) in
     let k = room-count _ _ _ _ _ _ _ (s .pre .0) _ _ _ _ _ _ _ _ (turn m .loop .inv .0) in
     let y = div-le-self (length (now (s .args .out))) (s .args .outline .vars) in
@@ -184,9 +192,9 @@ slice-aggregate-step-past-2 c = search needs
 
 step-past-requires : tie.Need-step-past-requires Inv-loop μ-loop
 step-past-requires c κs =
-    let m = c .before .before .before .before .before .before .before .before .before .before .before .before .before in
+    let m = c .before .before .before .before .before .before .before .before .before .before .before .before .before .before in
     let s = start (turn m) in
-    let e = turn m .loop .inv .1 .1 in
+    let e = turn m .loop .inv .1 .1 .0 in
     let f = few-vars s in
     let b = positions-long m in
     let d = m .next-match .ensures .1 .0 ∙ turn m .loop .inv .0 .lows-length in
@@ -199,29 +207,31 @@ step-past-requires c κs =
 
 loop-less : tie.Need-loop-less Inv-loop μ-loop
 loop-less c =
-    let m = c .before .before .before .before .before .before .before .before .before .before .before .before .before .before .before in
+    let b = c .before .before .before .before .before .before .before .before .before in
+    let m = b .before .before .before .before .before .before .before in
     let s = start (turn m) in
     let k = room-count _ _ _ _ _ _ _ (s .pre .0) _ _ _ _ _ _ _ _ (turn m .loop .inv .0) in
     let q = turn m .loop .inv .1 .0 in
-    let n = c .before .before .before .before .before .before .before .before .before .if2 .left in
+    let n = b .if2 .left in
     omega arith
 
 loop-again : tie.Need-loop-again Inv-loop μ-loop
 loop-again c =
-    let m = c .before .before .before .before .before .before .before .before .before .before .before .before .before .before .before in
+    let b = c .before .before .before .before .before .before .before .before .before in
+    let m = b .before .before .before .before .before .before .before in
     let s = start (turn m) in
     let i = turn m .loop .inv in
     let k = room-count _ _ _ _ _ _ _ (s .pre .0) _ _ _ _ _ _ _ _ (i .0) in
     let q = i .1 .0 in
-    let e = i .1 .1 in
-    let n = c .before .before .before .before .before .before .before .before .before .if2 .left in
-    let t = c .before .before .before .before .before .before .before .before .before .before .if1 .taken in
+    let e = i .1 .1 .0 in
+    let n = b .if2 .left in
+    let t = b .before .if1 .taken in
     let put = rw e at (c .before .before .before .before .before .before .put-row2 .ensures) in
     let step = rw e at (c .before .step-past .ensures) in
     let f = m .next-match .ensures .1 in (
       wrote _ _ _ _ _ _ _ (s .pre .0) _ _ _ _ _ _ _ _ (i .0) _ _ (here-long m) (positions-long m) (sought m true t) (few-vars s)
-          (f .1 .1 .1 .1 t) (omega arith) _ _ _ put (f .0) step,
-      (q, e),
+          (f .1 .1 .1 .1 .0 t) (omega arith) _ _ _ put (f .0) step,
+      (q, (e, paras-long m)),
     )
 
 alone-requires : tie.Need-alone-requires Inv-loop μ-loop
@@ -229,12 +239,12 @@ alone-requires c κs = search needs
 
 same-length-2 : tie.Need-same-length-2 Inv-loop μ-loop
 same-length-2 c =
-    let l = turn (c .before .before .before .before .before .before) in
+    let l = turn (c .before .before .before .before .before .before .before) in
     same-size _ _ _ _ _ _ _ (start l .pre .0) _ _ _ _ _ _ _ _ (l .loop .inv .0)
 
 returns-2 : tie.Need-returns-2 Inv-loop μ-loop
 returns-2 c =
-    let m = c .before .before .before .before .before .before in
+    let m = c .before .before .before .before .before .before .before in
     let l = turn m in
     let p = start l .pre in
     let i = l .loop .inv in
@@ -258,6 +268,7 @@ write-matches-spec =
     slice-aggregate-next-match-3
     slice-aggregate-next-match-4
     slice-aggregate-next-match-5
+    slice-aggregate-next-match-6
     next-match-requires
     slice-aggregate-with-next
     with-next-requires

@@ -4,7 +4,8 @@ use Rattle.matcher.proofs.cursor.leap.Tie as tie
 use Prim.Native.Nat.{_-_, _≤_}
 use native.Mathlib.Omega.{arith}
 use mathlib.Core.Path.{_∙_}
-use Rattle.matcher.proofs.Laws.Cursors.{Galloped, galloped-first, galloped-next, galloped-hit, galloped-end, stretch-within}
+use Rattle.matcher.specs.Inner.Cursors.{Galloped}
+use Rattle.matcher.proofs.Laws.Cursors.{galloped-first, galloped-next, galloped-hit, galloped-end, stretch-within}
 
 abbrev Inv-loop : tie.InvT-loop
 Inv-loop volume from end first target low₀ step₀ low step = Galloped volume target from end low × (1 ≤ step)

@@ -6,8 +6,8 @@ use native.Mathlib.Omega.{arith}
 use mathlib.Core.Path.{_≡_, _∙_}
 use mathlib.Core.Logic.{⊎-elim}
 use denote.Ref.{now}
-use Rattle.matcher.specs.Inner.Cursors.{seekFrom}
-use Rattle.matcher.proofs.Laws.Cursors.{Galloped, galloped-first, galloped-end, stretch-within, window-hit, window-passed}
+use Rattle.matcher.specs.Inner.Cursors.{seekFrom, Galloped}
+use Rattle.matcher.proofs.Laws.Cursors.{galloped-first, galloped-end, stretch-within, window-hit, window-passed}
 
 sub-if1 : tie.Need-sub-if1
 sub-if1 c = let o = c .before .pre .order in omega arith

@@ -65,29 +65,32 @@ slice-aggregate-match-from-3 c = search needs
 slice-aggregate-match-from-4 : tie.Need-slice-aggregate-match-from-4
 slice-aggregate-match-from-4 c = search needs
 
+slice-aggregate-match-from-5 : tie.Need-slice-aggregate-match-from-5
+slice-aggregate-match-from-5 c = search needs
+
 match-from-requires : tie.Need-match-from-requires
 match-from-requires c κs =
-    let s = c .before .before .before .before .before .before .before .before .before .before .before .before .before .before .before .before .before .before .before .before .pre in
-    let a = c .before .before .before .before .before .before .before .before .before .before .before .before .before .before .before .before .before .before .before .before .args in
-    let stood = c .before .before .before .before .before .before .before .before .before .before .before .before .before .before .stand-at in
-    let yes = not-false _ (c .before .before .before .before .before .before .before .before .before .before .before .if1 .left) in
+    let s = c .before .before .before .before .before .before .before .before .before .before .before .before .before .before .before .before .before .before .before .before .before .pre in
+    let a = c .before .before .before .before .before .before .before .before .before .before .before .before .before .before .before .before .before .before .before .before .before .args in
+    let stood = c .before .before .before .before .before .before .before .before .before .before .before .before .before .before .before .stand-at in
+    let yes = not-false _ (c .before .before .before .before .before .before .before .before .before .before .before .before .if1 .left) in
     let n = s .number in
     let m = s .outlines .vars-are in
     let q = few-vars s in
     let ends = stood .ensures .1 .0 in
     let here = stood .ensures .1 .1 in
-    let put = c .before .before .before .before .before .before .put-row .kept .1 .1 .0 in
+    let put = c .before .before .before .before .before .before .before .put-row .kept .1 .1 .0 in
     let f = patternAt (now (a .plan)) (a .outline .pattern) in (
-      at-posed s _ (omega arith) (stood .ensures .0 .ends-are yes) _ (c .before .before .before .before .starts-of .ensures),
+      at-posed s _ (omega arith) (stood .ensures .0 .ends-are yes) _ (c .before .before .before .before .before .starts-of .ensures),
       (
-        rw m (c .before .before .before .before .before .before .before .before .before .rarest-first .ensures .0 .each),
+        rw m (c .before .before .before .before .before .before .before .before .before .before .rarest-first .ensures .0 .each),
         (
           omega arith,
           (
             omega arith,
             (
-              front-standing (now (a .volume)) (a .doc) f _ (now (a .positions)) _ n (front (c .before .before .before .before .before .before)) (stood .ensures .0 .standing yes),
-              omega arith,
+              front-standing (now (a .volume)) (a .doc) f _ (now (a .positions)) _ n (front (c .before .before .before .before .before .before .before)) (stood .ensures .0 .standing yes),
+              (omega arith, omega arith),
             ),
           ),
         ),
@@ -96,20 +99,20 @@ match-from-requires c κs =
 
 returns-2 : tie.Need-returns-2
 returns-2 c =
-    let s = c .before .before .before .before .before .before .before .before .before .before .before .before .before .before .before .before .before .before .before .before .before .before .before .pre in
-    let a = c .before .before .before .before .before .before .before .before .before .before .before .before .before .before .before .before .before .before .before .before .before .before .before .args in
+    let s = c .before .before .before .before .before .before .before .before .before .before .before .before .before .before .before .before .before .before .before .before .before .before .before .before .before .pre in
+    let a = c .before .before .before .before .before .before .before .before .before .before .before .before .before .before .before .before .before .before .before .before .before .before .before .before .before .args in
     let ps = now (a .positions) in
     let n = s .number in
     let m = s .outlines .vars-are in
     let q = few-vars s in
-    let put = c .before .before .before .before .before .before .before .before .before .put-row .kept .1 .1 .0 in
-    let found = c .before .before .match-from in
-    let w = found .ensures .1 .1 .1 .same-length in
+    let put = c .before .before .before .before .before .before .before .before .before .before .before .put-row .kept .1 .1 .0 in
+    let found = c .before .before .before .match-from in
+    let w = found .ensures .1 .1 .1 .0 .same-length in
     let qs = found .last .1 .1 .1 .1 .1 .1 .1 .1 .0 in
     let e : a .outline .vars ≡ length ps = omega arith in
     held-match (now (a .volume)) (posed-given s .volume-accepted) (a .doc) (patternAt (now (a .plan)) (a .outline .pattern)) ps (found .result) (take (length ps) qs)
     (length-take-le (length ps) qs (omega arith))
-    (subst (λ (ls : List ℕ). HeldMatch (listsOf (now (a .volume))) (a .doc) (patternAt (now (a .plan)) (a .outline .pattern)) ls (length ps) (found .result) (take (length ps) qs)) (front (c .before .before .before .before .before .before .before .before .before))
+    (subst (λ (ls : List ℕ). HeldMatch (listsOf (now (a .volume))) (a .doc) (patternAt (now (a .plan)) (a .outline .pattern)) ls (length ps) (found .result) (take (length ps) qs)) (front (c .before .before .before .before .before .before .before .before .before .before .before))
     (rw e at (found .ensures .0)))
 
 pub is-match-spec : {M : Type 1} → statement M
@@ -129,5 +132,6 @@ is-match-spec =
     slice-aggregate-match-from-2
     slice-aggregate-match-from-3
     slice-aggregate-match-from-4
+    slice-aggregate-match-from-5
     match-from-requires
     returns-2)

@@ -1,38 +1,44 @@
--- The rows of the true documents below `from` are laid, the walk goes on there (`Visiting`), and `known` has answers of the plan. Each turn
--- ends in an answer or a later document.
+-- The rows of the true documents below `from` are laid, the walk goes on there (`Visiting`), `known` has answers of the plan, and `block`
+-- begins within the stream. Each turn ends in an answer or a later document.
 use Rattle.search.proofs.listing.list_docs.Statement.{statement}
 use Rattle.search.proofs.listing.list_docs.Tie as tie
-use Prim.Native.Nat.{_-_, _/_, _<_, _≤_}
+use Prim.Native.Nat.{_-_, _*_, _/_, _<_, _≤_}
 use native.Mathlib.Omega.{arith}
-use mathlib.Core.Path.{_≡_, refl, sym, subst, _∙_}
+use mathlib.Core.Path.{_≡_, refl, sym, ap, subst, _∙_}
 use lib.ListN.{length, take}
 use lib.Seq.{length-take-le}
 use borrow.Author.Tests.{not-true, not-false}
 use denote.Ref.{now}
-use Rattle.plan.specs.Limits.{mostPatterns, rowWords}
+use Rattle.plan.specs.Limits.{mostPatterns, mostVars, rowWords, mostRowWords}
+use Rattle.volume.specs.Layout.{streamLength, listsOf}
 use Rattle.plan.specs.Check.{sizes}
 use Rattle.plan.specs.Inner.Stack.{mostFoundSets, Remembers}
 use Rattle.plan.proofs.Laws.Accepted.{given}
 use Rattle.plan.proofs.Laws.Stack.{found-small, remembers-first, remembers-next}
+use Rattle.fulltext.specs.Matches.{startsIn}
 use Rattle.fulltext.specs.Documents.{work}
 use Rattle.fulltext.proofs.Laws.Counts.{work-even}
+use Rattle.matcher.specs.Inner.Cursors.{sought}
 use Rattle.search.proofs.Laws.Loop.{Progress, same-size}
-use Rattle.search.proofs.Laws.Seen.{walking-first, seen-true}
+use Rattle.search.proofs.Laws.Seen.{at-document, starts-stretch, block-first, walking-first, seen-true}
 use Rattle.search.specs.Inner.Rows.{rowBy}
 use Rattle.search.proofs.Laws.Walk.{walk-within}
 use Rattle.search.proofs.Laws.Visits.{Visiting, visiting-first, visiting-part, part-length, visit-reached, visit-wide, visit-passed}
-use Rattle.search.proofs.Laws.Visits.{visit-put, visit-room, visit-words, visit-rows, visit-few, visit-done, visit-more}
+use Rattle.search.proofs.Laws.Visits.{visit-small, visit-put, visit-room, visit-words, visit-rows, visit-few, visit-done, visit-more}
 
 abbrev Inv-loop : tie.InvT-loop
-Inv-loop volume plan table orders start firsts ends ats₀ positions₀ out₀ patterns width room paras starts₀ docs₀ known₀ rows₀ from₀ ats
-    positions out starts docs known rows from =
+Inv-loop volume plan table orders start firsts ends ats₀ positions₀ out₀ patterns width room starts blocks block₀ paras₀ docs₀ known₀ rows₀
+    from₀ ats positions out block paras docs known rows from =
     Visiting volume plan ends start out₀ ats positions (take patterns docs) out from rows starts
     × ((length docs ≡ mostPatterns)
-    × ((length ats ≡ length ats₀) × ((length known ≡ mostFoundSets) × (Remembers plan known × (length positions ≡ length positions₀)))))
+    × ((length ats ≡ length ats₀)
+    × ((length known ≡ mostFoundSets)
+    × (Remembers plan known
+    × ((length positions ≡ length positions₀) × ((length paras ≡ mostVars) × (126 * block ≤ streamLength volume)))))))
 
 abbrev μ-loop : tie.MeasureT-loop
-μ-loop volume plan table orders start firsts ends ats₀ positions₀ out₀ patterns width room paras starts₀ docs₀ known₀ rows₀ from₀ ats
-    positions out starts docs known rows from =
+μ-loop volume plan table orders start firsts ends ats₀ positions₀ out₀ patterns width room starts blocks block₀ paras₀ docs₀ known₀ rows₀
+    from₀ ats positions out block paras docs known rows from =
     65537 - from
 
 -- the places that the answers speak of, each from the one behind it
@@ -40,25 +46,25 @@ abbrev entry-of : tie.After-slice-known3 Inv-loop μ-loop → tie.Start Inv-loop
 entry-of c = c .before .before .before .before .before .before .before .before .before
 
 abbrev start-of : tie.At-loop Inv-loop μ-loop → tie.Start Inv-loop μ-loop
-start-of c = entry-of (c .before .before .before .before)
+start-of c = entry-of (c .before .before .before .before .before .before)
 
 abbrev words-of : tie.At-loop Inv-loop μ-loop → tie.After-row-words Inv-loop μ-loop
-words-of c = c .before .before .before
+words-of c = c .before .before .before .before .before
 
 abbrev turn-of : tie.After-visit Inv-loop μ-loop → tie.At-loop Inv-loop μ-loop
-turn-of c = c .before .before .before .before
+turn-of c = c .before .before .before .before .before
 
 abbrev seen-of : tie.Else1 Inv-loop μ-loop → tie.After-visit Inv-loop μ-loop
-seen-of c = c .before .before .before .before .before .before
+seen-of c = c .before .before .before .before .before .before .before
 
 abbrev found-of : tie.After-answer-of Inv-loop μ-loop → tie.Else1 Inv-loop μ-loop
-found-of c = c .before .before .before
+found-of c = c .before .before
 
 abbrev told-of : tie.Else2 Inv-loop μ-loop → tie.After-answer-of Inv-loop μ-loop
 told-of c = c .before .before
 
 abbrev last-seen : tie.After-tally Inv-loop μ-loop → tie.After-visit Inv-loop μ-loop
-last-seen c = c .before .before .before .before .before .before .before
+last-seen c = c .before .before .before .before .before .before .before .before
 
 abbrev true-of : tie.After-slice-known6 Inv-loop μ-loop → tie.Else2 Inv-loop μ-loop
 true-of c = c .before .before .before .before .before .before
@@ -71,17 +77,19 @@ wide : (c : tie.After-row-words Inv-loop μ-loop) → let start = entry-of (c .b
     c .row-words .result ≡ rowWords (sizes (now (start .args .plan)) .patterns) (sizes (now (start .args .plan)) .vars)
 wide c = let start = entry-of (c .before) in let e = c .row-words .ensures in let m = many start in let f = start .pre .1 .1 .0 in omega arith
 
-few : (c : tie.Start Inv-loop μ-loop) → (sizes (now (c .args .plan)) .patterns ≤ mostPatterns) × (rowWords (sizes (now (c .args .plan)) .patterns) (sizes (now (c .args .plan)) .vars) ≤ 59)
+few : (c : tie.Start Inv-loop μ-loop)
+    → (sizes (now (c .args .plan)) .patterns ≤ mostPatterns)
+    × (rowWords (sizes (now (c .args .plan)) .patterns) (sizes (now (c .args .plan)) .vars) ≤ mostRowWords)
 few c = visit-few _ _ _ _ _ (c .pre .0)
 
 -- the rows laid when the next document is reached
 reached : (c : tie.After-visit Inv-loop μ-loop) → let turn = turn-of c in let start = start-of turn in
     Progress (work (now (start .args .volume)) (now (start .args .plan))) (start .args .start) (now (start .args .out)) (c .visit .result .doc) (turn .loop .rows) (turn .loop .out)
-reached c = visit-reached _ _ _ _ _ _ _ _ _ _ (c .visit .ensures) _ _ (turn-of c .loop .inv .0 .progress)
+reached c = visit-reached _ _ _ _ _ _ _ _ _ _ _ (c .visit .ensures .0) _ _ (turn-of c .loop .inv .0 .progress)
 
 -- it is a document
 inside : (c : tie.Else1 Inv-loop μ-loop) → seen-of c .visit .result .doc < 65536
-inside c = let l = seen-of c .visit .ensures .most in let n = c .if1 .left in omega arith
+inside c = let l = seen-of c .visit .ensures .0 .most in let n = c .if1 .left in omega arith
 
 -- the arrays keep their lengths
 docs-size : (c : tie.After-visit Inv-loop μ-loop) → let turn = turn-of c in let start = start-of turn in
@@ -93,13 +101,16 @@ ats-size c = c .visit .kept .1 .1 .1 .1 .1 .0 ∙ turn-of c .loop .inv .1 .1 .0
 
 positions-size : (c : tie.After-visit Inv-loop μ-loop)
     → length (c .visit .last .1 .1 .1 .1 .1 .1 .1 .0) ≡ length (now (start-of (turn-of c) .args .positions))
-positions-size c = c .visit .kept .1 .1 .1 .1 .1 .1 .1 .0 ∙ turn-of c .loop .inv .1 .1 .1 .1 .1
+positions-size c = c .visit .kept .1 .1 .1 .1 .1 .1 .1 .0 ∙ turn-of c .loop .inv .1 .1 .1 .1 .1 .0
+
+paras-size : (c : tie.After-visit Inv-loop μ-loop) → length (c .visit .last .1 .1 .1 .1 .1 .1 .1 .1 .1 .0) ≡ mostVars
+paras-size c = c .visit .ensures .1 ∙ turn-of c .loop .inv .1 .1 .1 .1 .1 .1 .0
 
 -- the bits of the found patterns are below 256
 bits-small : (c : tie.Else1 Inv-loop μ-loop) → seen-of c .visit .result .found < mostFoundSets
 bits-small c =
     let start = start-of (turn-of (seen-of c)) in
-    rw (seen-of c .visit .ensures .found-are (inside c)) (found-small _ (now (start .args .plan)) (few start .0))
+    rw (seen-of c .visit .ensures .0 .found-are (inside c)) (found-small _ (now (start .args .plan)) (few start .0))
 
 -- whether the document is true
 told : (c : tie.After-answer-of Inv-loop μ-loop) → let seen = seen-of (found-of c) in let start = start-of (turn-of seen) in
@@ -107,7 +118,8 @@ told : (c : tie.After-answer-of Inv-loop μ-loop) → let seen = seen-of (found-
 told c =
     let seen = seen-of (found-of c) in
     let start = start-of (turn-of seen) in
-    seen-true (now (start .args .volume)) (now (start .args .plan)) (seen .visit .result .found) (seen .visit .result .doc) (c .answer-of .result) (c .answer-of .ensures .0) (seen .visit .ensures .found-are (inside (found-of c)))
+    seen-true (now (start .args .volume)) (now (start .args .plan)) (seen .visit .result .found) (seen .visit .result .doc)
+    (c .answer-of .result) (c .answer-of .ensures .0) (seen .visit .ensures .0 .found-are (inside (found-of c)))
 
 -- one answer more is known
 known-size : (c : tie.After-answer-of Inv-loop μ-loop) → length (c .answer-of .last .1 .1 .0) ≡ mostFoundSets
@@ -133,25 +145,33 @@ row-words-requires c κs = omega arith
 div-room : tie.Need-div-room Inv-loop μ-loop
 div-room c = let w = wide c in omega arith
 
-has-samepara-requires : tie.Need-has-samepara-requires Inv-loop μ-loop
-has-samepara-requires c κs = let start = entry-of (c .before) in (now (start .args .volume), start .pre .0 .accepted)
-
 starts-of-requires : tie.Need-starts-of-requires Inv-loop μ-loop
-starts-of-requires c κs = given _ _ (entry-of (c .before .before) .pre .0 .accepted) .volume-accepted
+starts-of-requires c κs = given _ _ (entry-of (c .before) .pre .0 .accepted) .volume-accepted
+
+seek-requires : tie.Need-seek-requires Inv-loop μ-loop
+seek-requires c κs = rw (c .starts-of .ensures) (starts-stretch _ _ _ _ _ (entry-of (c .before .before) .pre .0))
+
+blocks-of-requires : tie.Need-blocks-of-requires Inv-loop μ-loop
+blocks-of-requires c κs = tt
 
 loop-holds : tie.Need-loop-holds Inv-loop μ-loop
 loop-holds c =
-    let start = entry-of (c .before .before .before) in
+    let start = entry-of (c .before .before .before .before .before) in
     let p = start .pre in
     let f = p .1 .1 .0 in
     let low : start .args .start ≤ 65536 = let l = p .1 .1 .1 .0 in omega arith in
     let m = many start in
-    let n = few start .0 in (
+    let n = few start .0 in
+    let s = c .before .before .before .starts-of .ensures in
+    let at = c .before .before .seek .ensures .0 ∙ ap (sought (now (start .args .volume)) (start .args .start * 65536)) s in (
       visiting-first _ _ _ _ _ _ _ _ _ low
           (walking-first _ _ _ _ _ (p .0) _ (now (start .args .firsts)) _ _ _ low (omega arith) (p .1 .1 .1 .1 .1 .1 .0) (p .1 .1 .1 .1 .0)
           (p .1 .1 .1 .1 .1 .0)
-          (length-take-le (length (now (start .args .table)) / 4) _ (omega arith) ∙ m) _ (c .starts-of .ensures)),
-      (refl, (refl, (refl, (remembers-first (now (start .args .plan)) mostFoundSets, refl)))),
+          (length-take-le (length (now (start .args .table)) / 4) _ (omega arith) ∙ m) _ at),
+      (
+        refl,
+        (refl, (refl, (remembers-first (now (start .args .plan)) mostFoundSets, (refl, (refl, block-first _ _ _ _ _ (p .0) _ _ at))))),
+      ),
     )
 
 array-borrow-prefix-docs : tie.Need-array-borrow-prefix-docs Inv-loop μ-loop
@@ -172,19 +192,27 @@ slice-aggregate-visit c =
     let l = turn .loop .inv .1 .0 in
     sym (length-take-le (length (now (start .args .table)) / 4) _ (omega arith))
 
+slice-aggregate-visit-2 : tie.Need-slice-aggregate-visit-2 Inv-loop μ-loop
+slice-aggregate-visit-2 c = sym (c .before .before .before .before .loop .inv .1 .1 .1 .1 .1 .1 .0)
+
 visit-requires : tie.Need-visit-requires Inv-loop μ-loop
-visit-requires c κs = let turn = c .before .before .before in (start-of turn .pre .0, turn .loop .inv .0 .walking)
+visit-requires c κs =
+    let turn = c .before .before .before .before in
+    let start = start-of turn in
+    let m = given _ _ (start .pre .0 .accepted) .most-vars in
+    let l = turn .loop .inv .1 .1 .1 .1 .1 .1 .0 in
+    (start .pre .0, (turn .loop .inv .0 .walking, omega arith))
 
 tally-requires : tie.Need-tally-requires Inv-loop μ-loop
 tally-requires c κs =
-    let seen = c .before .before .before .before .before .before in
+    let seen = c .before .before .before .before .before .before .before in
     let p = start-of (turn-of seen) .pre in
     let e = p .1 .1 .0 in
     let r = p .0 .ends-room in
-    (p .0 .accepted, (e, (omega arith, (reached seen .from, (seen .visit .ensures .most, p .1 .1 .1 .1 .0)))))
+    (p .0 .accepted, (e, (omega arith, (reached seen .from, (seen .visit .ensures .0 .most, p .1 .1 .1 .1 .0)))))
 
-cast-t35 : tie.Need-cast-t35 Inv-loop μ-loop
-cast-t35 c = let n = visit-rows _ _ _ _ _ _ _ (reached (last-seen c)) in omega arith
+cast-t41 : tie.Need-cast-t41 Inv-loop μ-loop
+cast-t41 c = let n = visit-rows _ _ _ _ _ _ _ (reached (last-seen c)) in omega arith
 
 same-length : tie.Need-same-length Inv-loop μ-loop
 same-length c = ats-size (last-seen c)
@@ -209,13 +237,13 @@ add-from : tie.Need-add-from Inv-loop μ-loop
 add-from c = let l = inside c in omega arith
 
 slice-aggregate-answer-of : tie.Need-slice-aggregate-answer-of Inv-loop μ-loop
-slice-aggregate-answer-of c = sym (turn-of (seen-of (c .before .before)) .loop .inv .1 .1 .1 .0)
+slice-aggregate-answer-of c = sym (turn-of (seen-of (c .before)) .loop .inv .1 .1 .1 .0)
 
 answer-of-requires : tie.Need-answer-of-requires Inv-loop μ-loop
 answer-of-requires c κs =
-    let turn = turn-of (seen-of (c .before .before)) in
+    let turn = turn-of (seen-of (c .before)) in
     let start = start-of turn in
-    let b = bits-small (c .before .before) in
+    let b = bits-small (c .before) in
     let l = turn .loop .inv .1 .1 .1 .0 in
     ((now (start .args .volume), start .pre .0 .accepted), (turn .loop .inv .1 .1 .1 .1 .0, omega arith))
 
@@ -224,7 +252,7 @@ loop-less c =
     let told-at = c .before .before in
     let found = found-of told-at in
     let l = inside found in
-    let f = seen-of found .visit .ensures .later in
+    let f = seen-of found .visit .ensures .0 .later in
     omega arith
 
 loop-again : tie.Need-loop-again Inv-loop μ-loop
@@ -233,14 +261,15 @@ loop-again c =
     let found = found-of told-at in
     let seen = seen-of found in
     let turn = turn-of seen in
-    let start = start-of turn in (
+    let start = start-of turn in
+    let within = turn .loop .inv .1 .1 .1 .1 .1 .1 .1 in (
       visiting-part _ _ _ _ _ _ _ _ _ _ _ _ _ _ (many start)
-          (visit-passed _ _ _ _ _ _ _ _ _ _ (seen .visit .ensures) _ _ (turn .loop .inv .0 .progress) (inside found)
+          (visit-passed _ _ _ _ _ _ _ _ _ _ _ (seen .visit .ensures .0) _ _ (turn .loop .inv .0 .progress) (inside found)
           (told told-at ∙ not-true _ (c .if2 .taken))),
       (
         part-length (turn .loop .docs) (seen .visit .last .1 .1 .1 .1 .1 .1 .1 .1 .0) (length (now (start .args .table)) / 4) 8
             (docs-size seen) (turn .loop .inv .1 .0),
-        (ats-size seen, (known-size told-at, (remembers told-at, positions-size seen))),
+        (ats-size seen, (known-size told-at, (remembers told-at, (positions-size seen, (paras-size seen, within))))),
       ),
     )
 
@@ -250,10 +279,10 @@ tally-requires-2 c κs =
     let p = start-of (turn-of seen) .pre in
     let e = p .1 .1 .0 in
     let r = p .0 .ends-room in
-    (p .0 .accepted, (e, (omega arith, (reached seen .from, (seen .visit .ensures .most, p .1 .1 .1 .1 .0)))))
+    (p .0 .accepted, (e, (omega arith, (reached seen .from, (seen .visit .ensures .0 .most, p .1 .1 .1 .1 .0)))))
 
-cast-t39 : tie.Need-cast-t39 Inv-loop μ-loop
-cast-t39 c = let n = visit-rows _ _ _ _ _ _ _ (reached (seen-of (found-of (told-of (c .before .before))))) in omega arith
+cast-t45 : tie.Need-cast-t45 Inv-loop μ-loop
+cast-t45 c = let n = visit-rows _ _ _ _ _ _ _ (reached (seen-of (found-of (told-of (c .before .before))))) in omega arith
 
 same-length-4 : tie.Need-same-length-4 Inv-loop μ-loop
 same-length-4 c = ats-size (seen-of (found-of (told-of (c .before .before))))
@@ -280,12 +309,13 @@ returns-2 c =
 row-wide :
     (c : tie.Else1 Inv-loop μ-loop)
     → let seen = seen-of c in let start = start-of (turn-of seen) in let table = now (start .args .table) in let r = seen .visit .result in
-    length (rowBy table (r .doc) (r .found) (seen .visit .last .1 .1 .1 .1 .1 .1 .1 .0) (length table / 4))
+    length (rowBy (startsIn (listsOf (now (start .args .volume))) (r .doc)) table (r .doc) (r .found)
+    (seen .visit .last .1 .1 .1 .1 .1 .1 .1 .0) (length table / 4))
     ≡ rowWords (sizes (now (start .args .plan)) .patterns) (sizes (now (start .args .plan)) .vars)
 row-wide c =
     let seen = seen-of c in
     let start = start-of (turn-of seen) in
-    visit-wide _ _ _ _ _ (start .pre .0) _ _ _ _ _ (seen .visit .ensures) (inside c) _ (many start)
+    visit-wide _ _ _ _ _ (start .pre .0) _ _ _ _ _ _ (seen .visit .ensures .0) (inside c) _ (many start)
 
 mul-write-row : tie.Need-mul-write-row Inv-loop μ-loop
 mul-write-row c =
@@ -303,14 +333,30 @@ write-row-requires c κs =
     let seen = seen-of found in
     let turn = turn-of seen in
     let start = start-of turn in
+    let walking = turn .loop .inv .0 .walking in
     let w = wide (words-of turn) in
     let l = row-wide found in
     let r = visit-room _ _ _ _ _ _ (turn .loop .rows) _ w (turn .loop .inv .0 .progress) (c .before .before .if3 .left) in
-    let reach = seen .visit .ensures .walking (inside found) .positions-room in
+    let reach = seen .visit .ensures .0 .walking (inside found) .positions-room in
     let m = many start in
     let t = start .pre .1 .0 in (
-      omega arith,
-      (λ k h. let v = walk-within _ _ _ _ _ (start .pre .0) k (omega arith) in omega arith, omega arith),
+      given _ _ (start .pre .0 .accepted) .volume-accepted,
+      (
+        at-document _ _ _ _ (seen .visit .ensures .0 .later) (inside found) (walking .starts-at) (walking .starts-end),
+        (
+          turn .before .before .blocks-of .ensures,
+          (
+            turn .loop .inv .1 .1 .1 .1 .1 .1 .1,
+            (
+              omega arith,
+              (
+                λ k h. let v = walk-within _ _ _ _ _ (start .pre .0) k (omega arith) in omega arith,
+                (visit-small _ _ _ _ _ (start .pre .0) _ _ _ _ _ _ (seen .visit .ensures .0) (inside found) _ (many start), omega arith),
+              ),
+            ),
+          ),
+        ),
+      ),
     )
 
 add-rows : tie.Need-add-rows Inv-loop μ-loop
@@ -320,7 +366,7 @@ loop-less-2 : tie.Need-loop-less-2 Inv-loop μ-loop
 loop-less-2 c =
     let found = found-of (told-of (true-of c)) in
     let l = inside found in
-    let f = seen-of found .visit .ensures .later in
+    let f = seen-of found .visit .ensures .0 .later in
     omega arith
 
 loop-again-2 : tie.Need-loop-again-2 Inv-loop μ-loop
@@ -329,16 +375,16 @@ loop-again-2 c =
     let found = found-of told-at in
     let seen = seen-of found in
     let turn = turn-of seen in
-    let start = start-of turn in (
+    let start = start-of turn in
+    let wrote = c .before .before .write-row .ensures in (
       visiting-part _ _ _ _ _ _ _ _ _ _ _ _ _ _ (many start)
-          (visit-put _ _ _ _ _ _ _ _ _ _ (seen .visit .ensures) _ _ (turn .loop .inv .0 .progress) (inside found)
+          (visit-put _ _ _ _ _ _ _ _ _ _ _ (seen .visit .ensures .0) _ _ (turn .loop .inv .0 .progress) (inside found)
           (told told-at ∙ not-false _ (true-of c .if2 .left)) _ (wide (words-of turn))
-          (c .before .before .before .before .before .if3 .left) _ _ (start .pre .0) _ (many start) _
-          (c .before .before .write-row .ensures)),
+          (c .before .before .before .before .before .if3 .left) _ _ (start .pre .0) _ (many start) _ (wrote .0)),
       (
         part-length (turn .loop .docs) (seen .visit .last .1 .1 .1 .1 .1 .1 .1 .1 .0) (length (now (start .args .table)) / 4) 8
             (docs-size seen) (turn .loop .inv .1 .0),
-        (ats-size seen, (known-size told-at, (remembers told-at, positions-size seen))),
+        (ats-size seen, (known-size told-at, (remembers told-at, (positions-size seen, (paras-size seen, wrote .1))))),
       ),
     )
 
@@ -352,14 +398,16 @@ list-docs-spec =
     cast-row-words-2
     row-words-requires
     div-room
-    has-samepara-requires
     starts-of-requires
+    seek-requires
+    blocks-of-requires
     loop-holds
     array-borrow-prefix-docs
     slice-aggregate-visit
+    slice-aggregate-visit-2
     visit-requires
     tally-requires
-    cast-t35
+    cast-t41
     same-length
     same-length-2
     same-length-3
@@ -370,7 +418,7 @@ list-docs-spec =
     loop-less
     loop-again
     tally-requires-2
-    cast-t39
+    cast-t45
     same-length-4
     same-length-5
     same-length-6

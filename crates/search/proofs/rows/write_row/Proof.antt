@@ -1,223 +1,227 @@
--- `rows::write_row` meets its contract. The invariants: of the outer loop, the row is written up to pattern k (`Writing`); of the inner
--- loop, so are the pattern's flag and its first x positions. The measures are what is left of the patterns, and of the pattern's variables.
--- Assumes nothing.
+-- `rows::write_row` meets its contract. The invariant of its loop: the row is written up to pattern k (`Writing`), and the block in
+-- which the last start was found begins within the stream. The measure is what is left of the patterns. Assumes nothing.
 use Prim.Native.Nat.{ℕ, _+_, _-_, _*_, _%_, _<_, _≤_}
 use native.Mathlib.Omega.{arith}
-use mathlib.Core.Path.{_≡_, ap, _∙_}
-use lib.ListN.{length, getD, set, length-set}
+use mathlib.Core.Path.{_≡_, sym, ap, ap₂, _∙_, subst}
+use mathlib.Core.Logic.{⊎-elim}
+use mathlib.Core.List.{List}
+use lib.ListN.{length, take, drop, set, length-set}
 use denote.Ref.{now}
-use Rattle.seq.specs.Numbers.{run}
+use Rattle.seq.proofs.Laws.Slices.{length-slice}
+use Rattle.volume.specs.Layout.{streamLength, listsOf}
 use Rattle.plan.specs.declared.outline.Outline.{Outline}
-use Rattle.search.specs.Inner.Rows.{flagged}
-use Rattle.search.proofs.Laws.Rows.{Stored, stored-one, stored-next, flagged-next, length-flagged, flag-small, row-first, row-le}
+use Rattle.plan.specs.Inner.Outline.{outlineAt}
+use Rattle.fulltext.specs.Matches.{startsIn}
+use Rattle.matcher.specs.Inner.Shortfall.{InDocument}
+use Rattle.search.specs.Inner.Rows.{rowBy}
+use Rattle.search.proofs.Laws.Rows.{row-first, row-le, found-stored, unfound-stored}
 use Rattle.search.proofs.Laws.Rows.{Writing, writing-first, writing-room, writing-next, writing-done}
 use Rattle.search.proofs.rows.write_row.Statement.{statement}
 use Rattle.search.proofs.rows.write_row.Tie as tie
 
-abbrev Inv-loop2 : tie.InvT-loop2
-Inv-loop2 table patterns doc found positions out₀ from to left k outline first flag x₀ out x =
-    (x ≤ outline .vars) × Stored (flagged flag (λ y. getD positions (first + y) 0) x) out₀ to out
-
-abbrev μ-loop2 : tie.MeasureT-loop2
-μ-loop2 table patterns doc found positions out₀ from to left k outline first flag x₀ out x = outline .vars - x
-
 abbrev Inv-loop : tie.InvT-loop
-Inv-loop table patterns doc found positions out₀ from to₀ left₀ k₀ out to left k =
-    Writing table doc found positions out₀ from patterns out to left k
+Inv-loop volume document blocks block table patterns found positions out₀ from near₀ to₀ left₀ k₀ out near to left k =
+    Writing (startsIn (listsOf volume) (document .doc)) table (document .doc) found positions out₀ from patterns out to left k
+    × (126 * near ≤ streamLength volume)
 
 abbrev μ-loop : tie.MeasureT-loop
-μ-loop table patterns doc found positions out₀ from to₀ left₀ k₀ out to left k = patterns - k
+μ-loop volume document blocks block table patterns found positions out₀ from near₀ to₀ left₀ k₀ out near to left k = patterns - k
 
 -- the places that the answers speak of, each from the one behind it
-abbrev start-of : tie.At-loop Inv-loop2 μ-loop2 Inv-loop μ-loop → tie.Start Inv-loop2 μ-loop2 Inv-loop μ-loop
-start-of c = c .before .before .before .before
+abbrev entry-of : tie.After-slice-known Inv-loop μ-loop → tie.Start Inv-loop μ-loop
+entry-of c = c .before .before .before .before
 
-abbrev round-of : tie.After-outline-at Inv-loop2 μ-loop2 Inv-loop μ-loop → tie.At-loop Inv-loop2 μ-loop2 Inv-loop μ-loop
+abbrev start-of : tie.At-loop Inv-loop μ-loop → tie.Start Inv-loop μ-loop
+start-of c = entry-of (c .before)
+
+abbrev round-of : tie.After-outline-at Inv-loop μ-loop → tie.At-loop Inv-loop μ-loop
 round-of c = c .before .before
 
+-- the starts of the document
+abbrev starts : tie.Start Inv-loop μ-loop → List ℕ
+starts c = startsIn (listsOf (now (c .args .volume))) (c .args .document .doc)
+
 -- the row has a word for the document
-some-word : (c : tie.Start Inv-loop2 μ-loop2 Inv-loop μ-loop) → c .args .from < length (now (c .args .out))
+some-word : (c : tie.Start Inv-loop μ-loop) → c .args .from < length (now (c .args .out))
 some-word c =
     let a = c .args in
-    let r = c .pre .1 .1 in
-    let f = ap length (row-first (now (a .table)) (a .doc) (a .found) (now (a .positions))) in
-    let l = row-le (now (a .table)) (a .doc) (a .found) (now (a .positions)) 0 (a .patterns) (omega arith) in
+    let r = c .pre .1 .1 .1 .1 .1 .1 .1 in
+    let f = ap length (row-first (starts c) (now (a .table)) (a .document .doc) (a .found) (now (a .positions))) in
+    let l = row-le (starts c) (now (a .table)) (a .document .doc) (a .found) (now (a .positions)) 0 (a .patterns) (omega arith) in
     omega arith
 
--- there is room for pattern k
-room : (c : tie.After-outline-at Inv-loop2 μ-loop2 Inv-loop μ-loop)
-    → round-of c .loop .to + 1 + c .outline-at .result .vars ≤ length (round-of c .loop .out)
-room c =
-    let round = round-of c in
-    let start = start-of round in
-    let l = round .loop in
-    let n = length-set (now (start .args .out)) (start .args .from) (start .args .doc) in
-    let r = start .pre .1 .1 in
-    let w = writing-room _ _ _ _ _ _ _ (l .out) (l .to) (l .left) (l .k) (l .inv) (c .before .loop-test .taken) (omega arith) in
-    let e = ap (λ (o : Outline). o .vars) (c .outline-at .ensures) in
+mul-out : tie.Need-mul-out Inv-loop μ-loop
+mul-out c = let w = some-word (entry-of c) in omega arith
+
+slice-write-out : tie.Need-slice-write-out Inv-loop μ-loop
+slice-write-out c = some-word (entry-of c)
+
+add-to : tie.Need-add-to Inv-loop μ-loop
+add-to c = let w = some-word (entry-of c) in omega arith
+
+loop-holds : tie.Need-loop-holds Inv-loop μ-loop
+loop-holds c =
+    let a = entry-of c .args in
+    (writing-first _ _ _ _ _ (now (a .out)) (a .from) (a .patterns) (some-word (entry-of c)), entry-of c .pre .1 .1 .1 .0)
+
+outline-at-requires : tie.Need-outline-at-requires Inv-loop μ-loop
+outline-at-requires c κs = let t = c .loop-test .taken in let r = start-of (c .before) .pre .1 .1 .1 .1 .0 in omega arith
+
+-- the outline that is read is that of pattern k
+first-is : (c : tie.After-outline-at Inv-loop μ-loop)
+    → c .outline-at .result .first ≡ outlineAt (now (start-of (round-of c) .args .table)) (round-of c .loop .k) .first
+first-is c = ap (λ (o : Outline). o .first) (c .outline-at .ensures)
+
+vars-are : (c : tie.After-outline-at Inv-loop μ-loop)
+    → c .outline-at .result .vars ≡ outlineAt (now (start-of (round-of c) .args .table)) (round-of c .loop .k) .vars
+vars-are c = ap (λ (o : Outline). o .vars) (c .outline-at .ensures)
+
+-- the row fits into the buffer, its first word stored
+given : (c : tie.At-loop Inv-loop μ-loop) → let a = start-of c .args in
+    a .from + length (rowBy (starts (start-of c)) (now (a .table)) (a .document .doc) (a .found) (now (a .positions)) (a .patterns))
+    ≤ length (set (now (a .out)) (a .from) (a .document .doc))
+given c =
+    let a = start-of c .args in
+    let n = length-set (now (a .out)) (a .from) (a .document .doc) in
+    let r = start-of c .pre .1 .1 .1 .1 .1 .1 .1 in
     omega arith
 
--- the buffer keeps its length
-same : (c : tie.At-loop Inv-loop2 μ-loop2 Inv-loop μ-loop) → length (c .loop .out) ≡ length (now (start-of c .args .out))
-same c = let a = start-of c .args in c .loop .inv .stored .same-length ∙ length-set (now (a .out)) (a .from) (a .doc)
+-- the buffers reach the variables of pattern k
+record Reach (first vars to positions words room : ℕ) : Type 0 where
+  position : first + vars ≤ positions
+  word : to + 1 + 2 * vars ≤ words
+  same : words ≡ room
 
--- so its end is small
-small : (c : tie.After-outline-at Inv-loop2 μ-loop2 Inv-loop μ-loop)
-    → round-of c .loop .to + 1 + c .outline-at .result .vars < 18446744073709551616
-small c = let r = room c in let s = same (round-of c) in omega arith
-
--- the buffer and the positions reach variable x
-record Reach (first x size to words : ℕ) : Type 0 where
-  position : first + x < size
-  word : to + 1 + x < words
-
-reach :
-    (c : tie.Then1 Inv-loop2 μ-loop2 Inv-loop μ-loop)
-    → let var = c .before .before in let read = var .before in let round = round-of read in let a = start-of round .args in
-    Reach (read .outline-at .result .first) (var .loop2 .x) (length (now (a .positions))) (round .loop .to) (length (now (a .out)))
+reach : (c : tie.After-outline-at Inv-loop μ-loop) → let a = start-of (round-of c) .args in let l = round-of c .loop in
+    Reach (c .outline-at .result .first) (c .outline-at .result .vars) (l .to) (length (now (a .positions))) (length (l .out))
+    (length (now (a .out)))
 reach c =
-    let var = c .before .before in
-    let read = var .before in
-    let round = round-of read in
-    let start = start-of round in
-    let r = room read in
-    let s = same round in
-    let t = c .if1 .taken in
-    let b = start .pre .1 .0 (round .loop .k) (read .before .loop-test .taken) in
-    let e = ap (λ (o : Outline). o .vars) (read .outline-at .ensures) in
-    let f = ap (λ (o : Outline). o .first) (read .outline-at .ensures) in
-    record { position = omega arith; word = omega arith }
+    let round = round-of c in
+    let a = start-of round .args in
+    let l = round .loop in
+    let t = c .before .loop-test .taken in
+    let i = start-of round .pre .1 .1 .1 .1 .1 .0 (l .k) t in
+    let f = first-is c in
+    let v = vars-are c in
+    let w = writing-room _ _ _ _ _ _ _ _ (l .out) (l .to) (l .left) (l .k) (l .inv .0) t i (given round) in record {
+      position = omega arith;
+      word = omega arith;
+      same = l .inv .0 .stored .same-length ∙ length-set (now (a .out)) (a .from) (a .document .doc);
+    }
 
-mul-out : tie.Need-mul-out Inv-loop2 μ-loop2 Inv-loop μ-loop
-mul-out c = let w = some-word (c .before .before .before) in omega arith
+mul-out-2 : tie.Need-mul-out-2 Inv-loop μ-loop
+mul-out-2 c = let r = reach c in omega arith
 
-slice-write-out : tie.Need-slice-write-out Inv-loop2 μ-loop2 Inv-loop μ-loop
-slice-write-out c = some-word (c .before .before .before)
+slice-write-out-2 : tie.Need-slice-write-out-2 Inv-loop μ-loop
+slice-write-out-2 c = let r = reach c .word in omega arith
 
-add-to : tie.Need-add-to Inv-loop2 μ-loop2 Inv-loop μ-loop
-add-to c = let w = some-word (c .before .before .before) in omega arith
+add-to-2 : tie.Need-add-to-2 Inv-loop μ-loop
+add-to-2 c = let r = reach c in omega arith
 
-loop-holds : tie.Need-loop-holds Inv-loop2 μ-loop2 Inv-loop μ-loop
-loop-holds c = writing-first _ _ _ _ (now (c .before .before .before .args .out)) _ _ (some-word (c .before .before .before))
+add-tuple : tie.Need-add-tuple Inv-loop μ-loop
+add-tuple c = let r = reach (c .before) in omega arith
 
-outline-at-requires : tie.Need-outline-at-requires Inv-loop2 μ-loop2 Inv-loop μ-loop
-outline-at-requires c κs = omega arith
+mul-tuple : tie.Need-mul-tuple Inv-loop μ-loop
+mul-tuple c = let r = reach (c .before) in omega arith
 
-mul-out-2 : tie.Need-mul-out-2 Inv-loop2 μ-loop2 Inv-loop μ-loop
-mul-out-2 c = let r = room c in let s = same (round-of c) in omega arith
+sub-tuple : tie.Need-sub-tuple Inv-loop μ-loop
+sub-tuple c = omega arith
 
-slice-write-out-2 : tie.Need-slice-write-out-2 Inv-loop2 μ-loop2 Inv-loop μ-loop
-slice-write-out-2 c = let r = room c in omega arith
+part-tuple-start : tie.Need-part-tuple-start Inv-loop μ-loop
+part-tuple-start c = omega arith
 
-loop2-holds : tie.Need-loop2-holds Inv-loop2 μ-loop2 Inv-loop μ-loop
-unfolding run
-loop2-holds c = let l = round-of c .loop in let r = room c in (omega arith, stored-one (l .out) (l .to) (l .left % 2) (omega arith))
+part-tuple-end : tie.Need-part-tuple-end Inv-loop μ-loop
+part-tuple-end c = reach (c .before) .position
 
-add-out : tie.Need-add-out Inv-loop2 μ-loop2 Inv-loop μ-loop
-add-out c = let r = reach c in omega arith
+-- the positions that are lent are those of pattern k
+own-is : (c : tie.After-outline-at Inv-loop μ-loop) → let o = c .outline-at .result in let a = start-of (round-of c) .args in
+    let outline = outlineAt (now (a .table)) (round-of c .loop .k) in
+    take ((o .first + o .vars) - o .first) (drop (o .first) (now (a .positions)))
+    ≡ take (outline .vars) (drop (outline .first) (now (a .positions)))
+own-is c =
+    let o = c .outline-at .result in
+    let e : (o .first + o .vars) - o .first ≡ o .vars = omega arith in
+    ap₂ (λ (n f : ℕ). take n (drop f (now (start-of (round-of c) .args .positions)))) (e ∙ vars-are c) (first-is c)
 
-mul-out-3 : tie.Need-mul-out-3 Inv-loop2 μ-loop2 Inv-loop μ-loop
-mul-out-3 c = let r = reach c in omega arith
+write-pairs-requires : tie.Need-write-pairs-requires Inv-loop μ-loop
+write-pairs-requires c κs =
+    let read = c .before .before .before in
+    let l = round-of read .loop in
+    let a = start-of (round-of read) .args in
+    let o = read .outline-at .result in
+    let p = start-of (round-of read) .pre in
+    let r = reach read in
+    let w = r .word in
+    let i = r .position in
+    let n = length-set (l .out) (l .to) (l .left % 2) in
+    let e : (o .first + o .vars) - o .first ≡ o .vars = omega arith in
+    let s = length-slice (now (a .positions)) (o .first) ((o .first + o .vars) - o .first) (omega arith) in
+    let bit = ap (λ (b : ℕ). b % 2) (sym (l .inv .0 .left-is)) ∙ c .before .before .if1 .taken in
+    let small = subst InDocument (sym (own-is read)) (p .1 .1 .1 .1 .1 .1 .0 (l .k) (read .before .loop-test .taken) bit) in
+    (p .0, (p .1 .0, (p .1 .1 .0, (l .inv .1, (small, omega arith)))))
 
-shared-slice-read-out : tie.Need-shared-slice-read-out Inv-loop2 μ-loop2 Inv-loop μ-loop
-shared-slice-read-out c = let r = reach (c .before) .position in omega arith
+mul-write-zeros : tie.Need-mul-write-zeros Inv-loop μ-loop
+mul-write-zeros c = let r = reach (c .before) in omega arith
 
-mul-out-4 : tie.Need-mul-out-4 Inv-loop2 μ-loop2 Inv-loop μ-loop
-mul-out-4 c =
-    let var = c .before .before .before in
-    let read = var .before in
-    let round = round-of read in
-    let x = read .outline-at .result .first + var .loop2 .x in
-    let q = getD (now (start-of round .args .positions)) x 0 in
-    let fits = c .shared-slice-known3 .given x in
-    let m = flag-small (round .loop .left % 2) q (omega arith) in
-    omega (arith, fits, m)
-
-add-out-2 : tie.Need-add-out-2 Inv-loop2 μ-loop2 Inv-loop μ-loop
-add-out-2 c = let r = reach (c .before) .word in omega arith
-
-add-out-3 : tie.Need-add-out-3 Inv-loop2 μ-loop2 Inv-loop μ-loop
-add-out-3 c = let r = reach (c .before) .word in omega arith
-
-mul-out-5 : tie.Need-mul-out-5 Inv-loop2 μ-loop2 Inv-loop μ-loop
-mul-out-5 c = let r = reach (c .before) .word in omega arith
-
-slice-write-out-3 : tie.Need-slice-write-out-3 Inv-loop2 μ-loop2 Inv-loop μ-loop
-slice-write-out-3 c =
-    let var = c .before .before .before in
-    let round = round-of (var .before) in
-    let r = reach (c .before) .word in
-    let s = same round in
-    let n = var .loop2 .inv .1 .same-length ∙ length-set (round .loop .out) (round .loop .to) (round .loop .left % 2) in
+write-zeros-requires : tie.Need-write-zeros-requires Inv-loop μ-loop
+write-zeros-requires c κs =
+    let l = round-of (c .before .before) .loop in
+    let r = reach (c .before .before) .word in
+    let n = length-set (l .out) (l .to) (l .left % 2) in
     omega arith
 
-add-x : tie.Need-add-x Inv-loop2 μ-loop2 Inv-loop μ-loop
-add-x c = let r = reach (c .before) .word in omega arith
+mul-to : tie.Need-mul-to Inv-loop μ-loop
+mul-to c = let r = reach (c .before) in omega arith
 
-loop2-less : tie.Need-loop2-less Inv-loop2 μ-loop2 Inv-loop μ-loop
-loop2-less c = let t = c .before .if1 .taken in omega arith
+add-to-3 : tie.Need-add-to-3 Inv-loop μ-loop
+add-to-3 c = let r = reach (c .before) in omega arith
 
-loop2-again : tie.Need-loop2-again Inv-loop2 μ-loop2 Inv-loop μ-loop
-loop2-again c =
-    let var = c .before .before .before in
-    let read = var .before in
-    let round = round-of read in
-    let ps = now (start-of round .args .positions) in
-    let first = read .outline-at .result .first in
-    let flag = round .loop .left % 2 in
-    let l = var .loop2 in
-    let t = c .before .if1 .taken in
-    let r = reach (c .before) .word in
-    let s = same round in
-    let n = length-set (round .loop .out) (round .loop .to) flag in
-    let m = length-flagged flag (λ (y : ℕ). getD ps (first + y) 0) (l .x) in (
-      omega arith,
-      rw (flagged-next flag (λ (y : ℕ). getD ps (first + y) 0) (l .x))
-          (stored-next _ (set (round .loop .out) (round .loop .to) flag) (round .loop .to) (l .out) (l .inv .1) (omega arith) _
-          (flag * getD ps (first + l .x) 0) (omega arith)),
-    )
+add-k : tie.Need-add-k Inv-loop μ-loop
+add-k c = let t = c .before .before .loop-test .taken in omega arith
 
-add-to-2 : tie.Need-add-to-2 Inv-loop2 μ-loop2 Inv-loop μ-loop
-add-to-2 c = let r = small (c .before .before .before .before) in omega arith
+loop-less : tie.Need-loop-less Inv-loop μ-loop
+loop-less c = let t = c .before .before .loop-test .taken in omega arith
 
-add-to-3 : tie.Need-add-to-3 Inv-loop2 μ-loop2 Inv-loop μ-loop
-add-to-3 c = let r = small (c .before .before .before .before) in omega arith
-
-add-k : tie.Need-add-k Inv-loop2 μ-loop2 Inv-loop μ-loop
-add-k c = omega arith
-
-loop-less : tie.Need-loop-less Inv-loop2 μ-loop2 Inv-loop μ-loop
-loop-less c = let t = c .before .before .before .before .before .loop-test .taken in omega arith
-
-loop-again : tie.Need-loop-again Inv-loop2 μ-loop2 Inv-loop μ-loop
+loop-again : tie.Need-loop-again Inv-loop μ-loop
 loop-again c =
-    let var = c .before .before .before in
-    let read = var .before in
-    let round = round-of read in
-    let start = start-of round in
-    let l = round .loop in
-    let i = var .loop2 in
-    let n = length-set (now (start .args .out)) (start .args .from) (start .args .doc) in
-    let r = start .pre .1 .1 in
-    let done : i .x ≡ read .outline-at .result .vars = let t = c .before .if1 .left in let m = i .inv .0 in omega arith in
-    writing-next _ _ _ _ _ _ _ (l .out) (l .to) (l .left) (l .k) (l .inv) (read .before .loop-test .taken) (omega arith) (i .out)
-    (read .outline-at .result .first) (read .outline-at .result .vars) (ap (λ (o : Outline). o .first) (read .outline-at .ensures))
-    (ap (λ (o : Outline). o .vars) (read .outline-at .ensures)) (rw done at (i .inv .1))
+    let read = c .before in
+    let l = round-of read .loop in
+    let w = l .inv .0 in
+    let o = read .outline-at .result in
+    let t = read .before .loop-test .taken in
+    let i = start-of (round-of read) .pre .1 .1 .1 .1 .1 .0 (l .k) t in
+    let g = given (round-of read) in
+    ⊎-elim
+    (λ x. rw (x .6, x .7) (
+      writing-next _ _ _ _ _ _ _ _ (l .out) (l .to) (l .left) (l .k) w t i g _ (o .vars) (vars-are read)
+          (found-stored _ _ _ _ _ _ _ _ (l .out) (l .to) (l .left) (l .k) w t i g (x .0 .taken) _ (own-is read) _ (x .3 .ensures .0)),
+      x .3 .ensures .1,
+    ))
+    (λ x. rw (x .5, x .6) (
+      writing-next _ _ _ _ _ _ _ _ (l .out) (l .to) (l .left) (l .k) w t i g _ (o .vars) (vars-are read)
+          (unfound-stored _ _ _ _ _ _ _ _ (l .out) (l .to) (l .left) (l .k) w t i g (x .0 .left) (o .vars) (vars-are read) _
+          (x .2 .ensures)),
+      l .inv .1,
+    ))
+    (c .if1 .came)
 
-same-length : tie.Need-same-length Inv-loop2 μ-loop2 Inv-loop μ-loop
-same-length c = same (c .before)
+same-length : tie.Need-same-length Inv-loop μ-loop
+same-length c =
+    let a = start-of (c .before) .args in
+    c .before .loop .inv .0 .stored .same-length ∙ length-set (now (a .out)) (a .from) (a .document .doc)
 
-returns : tie.Need-returns Inv-loop2 μ-loop2 Inv-loop μ-loop
+returns : tie.Need-returns Inv-loop μ-loop
 returns c =
     let l = c .before .loop in
-    writing-done _ _ _ _ (now (start-of (c .before) .args .out)) _ _ (l .out) (l .to) (l .left) (l .k) (l .inv) (c .loop-test .left)
+    let a = start-of (c .before) .args in (
+      writing-done _ _ _ _ _ (now (a .out)) (a .from) (a .patterns) (l .out) (l .to) (l .left) (l .k) (l .inv .0) (c .loop-test .left),
+      l .inv .1,
+    )
 
 pub write-row-spec : {M : Type 1} → statement M
 write-row-spec =
     tie.close
     (tie.spec
-    Inv-loop2
-    μ-loop2
     Inv-loop
     μ-loop
     mul-out
@@ -227,19 +231,16 @@ write-row-spec =
     outline-at-requires
     mul-out-2
     slice-write-out-2
-    loop2-holds
-    add-out
-    mul-out-3
-    shared-slice-read-out
-    mul-out-4
-    add-out-2
-    add-out-3
-    mul-out-5
-    slice-write-out-3
-    add-x
-    loop2-less
-    loop2-again
     add-to-2
+    add-tuple
+    mul-tuple
+    sub-tuple
+    part-tuple-start
+    part-tuple-end
+    write-pairs-requires
+    mul-write-zeros
+    write-zeros-requires
+    mul-to
     add-to-3
     add-k
     loop-less

@@ -1,0 +1,28 @@
+-- The words of a block, of which a search takes a fifth again and again. Assumes nothing.
+use Prim.Native.Nat.{ℕ, _+_, _*_, _/_, _%_, _<_, _≤_}
+use mathlib.Core.Bool.{cond}
+use mathlib.Core.List.{List}
+use lib.Dec.{eqb}
+use Rattle.volume.specs.Layout.{word}
+use Rattle.fulltext.specs.Positions.{limit}
+use Rattle.matcher.specs.declared.cursor.Cursor.{Cursor}
+use Rattle.matcher.specs.declared.paragraphs.Blocks.{Blocks}
+use Rattle.matcher.specs.Inner.Cursors.{Stretch}
+
+-- the words of a block rise
+abbrev pub RisingBlock : List ℕ → ℕ → Type 0
+RisingBlock v block = Stretch v (126 * block) (126 * block + 126)
+
+-- word k of a block is below a bound, and the word n behind it is not
+pub record Across (v : List ℕ) (block bound k n : ℕ) : Type 0 where
+  pub below : word v (126 * block + k) < bound
+  pub above : bound ≤ word v (126 * block + k + n)
+
+-- each of these blocks, and the one behind it, lies between a cursor and its end
+pub record Whole (c : Cursor) (blocks : Blocks) : Type 0 where
+  pub from : (b : ℕ) → blocks .first ≤ b → c .at ≤ 126 * b
+  pub to : (b : ℕ) → b < blocks .last → 126 * b + 252 ≤ c .end
+
+-- the position of a posting w, if that is of document d; else 65,536
+abbrev pub startIn : ℕ → ℕ → ℕ
+startIn d w = cond (eqb (w / 65536) d) (w % 65536) limit
