@@ -143,13 +143,14 @@ extern "C" {
 #define LHZ_MAX_LINE_BYTES 2048 /* bytes of a line, at most */
 #define LHZ_MAX_LINE_DEPTH 8    /* round brackets of a line that are open at one place, at most */
 
-/* Words of a row that lhz_list writes, at most: 1 + F + V with F patterns and V variables. Of a
+/* Words of a row that lhz_list writes, at most: 1 + F + 2 * V with F patterns and V variables. Of a
  * plan's rows, 64 at most, V are VOICE, F are END and F - 1 are operators, and V is 8 * F at most;
  * so the longest row is that of 7 patterns with 51 variables. A buffer of so many words holds a row
  * of every plan. */
-#define LHZ_MAX_ROW_WORDS 59
+#define LHZ_MAX_ROW_WORDS 110
 
-#define LHZ_DONE 65536 /* what lhz_list tells as `next` where no document is left */
+#define LHZ_DONE 65536     /* what lhz_list tells as `next` where no document is left */
+#define LHZ_NO_START 65536 /* what a row has as title start of a position that is in no title */
 
 /* The kinds of a plan's rows. */
 #define LHZ_VOICE 1
@@ -412,12 +413,26 @@ typedef struct lhz_list_answer {
  * Lent for reading: volume, len bytes; plan, plan_len words. `start` is the document to start from.
  * Lent for writing: out, out_len words.
  *
- * A row is 1 + F + V words, with F and V as lhz_check_plan tells them, and LHZ_MAX_ROW_WORDS at
- * most: the document; then for each pattern 1 and its least positions or, where it is not found in
- * that document, 0 and a 0 for each of its variables. The rows of the matching documents from
- * `start` on are written back to back at the front of out, as many as there are or as whole rows
- * fit; the words behind them stay as they were. Where more documents match than rows fit, `next` is
- * the least one that is not written (MORE); otherwise it is LHZ_DONE.
+ * A row is 1 + F + 2 * V words, with F and V as lhz_check_plan tells them, and LHZ_MAX_ROW_WORDS at
+ * most: the document; then for each pattern 1 and a pair of words for each of its variables, in
+ * their order, or, where it is not found in that document, 0 and two zeros for each of its
+ * variables. A pair is the variable's position, which is one of the pattern's least positions, and
+ * its title start: the greatest start of that document, in list 0, that is not above the position,
+ * or LHZ_NO_START where there is none. SAME TITLE holds of two variables exactly if both have a
+ * start and it is the same. Which positions are least does not depend on their starts.
+ *
+ * With two patterns of two variables each, such rows are
+ *
+ *    1  1 2 0 5 0          1 7 6 8 6    both are found in document 1: the first at 2 and 5, in the
+ *                                       title that starts at 0, the second at 7 and 8, in the one
+ *                                       that starts at 6
+ *    2  1 4 65536 9 65536  0 0 0 0 0    the first is found in document 2, at 4 and 9, and no title
+ *                                       starts at or before them; the second is not found
+ *
+ * The rows of the matching documents from `start` on are written back to back at the front of out,
+ * as many as there are or as whole rows fit; the words behind them stay as they were. Where more
+ * documents match than rows fit, `next` is the least one that is not written (MORE); otherwise it
+ * is LHZ_DONE.
  *
  * `tally` sums, over all variables of the plan, the postings of the variable's list in the
  * documents from `start` up to `next`, which is not counted. A list counts once for each of its
@@ -447,7 +462,8 @@ typedef struct lhz_list_answer {
  *    1 to 14                      the volume or the plan is refused as by lhz_check_plan, with the
  *                                 same place
  *   15  LHZ_REFUSED_START         `start` is over 65,535
- *   16  LHZ_REFUSED_SHORT_BUFFER  out_len is less than a row, even where no document matches
+ *   16  LHZ_REFUSED_SHORT_BUFFER  out_len is less than the 1 + F + 2 * V words of a row, even where
+ *                                 no document matches
  */
 lhz_list_answer lhz_list(const uint8_t *volume, size_t len, const uint32_t *plan, size_t plan_len,
                          uint32_t start, uint32_t *out, size_t out_len);
@@ -497,9 +513,9 @@ typedef struct lhz_list_matches_answer {
  * that pass, each once and in order, however short the buffers were. Before that they are those
  * that come before the last `next`. With k tuples that pass, `more` is 0 with call k at the latest,
  * or with call 1 where k is 0; calls that are refused do not count. The first tuple of all is the
- * pattern's least positions, which lhz_list shows where the document matches. A call that is
- * refused with 16 may be made again with a longer buffer. On a refusal `next` is zeros; that does
- * not tell where to go on.
+ * pattern's least positions, which lhz_list shows where the document matches. Tuples carry no title
+ * starts. A call that is refused with 16 may be made again with a longer buffer. On a refusal
+ * `next` is zeros; that does not tell where to go on.
  *
  * Refusals, the first that applies:
  *    1 to 14                      the volume or the plan is refused as by lhz_check_plan, with the

@@ -9,9 +9,10 @@
  *    cc -std=c99 examples/c/listing.c -Iinclude target/staticlib/liblihambozy.a -o listing
  *
  * For each true scene, rising, it prints `scene` and the words of its row: the scene, then for each
- * figure 1 and its earliest places, or 0 and zeros. Then it prints `done` and the sum of the
- * tallies. A listing without that last line is not whole. Where the volume, the plan or the buffer
- * is refused it prints `refused`, the number and the place, and on standard error why.
+ * figure 1 and the earliest places of its voices, or 0 and zeros. Behind each place stands the
+ * start of its title, or 65536 where the place is in no title. Then it prints `done` and the sum of
+ * the tallies. A listing without that last line is not whole. Where the volume, the plan or the
+ * buffer is refused it prints `refused`, the number and the place, and on standard error why.
  *
  * Exit status: 0 listed; 1 refused; 2 wrong usage, a file that cannot be read, no memory, or
  * standard output that cannot be written.
@@ -169,7 +170,7 @@ static int list(const struct file *volume, const struct file *plan_file, const s
         int of_plan = checked.refusal >= LHZ_REFUSED_PLAN_LENGTH;
         return refuse(of_plan ? plan_file->name : volume->name, checked.refusal, checked.at);
     }
-    row_words = 1 + (size_t)checked.patterns + checked.vars;
+    row_words = 1 + (size_t)checked.patterns + 2 * (size_t)checked.vars;
     out_len = words != NULL ? *words : row_words;
     out = malloc(sizeof *out * (out_len > 0 ? out_len : 1));
     if (out == NULL) return fail("the buffer", "no memory");

@@ -42,15 +42,16 @@ pub struct CheckedPlan {
 }
 
 impl CheckedPlan {
-    /// Words of a row that [`list`] writes: the document, and for each pattern one word and its
-    /// positions. A buffer that is shorter is refused.
+    /// Words of a row that [`list`] writes (01: 1 + F + 2V): the document, a word for each pattern,
+    /// and two for each variable, its position and the start of its title. A buffer that is shorter
+    /// is refused.
     ///
     /// ```
     /// let checked = lihambozy::calls::CheckedPlan { patterns: 2, vars: 4 };
-    /// assert_eq!(checked.row_width(), 7);
+    /// assert_eq!(checked.row_width(), 11);
     /// ```
     pub const fn row_width(self) -> usize {
-        1 + self.patterns as usize + self.vars as usize
+        1 + self.patterns as usize + 2 * self.vars as usize
     }
 }
 
@@ -296,11 +297,15 @@ pub fn test_positions(
 /// Lists the matching documents from `start` on, rising, as rows at the front of `out`; the words
 /// behind the rows stay as they were.
 ///
-/// A row has [`CheckedPlan::row_width`] words, 59 at most: the document, then for each pattern 1
-/// and its least positions, or 0 and zeros where it is not found in that document. As many rows are
-/// written as there are or as fit whole. Calls that start at 0 and then at each [`Next::More`]
-/// until [`Next::Done`] give every matching document once, and their tallies sum to the counts of
-/// the variables' lists.
+/// A row has [`CheckedPlan::row_width`] words, 110 at most: the document, then for each pattern 1
+/// and two words for each variable, or 0 and zeros where it is not found in that document. The two
+/// words are the variable's position, one of the pattern's least positions, and the start of its
+/// title: the greatest start of the document, in list 0, that is not above the position, or
+/// [`NO_START`](crate::NO_START) where there is none.
+///
+/// As many rows are written as there are or as fit whole. Calls that start at 0 and then at each
+/// [`Next::More`] until [`Next::Done`] give every matching document once, and their tallies sum to
+/// the counts of the variables' lists.
 ///
 /// Refused with 1 to 14 as by [`check_plan`], then with 15 (`start` is over 65,535), then with 16
 /// (`out` is shorter than one row).
@@ -308,24 +313,26 @@ pub fn test_positions(
 /// ```
 /// use lihambozy::calls::{list, write_volume, Listing, Next};
 /// use lihambozy::row::{voice, END};
-/// use lihambozy::Posting;
+/// use lihambozy::{Posting, NO_START};
 ///
+/// // Titles start at 0 and 6 of document 1. The word is at 2 and 8 of it, and at 4 of document 2.
 /// let mut volume = [0; 512];
-/// let word = [(1, 2), (1, 8), (2, 4)].map(|(doc, pos)| Posting::new(doc, pos).word());
-/// write_volume(&[0, 3], &word, &mut volume)?;
+/// let postings = [(1, 0), (1, 6), (1, 2), (1, 8), (2, 4)];
+/// let postings = postings.map(|(doc, pos)| Posting::new(doc, pos).word());
+/// write_volume(&[2, 3], &postings, &mut volume)?;
 ///
-/// // One variable: a row is the document, 1, and the variable's least position.
+/// // One variable: a row is the document, 1, the variable's least position and its title's start.
 /// let plan = [voice(1), END].concat();
-/// let mut out = [7; 5];
+/// let mut out = [7; 6];
 /// let first = list(&volume, &plan, 0, &mut out)?;
 /// assert_eq!(first, Listing { rows: 1, tally: 2, next: Next::More(2) });
-/// assert_eq!(out, [1, 1, 2, 7, 7]);
+/// assert_eq!(out, [1, 1, 2, 0, 7, 7]);
 ///
 /// let second = list(&volume, &plan, 2, &mut out)?;
 /// assert_eq!(second, Listing { rows: 1, tally: 1, next: Next::Done });
-/// assert_eq!(out, [2, 1, 4, 7, 7]);
+/// assert_eq!(out, [2, 1, 4, NO_START, 7, 7]);
 ///
-/// let refusal = list(&volume, &plan, 0, &mut out[..2]).unwrap_err();
+/// let refusal = list(&volume, &plan, 0, &mut out[..3]).unwrap_err();
 /// assert_eq!((refusal.number, refusal.at), (16, 0));
 /// # Ok::<(), lihambozy::Refusal>(())
 /// ```
@@ -349,7 +356,7 @@ pub fn list(volume: &[u8], plan: &[u32], start: u32, out: &mut [u32]) -> Result<
 /// in the lists. As many tuples are written as there are or as fit whole. Calls that start at zeros
 /// and then at each [`ListedMatches::next`] until there is none give every tuple that passes once.
 /// The first of them is the pattern's least positions, which [`list`] shows where the document
-/// matches.
+/// matches. Tuples have no starts of titles.
 ///
 /// Refused with 1 to 14 as by [`check_plan`], then with 17 (no pattern of that number, `from` has
 /// not as many positions as the pattern has variables, or a document or position is over 65,535),
@@ -475,6 +482,41 @@ fn accepted(number: u32, at: u32) -> Result<(), Refusal> {
 #[cfg(test)]
 mod tests {
     use super::*;
+    use crate::row::{voice, PlanRow, EITHER, END};
+    use crate::{Posting, MAX_PATTERNS, MAX_ROWS, MAX_VARS};
+
+    /// A buffer of one row is filled, and one that is a word shorter is refused and left as it was:
+    /// for as many variables in each of as many patterns as 64 rows hold, and for the longest row.
+    #[test]
+    fn a_row_fits_its_width() {
+        let mut volume = [0; BLOCK_BYTES];
+        let postings = [(3, 2), (3, 5)].map(|(doc, pos)| Posting::new(doc, pos).word());
+        write_volume(&[1, 1], &postings, &mut volume).unwrap();
+        let alike = |patterns: usize| (1..=MAX_VARS).map(move |vars| vec![vars; patterns]);
+        let mut widest = 0;
+        for vars in (1..=MAX_PATTERNS).flat_map(alike).chain([vec![8, 8, 8, 8, 8, 8, 3]]) {
+            let pattern = |&vars: &usize| [vec![voice(1); vars], vec![END]].concat();
+            let mut rows: Vec<PlanRow> = vars.iter().flat_map(pattern).collect();
+            rows.resize(rows.len() + vars.len() - 1, EITHER);
+            let plan = rows.concat();
+            let Ok(checked) = check_plan(&volume, &plan) else {
+                assert!(rows.len() > MAX_ROWS, "{vars:?}");
+                continue;
+            };
+            let width = checked.row_width();
+            let found = |&vars: &usize| [vec![1], [5, 2].repeat(vars)].concat();
+            let row: Vec<u32> = [3].into_iter().chain(vars.iter().flat_map(found)).collect();
+            assert_eq!(width, row.len(), "{vars:?}");
+            let mut out = vec![7; width + 1];
+            let refusal = list(&volume, &plan, 0, &mut out[..width - 1]).unwrap_err();
+            assert_eq!((refusal.number, refusal.at), (16, 0), "{vars:?}");
+            assert_eq!(out, vec![7; width + 1], "{vars:?}");
+            list(&volume, &plan, 0, &mut out[..width]).unwrap();
+            assert_eq!(out, [&row[..], &[7]].concat(), "{vars:?}");
+            widest = widest.max(width);
+        }
+        assert_eq!(widest, 110);
+    }
 
     #[test]
     fn volume_len_is_whole_blocks() {

@@ -556,18 +556,20 @@ mod tests {
             [answer.refusal, answer.at, answer.rows, answer.tally, answer.next]
         };
         let volume = volume_with(&[]);
-        assert_eq!(fields(&volume, &PLAN, 0, 6), [0, 0, 1, 6, 65_536]);
-        assert_eq!(fields(&volume, &PLAN, 1, 6), [0, 0, 0, 0, 65_536]);
+        // Two patterns with three variables: a row has nine words.
+        assert_eq!(fields(&volume, &PLAN, 0, 9), [0, 0, 1, 6, 65_536]);
+        assert_eq!(fields(&volume, &PLAN, 1, 9), [0, 0, 0, 0, 65_536]);
         assert_eq!(fields(&volume, &PLAN, 65_535, 60), [0, 0, 0, 0, 65_536]);
         // List 1 has one posting in document 0, one in document 3.
         let two = volume_with(&[(6, 3 * 65_536)]);
-        assert_eq!(fields(&two, &PLAN, 0, 6), [0, 0, 1, 3, 3]);
-        assert_eq!(fields(&two, &PLAN, 3, 6), [0, 0, 1, 3, 65_536]);
-        assert_eq!(fields(&two, &PLAN, 0, 12), [0, 0, 2, 6, 65_536]);
-        for room in [0, 5, 6, 60] {
+        assert_eq!(fields(&two, &PLAN, 0, 9), [0, 0, 1, 3, 3]);
+        assert_eq!(fields(&two, &PLAN, 3, 9), [0, 0, 1, 3, 65_536]);
+        assert_eq!(fields(&two, &PLAN, 0, 17), [0, 0, 1, 3, 3]);
+        assert_eq!(fields(&two, &PLAN, 0, 18), [0, 0, 2, 6, 65_536]);
+        for room in [0, 8, 9, 60] {
             assert_eq!(fields(&volume, &PLAN, 65_536, room), [15, 0, 0, 0, 0], "room {room}");
         }
-        for (start, room) in [(0, 5), (0, 0), (1, 5), (65_535, 5)] {
+        for (start, room) in [(0, 8), (0, 0), (1, 8), (65_535, 8)] {
             assert_eq!(fields(&volume, &PLAN, start, room), [16, 0, 0, 0, 0], "start {start}");
         }
         for (volume, plan, [number, at]) in refused_plans() {

@@ -19,8 +19,10 @@
 //! each is in its variable's list there and all predicates hold. A pattern is found where some
 //! tuple passes, and then has its least positions (01: earliest places), which are smallest in
 //! every variable together. A document matches (01: is true) if the one answer left at the end is
-//! yes for it. A [`Search`] is an iterator over the [`Row`]s of all documents that match, and
-//! [`Matches`] is one over all tuples that pass for a pattern in a document, each a [`Match`].
+//! yes for it. A [`Search`] is an iterator over the [`Row`]s of all documents that match. A row
+//! has the least positions of each pattern that is found, each with the start of its title
+//! ([`Position`]). [`Matches`] is an iterator over all tuples that pass for a pattern in a
+//! document, each a [`Match`].
 //!
 //! What does not fit is answered by a [`Refusal`], with document 01's number and place and a
 //! sentence for a person.
@@ -36,9 +38,15 @@
 //! // The first word before the second, in one title.
 //! let plan: Plan = "VOICE 1\nVOICE 2\nBEFORE 0 1\nSAME TITLE 0 1\nEND".parse()?;
 //! let mut search = volume.search(&plan)?;
-//! let rows: Vec<String> = search.by_ref().map(|row| row.to_string()).collect();
-//! assert_eq!(rows, ["scene 1 1 2 5"]);
+//! let row = search.next().expect("scene 1 is true");
+//! assert!(search.next().is_none());
 //! assert_eq!(search.tally(), 6);
+//!
+//! // The figure is found with its voices at 2 and 5, both in the title that starts at 0.
+//! assert_eq!(row.to_string(), "scene 1 1 2 0 5 0");
+//! let found = row.pattern(0).expect("the figure is found");
+//! assert_eq!(found.tuple(), [2, 5]);
+//! assert!(found.iter().all(|var| var.title_start == Some(0)));
 //!
 //! // In scene 1 the places 2 and 5 pass, and 2 and 7 do not: a title starts between them. In scene
 //! // 2 no title starts at all.
@@ -73,6 +81,7 @@ pub mod line;
 mod matches;
 mod names;
 mod plan;
+mod positions;
 mod posting;
 mod refusal;
 pub mod row;
@@ -83,6 +92,7 @@ mod volume;
 pub use matches::{Match, Matches};
 pub use names::Names;
 pub use plan::Plan;
+pub use positions::{Position, Positions, PositionsIter};
 pub use posting::Posting;
 pub use refusal::{JoinRefusal, Refusal, Which};
 pub use search::{Row, Search};
@@ -115,5 +125,8 @@ pub const MAX_ROWS: usize = 64;
 pub const MAX_PATTERNS: usize = 8;
 /// Variables of a pattern, at most.
 pub const MAX_VARS: usize = 8;
+/// What a row of a listing has as the start of a position's title where no title starts at or
+/// before the position.
+pub const NO_START: u32 = 65_536;
 /// Bytes of a line, at most. A buffer of so many holds the line of every plan.
 pub const MAX_LINE_BYTES: usize = 2_048;

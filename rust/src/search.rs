@@ -1,7 +1,7 @@
 //! Searches: listing calls, one after the other, until none is left to make.
 
 use crate::calls::{self, Listing, Next};
-use crate::{kind, Plan, Refusal, Volume};
+use crate::{kind, Plan, Positions, Refusal, Volume};
 use std::fmt;
 use std::iter::FusedIterator;
 use std::sync::Arc;
@@ -16,19 +16,20 @@ use std::sync::Arc;
 ///
 /// ```
 /// use lihambozy::row::{voice, END};
-/// use lihambozy::{Plan, Posting, Volume};
+/// use lihambozy::{Plan, Position, Posting, Volume};
 ///
 /// let word = [(1, 2), (1, 8), (2, 4)].map(|(doc, pos)| Posting::new(doc, pos));
-/// let volume = Volume::of_lists(&[&[], &word[..]])?;
+/// let volume = Volume::of_lists(&[&[Posting::new(1, 1)], &word[..]])?;
 /// let plan = Plan::new([voice(1), END]);
 ///
 /// let mut search = volume.search(&plan)?.page_rows(1);
 /// let row = search.next().unwrap();
-/// assert_eq!((row.doc(), row.pattern(0)), (1, Some(&[2][..])));
+/// assert_eq!(row.doc(), 1);
+/// assert_eq!(row.pattern(0).unwrap(), [Position { pos: 2, title_start: Some(1) }]);
 /// assert_eq!((search.reached(), search.tally()), (2, 2));
 ///
 /// let row = search.next().unwrap();
-/// assert_eq!(row.to_string(), "scene 2 1 4");
+/// assert_eq!(row.to_string(), "scene 2 1 4 65536", "no title starts in document 2");
 /// assert!(search.next().is_none());
 /// assert_eq!(search.tally(), 3, "all postings of the list");
 /// # Ok::<(), lihambozy::Refusal>(())
@@ -61,7 +62,7 @@ impl<'a> Search<'a> {
         let mut ends = Vec::new();
         for row in plan.rows() {
             match row[0] {
-                kind::VOICE => end += 1,
+                kind::VOICE => end += 2,
                 kind::END => {
                     end += 1;
                     ends.push(end);
@@ -150,7 +151,23 @@ impl Iterator for Search<'_> {
 impl FusedIterator for Search<'_> {}
 
 /// A row of a listing: a document that matches and, for each pattern, its least positions there
-/// (01: earliest places). It is shown as document 01 prints it, `scene` and its words.
+/// (01: earliest places), each with the start of its title. It is shown as document 01 prints it,
+/// `scene` and its words.
+///
+/// ```
+/// use lihambozy::{text, Plan, Volume};
+///
+/// let volume = Volume::of_lists(&text::lists("1:0 1:6\n1:2 1:8\n1:7\n2:0\n")?)?;
+/// let plan = Plan::from_line("[1 2;n 0 1 0]|[3]")?;
+/// let row = volume.search(&plan)?.next().expect("document 1 matches");
+/// assert_eq!(row.to_string(), "scene 1 1 8 6 7 6 0 0 0");
+///
+/// let found = row.pattern(0).expect("the first pattern is found");
+/// assert_eq!(found.iter().map(|var| var.pos).collect::<Vec<_>>(), [8, 7]);
+/// assert!(found.iter().all(|var| var.title_start == Some(6)));
+/// assert!(row.pattern(1).is_none());
+/// # Ok::<(), Box<dyn std::error::Error>>(())
+/// ```
 #[derive(Clone, Debug, PartialEq, Eq)]
 pub struct Row {
     words: Box<[u32]>,
@@ -163,25 +180,27 @@ impl Row {
         self.words[0]
     }
 
-    /// The least positions of a pattern, one for each of its variables, or `None` where it is not
-    /// found in this document.
+    /// The least positions of a pattern, one for each of its variables, each with the start of its
+    /// title, or `None` where the pattern is not found in this document.
     ///
     /// # Panics
     ///
     /// Where the plan has no pattern of that number.
-    pub fn pattern(&self, pattern: usize) -> Option<&[u32]> {
+    pub fn pattern(&self, pattern: usize) -> Option<Positions<'_>> {
         let start = if pattern == 0 { 1 } else { self.ends[pattern - 1] };
         let words = &self.words[start..self.ends[pattern]];
-        (words[0] == 1).then(|| &words[1..])
+        (words[0] == 1).then(|| Positions::of_words(&words[1..]))
     }
 
     /// The least positions of each pattern in turn, or `None` where it is not found.
-    pub fn patterns(&self) -> impl Iterator<Item = Option<&[u32]>> + '_ {
+    pub fn patterns(
+        &self,
+    ) -> impl ExactSizeIterator<Item = Option<Positions<'_>>> + DoubleEndedIterator {
         (0..self.ends.len()).map(|pattern| self.pattern(pattern))
     }
 
-    /// The words of the row: the document, then for each pattern 1 and its positions, or 0 and
-    /// zeros.
+    /// The words of the row: the document, then for each pattern 1 and two words for each variable,
+    /// its position and the start of its title or [`NO_START`](crate::NO_START), or 0 and zeros.
     pub fn words(&self) -> &[u32] {
         &self.words
     }
@@ -198,16 +217,16 @@ impl fmt::Display for Row {
 mod tests {
     use super::*;
     use crate::row::{voice, EITHER, END};
-    use crate::Posting;
+    use crate::{Position, Posting};
     use std::panic;
 
     /// A word at position 0 of the documents 0, 3, 6 and on, so many in all, and another at
-    /// positions 0 and 1 of each second of them.
+    /// positions 0 and 1 of each second of them, where a title starts at 0 too.
     fn volume(docs: u16) -> Volume<'static> {
-        let word = (0..docs).map(|i| Posting::new(3 * i, 0)).collect();
-        let every_second = (0..docs).step_by(2);
-        let other = every_second.flat_map(|i| [0, 1].map(|pos| Posting::new(3 * i, pos)));
-        Volume::of_lists(&[vec![], word, other.collect()]).unwrap()
+        let word: Vec<Posting> = (0..docs).map(|i| Posting::new(3 * i, 0)).collect();
+        let starts: Vec<Posting> = word.iter().copied().step_by(2).collect();
+        let other = starts.iter().flat_map(|at| [0, 1].map(|pos| Posting::new(at.doc(), pos)));
+        Volume::of_lists(&[&starts, &word, &other.collect()]).unwrap()
     }
 
     /// The word, or the other and the word.
@@ -225,7 +244,8 @@ mod tests {
         let (volume, plan) = (volume(50), plan());
         let all = words(volume.search(&plan).unwrap());
         assert_eq!(all.len(), 50);
-        assert_eq!((&all[0], &all[49]), (&vec![0, 1, 0, 1, 0, 0], &vec![147, 1, 0, 0, 0, 0]));
+        assert_eq!(all[0], [0, 1, 0, 0, 1, 0, 0, 0, 0]);
+        assert_eq!(all[49], [147, 1, 0, 65_536, 0, 0, 0, 0, 0]);
         for first in [0, 1, 2, 7, 49, 50, 51] {
             for then in [0, 1, 3, 8, 1 << 62, usize::MAX] {
                 for taken in [0, 1, 6, 7, 8, 30, 49, 50] {
@@ -270,21 +290,70 @@ mod tests {
         assert_eq!(hints, [hint(0, 0), hint(1, 6), hint(0, 6), hint(1, 12)]);
     }
 
-    /// Positions that are 0 are not those of a pattern that is not found.
+    /// Positions and starts that are 0 are not those of a pattern that is not found, nor is a start
+    /// of 0 none.
     #[test]
     fn patterns_of_a_row() {
         let (volume, plan) = (volume(2), plan());
         let rows: Vec<Row> = volume.search(&plan).unwrap().collect();
-        let of = |row: &Row| -> Vec<Option<Vec<u32>>> {
-            row.patterns().map(|pattern| pattern.map(<[u32]>::to_vec)).collect()
+        let [in_title, in_none] =
+            [Some(0), None].map(|title_start| Position { pos: 0, title_start });
+        let of = |row: &Row| -> Vec<Option<Vec<Position>>> {
+            row.patterns().map(|pattern| pattern.map(|found| found.iter().collect())).collect()
         };
-        assert_eq!((rows[0].doc(), of(&rows[0])), (0, vec![Some(vec![0]), Some(vec![0, 0])]));
-        assert_eq!((rows[1].doc(), of(&rows[1])), (3, vec![Some(vec![0]), None]));
-        assert_eq!(rows[0].pattern(1), Some(&[0, 0][..]));
+        let first = vec![Some(vec![in_title]), Some(vec![in_title; 2])];
+        assert_eq!((rows[0].doc(), of(&rows[0])), (0, first));
+        assert_eq!((rows[1].doc(), of(&rows[1])), (3, vec![Some(vec![in_none]), None]));
+        assert_eq!(rows[0].pattern(1).unwrap(), [in_title; 2]);
+        assert_eq!(rows[1].pattern(0).unwrap(), [in_none]);
         assert_eq!(rows[1].pattern(1), None);
         for pattern in [2, 3, usize::MAX] {
-            let asked = panic::catch_unwind(|| rows[1].pattern(pattern).map(<[u32]>::len));
+            let asked = panic::catch_unwind(|| rows[1].pattern(pattern).is_some());
             assert!(asked.is_err(), "pattern {pattern}");
         }
+        let mut patterns = rows[1].patterns();
+        assert_eq!((patterns.len(), patterns.next_back()), (2, Some(None)));
+        assert_eq!((patterns.len(), patterns.next_back()), (1, Some(rows[1].pattern(0))));
+        assert_eq!((patterns.len(), patterns.next(), patterns.next_back()), (0, None, None));
+    }
+
+    /// The patterns of a row are all its words but the document: for each number of variables in
+    /// each of three patterns, and for the plan with the longest rows.
+    #[test]
+    fn patterns_are_the_words_of_a_row() {
+        let volume = volume(2);
+        let shapes = (0..512).map(|i| vec![1 + i / 64, 1 + i / 8 % 8, 1 + i % 8]);
+        for vars in shapes.chain([vec![8, 8, 8, 8, 8, 8, 3]]) {
+            let list = |pattern: usize| 1 + pattern as u32 % 2;
+            let voices = vars.iter().enumerate().map(|(k, &vars)| vec![voice(list(k)); vars]);
+            let mut rows = voices.map(|voices| [&voices[..], &[END]].concat()).collect::<Vec<_>>();
+            rows.push(vec![EITHER; vars.len() - 1]);
+            let plan = Plan::new(rows.concat());
+            for row in volume.search(&plan).unwrap() {
+                let mut words = vec![row.doc()];
+                for (pattern, &vars) in row.patterns().zip(&vars) {
+                    words.push(pattern.is_some().into());
+                    match pattern {
+                        Some(found) => {
+                            assert_eq!(found.iter().len(), vars);
+                            for Position { pos, title_start } in found {
+                                words.extend([pos, title_start.unwrap_or(65_536)]);
+                            }
+                        }
+                        None => words.extend(vec![0; 2 * vars]),
+                    }
+                }
+                assert_eq!(words, row.words(), "{vars:?}");
+                assert_eq!(row.patterns().len(), vars.len());
+            }
+        }
+    }
+
+    /// Rows are shown as `scene` and their words.
+    #[test]
+    fn rows_as_text() {
+        let (volume, plan) = (volume(2), plan());
+        let rows: Vec<String> = volume.search(&plan).unwrap().map(|row| row.to_string()).collect();
+        assert_eq!(rows, ["scene 0 1 0 0 1 0 0 0 0", "scene 3 1 0 65536 0 0 0 0 0"]);
     }
 }

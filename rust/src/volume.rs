@@ -94,7 +94,8 @@ impl<'a> Volume<'a> {
     ///
     /// let plan = Plan::from_line("[1]")?;
     /// let rows: Vec<String> = evening.search(&plan)?.map(|row| row.to_string()).collect();
-    /// assert_eq!(rows, ["scene 1 1 2", "scene 2 1 4", "scene 3 1 3", "scene 8 1 1"]);
+    /// assert_eq!(rows[..2], ["scene 1 1 2 0", "scene 2 1 4 65536"]);
+    /// assert_eq!(rows[2..], ["scene 3 1 3 0", "scene 8 1 1 65536"]);
     ///
     /// let words = Volume::of_lists(&text::lists("-\n0:3\n0:4\n")?)?;
     /// assert_eq!(first.join(&words, 3).unwrap_err().number, 24);

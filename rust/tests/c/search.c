@@ -13,6 +13,8 @@
 
 static const uint32_t counts[3] = {2, 3, 3};
 static const uint32_t postings[8] = {65536, 65542, 65538, 65544, 131076, 65541, 65543, 131081};
+/* The same without the first start. */
+static const uint32_t late_counts[3] = {1, 3, 3};
 
 struct memory {
     uint8_t bytes[SIDE + LHZ_BLOCK_BYTES + SIDE];
@@ -29,7 +31,7 @@ static size_t plan_len;
 /* The words of a row, as the plan's check tells them. */
 static size_t width(void) {
     lhz_check_plan_answer answer = lhz_check_plan(volume, LHZ_BLOCK_BYTES, plan, plan_len);
-    return 1 + answer.patterns + answer.vars;
+    return 1 + (size_t)answer.patterns + 2 * (size_t)answer.vars;
 }
 
 static void add(uint32_t kind, uint32_t a, uint32_t b, uint32_t c) {
@@ -154,7 +156,7 @@ int main(void) {
            (unsigned)offsetof(lhz_list_matches_answer, count),
            (unsigned)offsetof(lhz_list_matches_answer, more),
            (unsigned)offsetof(lhz_list_matches_answer, next));
-    printf("DONE %d\n", LHZ_DONE);
+    printf("DONE %d, NO START %d\n", LHZ_DONE, LHZ_NO_START);
 
     show_list(0, ROOM);
     show_test(0, 1, 2, 5, 2);
@@ -169,6 +171,8 @@ int main(void) {
     search("sample", width() + 3);
     search("sample", 2 * width());
     search("sample", width() - 1);
+    search("sample", 4);
+    search("sample", 0);
     show_list(2, ROOM);
     show_list(3, ROOM);
     show_list(65535, ROOM);
@@ -260,6 +264,23 @@ int main(void) {
     for (size_t i = 0; i < LHZ_MAX_VARS; i++) positions[i] = i < 6 ? 7 : 2;
     show_matches(0, 1, LHZ_MAX_VARS, 2 * LHZ_MAX_VARS - 1);
     show_matches(0, 1, LHZ_MAX_VARS, LHZ_MAX_VARS - 1);
+
+    /* The first title of document 1 starts at 6, between two positions of one list. */
+    if (lhz_write_volume(late_counts, 3, postings + 1, 7, volume, LHZ_BLOCK_BYTES).refusal != 0)
+        return 1;
+    plan_len = 0;
+    add(LHZ_VOICE, 1, 0, 0);
+    add(LHZ_VOICE, 1, 0, 0);
+    add(LHZ_VOICE, 2, 0, 0);
+    add(LHZ_BEFORE, 0, 1, 0);
+    add(LHZ_END, 0, 0, 0);
+    search("late title", width());
+    search("late title", width() - 1);
+    add(LHZ_VOICE, 2, 0, 0);
+    add(LHZ_SAME_TITLE, 0, 0, 0);
+    add(LHZ_END, 0, 0, 0);
+    add(LHZ_BOTH, 0, 0, 0);
+    search("late title, and a word in a title", 2 * width() - 1);
 
     volume[LHZ_BLOCK_BYTES - 1] ^= 1;
     show_list(65536, 0);

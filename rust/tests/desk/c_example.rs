@@ -190,17 +190,17 @@ fn faults_are_reported() {
     }
 }
 
-/// The sample listing, as request N3 of document 02 has it, through buffers of one row, a row and a
-/// word, two rows, and more than that.
+/// The sample listing, as request N8 of document 02 has it, through buffers of one row, a row and a
+/// word, two rows, and more than that; and through buffers shorter than a row.
 #[test]
 fn the_sample() {
     let data = repository("crates/lister/data");
-    let printed = "scene 1 1 2 5\ndone 6\n";
+    let printed = "scene 1 1 2 0 5 0\ndone 6\n";
     ends(&EVERY, &data, &TITLES, 0, printed, "");
-    for words in ["4", "5", "8", "100", "3866624", "0004"] {
+    for words in ["6", "7", "12", "100", "7208960", "0006"] {
         ends(&QUICK, &data, &["titles.vol", "titles.plan", words], 0, printed, "");
     }
-    for words in ["3", "0"] {
+    for words in ["5", "4", "0"] {
         let args = ["titles.vol", "titles.plan", words];
         ends(&EVERY, &data, &args, 1, "refused 16 0\n", &sentence((16, 0)));
     }
@@ -209,11 +209,11 @@ fn the_sample() {
 #[test]
 fn usage() {
     let folder = folder_with(&sample().volume(), &plan_bytes(&SAMPLE));
-    let usage = "usage: listing VOLUME PLAN [WORDS], WORDS being 0 to 3866624\n";
+    let usage = "usage: listing VOLUME PLAN [WORDS], WORDS being 0 to 7208960\n";
     let with = |words| vec!["titles.vol", "titles.plan", words];
-    let mut cases = vec![vec![], vec!["titles.vol"], [with("4"), vec!["4"]].concat()];
+    let mut cases = vec![vec![], vec!["titles.vol"], [with("6"), vec!["6"]].concat()];
     cases.extend(
-        ["", "x", "-1", "+4", " 4", "4 ", "4x", "3866625", "18446744073709551620"].map(with),
+        ["", "x", "-1", "+6", " 6", "6 ", "6x", "7208961", "18446744073709551622"].map(with),
     );
     for args in cases {
         ends(&QUICK, &folder.0, &args, 2, "", usage);
@@ -287,15 +287,16 @@ fn the_largest_volume() {
     let printed = listing(&volume, &plan);
     let scenes = printed.lines().count() - 1;
     assert!((800..1_800).contains(&scenes), "{scenes} of 2,115 scenes are true");
-    assert!(printed.contains(" 0 0 0\n"), "both figures are found in each of them");
+    assert!(printed.contains(" 0 0 0 0 0\n"), "both figures are found in each of them");
+    assert!(printed.contains(" 65536 "), "each place is in a title");
     let folder = folder_with(&volume, &plan);
     ends(&QUICK, &folder.0, &TITLES, 0, &printed, "");
-    ends(&QUICK, &folder.0, &["titles.vol", "titles.plan", "703"], 0, &printed, "");
-    ends(&EVERY, &folder.0, &["titles.vol", "titles.plan", "458752"], 0, &printed, "");
+    ends(&QUICK, &folder.0, &["titles.vol", "titles.plan", "1103"], 0, &printed, "");
+    ends(&EVERY, &folder.0, &["titles.vol", "titles.plan", "720896"], 0, &printed, "");
     ends(
         &QUICK,
         &folder.0,
-        &["titles.vol", "titles.plan", "6"],
+        &["titles.vol", "titles.plan", "10"],
         1,
         "refused 16 0\n",
         &sentence((16, 0)),

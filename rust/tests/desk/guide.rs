@@ -174,6 +174,9 @@ fn the_guide_shows_what_its_commands_print() {
         let typed = |command: &String| command.starts_with(&start) && has_line(command);
         assert!(ran.iter().any(typed), "{start}is run with no typed line");
     }
+    for start in ["lhz list --names ", "lhz list --json "] {
+        assert!(ran.iter().any(|command| command.starts_with(start)), "{start}is never run");
+    }
     first_search_is_typed(&ran);
     assert!(ran.len() >= 70, "{} commands ran", ran.len());
 }

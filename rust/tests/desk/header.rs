@@ -117,21 +117,25 @@ fn searches() {
 test answer 12: 0 4 8
 list answer 20: 0 4 8 12 16
 matches answer 56: 0 4 8 16 20
-DONE 65536
+DONE 65536, NO START 65536
 list 9 0 0 0 0
 test 9 0 0
 matches 9 0 0 0, 0 0 0 0 0 0 0 0
 list 14 0 0 0 0
+sample, 6 words
+list 0 0 1 6 65536: 1 1 2 0 5 0
+done 1 6
+sample, 9 words
+list 0 0 1 6 65536: 1 1 2 0 5 0
+done 1 6
+sample, 12 words
+list 0 0 1 6 65536: 1 1 2 0 5 0
+done 1 6
+sample, 5 words
+list 16 0 0 0 0
 sample, 4 words
-list 0 0 1 6 65536: 1 1 2 5
-done 1 6
-sample, 7 words
-list 0 0 1 6 65536: 1 1 2 5
-done 1 6
-sample, 8 words
-list 0 0 1 6 65536: 1 1 2 5
-done 1 6
-sample, 3 words
+list 16 0 0 0 0
+sample, 0 words
 list 16 0 0 0 0
 list 0 0 0 2 65536
 list 0 0 0 0 65536
@@ -159,26 +163,26 @@ matches 17 0 0 0, 0 0 0 0 0 0 0 0
 matches 17 0 0 0, 0 0 0 0 0 0 0 0
 matches 16 0 0 0, 0 0 0 0 0 0 0 0
 matches 16 0 0 0, 0 0 0 0 0 0 0 0
-SAME TITLE 0 0, 4 words
-list 0 0 1 6 65536: 1 1 2 5
+SAME TITLE 0 0, 6 words
+list 0 0 1 6 65536: 1 1 2 0 5 0
 done 1 6
 test 0 0 1
 test 0 0 0
-BEFORE, 4 words
-list 0 0 1 4 2: 1 1 2 5
-list 0 0 1 2 65536: 2 1 4 9
+BEFORE, 6 words
+list 0 0 1 4 2: 1 1 2 0 5 0
+list 0 0 1 2 65536: 2 1 4 65536 9 65536
 done 2 6
-BEFORE, 8 words
-list 0 0 2 6 65536: 1 1 2 5: 2 1 4 9
+BEFORE, 12 words
+list 0 0 2 6 65536: 1 1 2 0 5 0: 2 1 4 65536 9 65536
 done 2 6
-list 0 0 1 2 65536: 2 1 4 9
+list 0 0 1 2 65536: 2 1 4 65536 9 65536
 test 0 0 1
-FIRST NOT SECOND, 7 words
-list 0 0 1 12 65536: 2 1 4 9 0 0 0
+FIRST NOT SECOND, 11 words
+list 0 0 1 12 65536: 2 1 4 65536 9 65536 0 0 0 0 0
 done 1 12
-EITHER, 7 words
-list 0 0 1 8 2: 1 1 2 5 1 7 8
-list 0 0 1 4 65536: 2 1 4 9 0 0 0
+EITHER, 11 words
+list 0 0 1 8 2: 1 1 2 0 5 0 1 7 6 8 6
+list 0 0 1 4 65536: 2 1 4 65536 9 65536 0 0 0 0 0
 done 2 12
 test 0 0 1
 all of 0 in 1, 2 words
@@ -196,17 +200,17 @@ matches 0 0 0 0, 0 0 0 0 0 0 0 0
 done 0
 matches 17 0 0 0, 0 0 0 0 0 0 0 0
 list 10 9 0 0 0
-APART 2 4, 8 words
-list 0 0 2 6 65536: 1 1 2 5: 2 1 4 9
+APART 2 4, 12 words
+list 0 0 2 6 65536: 1 1 2 0 5 0: 2 1 4 65536 9 65536
 done 2 6
 test 0 0 1
 test 0 0 1
 test 0 0 0
-APART 3 3, 8 words
+APART 3 3, 12 words
 list 0 0 0 6 65536
 done 0 6
-APART 4 and no upper end, 8 words
-list 0 0 2 6 65536: 1 1 2 7: 2 1 4 9
+APART 4 and no upper end, 12 words
+list 0 0 2 6 65536: 1 1 2 0 7 6: 2 1 4 65536 9 65536
 done 2 6
 list 10 2 0 0 0
 matches 10 2 0 0, 0 0 0 0 0 0 0 0
@@ -228,6 +232,14 @@ matches 0 0 1 0, 0 0 0 0 0 0 0 0: 9 4 4 4 4 4 4 4
 done 1
 matches 0 0 1 1, 7 8 2 2 2 2 2 8: 7 8 2 2 2 2 2 2
 matches 16 0 0 0, 0 0 0 0 0 0 0 0
+late title, 8 words
+list 0 0 1 9 65536: 1 1 2 65536 8 6 5 65536
+done 1 9
+late title, 7 words
+list 16 0 0 0 0
+late title, and a word in a title, 21 words
+list 0 0 1 12 65536: 1 1 2 65536 8 6 5 65536 1 7 6
+done 1 12
 list 3 0 0 0 0
 test 3 0 0
 matches 3 0 0 0, 0 0 0 0 0 0 0 0
@@ -338,7 +350,7 @@ LHZ_REFUSED_ROW_FORM 10: 10 1
 LHZ_REFUSED_ROW_LIST 11: 11 0
 LHZ_REFUSED_ROW_TOO_MANY 12: 12 8
 LHZ_REFUSED_ROW_ORDER 13: 13 1
-longest row 59: 7 51
+longest row 110: 7 51
 LHZ_REFUSED_START 15: 15 0
 LHZ_REFUSED_SHORT_BUFFER 16: 16 0
 LHZ_REFUSED_SHORT_BUFFER 16: 16 0

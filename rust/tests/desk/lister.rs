@@ -104,7 +104,7 @@ fn longest(free: u32) -> Lists {
 #[test]
 fn the_sample() {
     let (volume, plan) = (sample().volume(), plan_bytes(&SAMPLE));
-    prints("the sample", File(&volume), File(&plan), "scene 1 1 2 5\ndone 6\n");
+    prints("the sample", File(&volume), File(&plan), "scene 1 1 2 0 5 0\ndone 6\n");
 }
 
 /// The sample volume and its two voices, with document 01's other conditions.
@@ -114,15 +114,15 @@ fn the_table_of_cases() {
     let first_not_second =
         [two(&[before(0, 1)]), two(&[near(0, 1, 0)]), vec![FIRST_NOT_SECOND]].concat();
     for (rows, output) in [
-        (two(&[near(0, 1, 0)]), "scene 1 1 8 7\ndone 6\n"),
-        (two(&[near(0, 1, 3)]), "scene 1 1 2 5\ndone 6\n"),
-        (two(&[near(0, 1, 4)]), "scene 1 1 2 5\nscene 2 1 4 9\ndone 6\n"),
-        (two(&[span(4)]), "scene 1 1 2 5\ndone 6\n"),
-        (two(&[span(3)]), "scene 1 1 8 7\ndone 6\n"),
-        (two(&[before(1, 0), same_title(0, 1)]), "scene 1 1 8 7\ndone 6\n"),
-        (vec![voice(1), voice(1), END], "scene 1 1 2 2\nscene 2 1 4 4\ndone 6\n"),
+        (two(&[near(0, 1, 0)]), "scene 1 1 8 6 7 6\ndone 6\n"),
+        (two(&[near(0, 1, 3)]), "scene 1 1 2 0 5 0\ndone 6\n"),
+        (two(&[near(0, 1, 4)]), "scene 1 1 2 0 5 0\nscene 2 1 4 65536 9 65536\ndone 6\n"),
+        (two(&[span(4)]), "scene 1 1 2 0 5 0\ndone 6\n"),
+        (two(&[span(3)]), "scene 1 1 8 6 7 6\ndone 6\n"),
+        (two(&[before(1, 0), same_title(0, 1)]), "scene 1 1 8 6 7 6\ndone 6\n"),
+        (vec![voice(1), voice(1), END], "scene 1 1 2 0 2 0\nscene 2 1 4 65536 4 65536\ndone 6\n"),
         (vec![voice(1), before(0, 0), END], "done 3\n"),
-        (first_not_second, "scene 2 1 4 9 0 0 0\ndone 12\n"),
+        (first_not_second, "scene 2 1 4 65536 9 65536 0 0 0 0 0\ndone 12\n"),
     ] {
         prints(&format!("{rows:?}"), File(&volume), File(&plan_bytes(&rows)), output);
     }
@@ -138,14 +138,17 @@ fn words_before_the_first_title() {
     let other = vec![posting(1, 5), posting(2, 4), posting(3, 3), posting(3, 7)];
     let volume = Lists::new(&[starts, word, other]).volume();
     for (rows, output) in [
-        (two(&[]), "scene 1 1 2 5\nscene 2 1 4 4\nscene 3 1 2 3\ndone 9\n"),
-        (two(&[same_title(0, 1)]), "scene 1 1 2 5\nscene 3 1 8 7\ndone 9\n"),
-        (two(&[same_title(0, 1), before(0, 1)]), "scene 1 1 2 5\ndone 9\n"),
-        (two(&[same_title(1, 1)]), "scene 1 1 2 5\nscene 3 1 2 7\ndone 9\n"),
-        (vec![voice(1), same_title(0, 0), END], "scene 1 1 2\nscene 3 1 8\ndone 5\n"),
+        (
+            two(&[]),
+            "scene 1 1 2 0 5 0\nscene 2 1 4 65536 4 65536\nscene 3 1 2 65536 3 65536\ndone 9\n",
+        ),
+        (two(&[same_title(0, 1)]), "scene 1 1 2 0 5 0\nscene 3 1 8 5 7 5\ndone 9\n"),
+        (two(&[same_title(0, 1), before(0, 1)]), "scene 1 1 2 0 5 0\ndone 9\n"),
+        (two(&[same_title(1, 1)]), "scene 1 1 2 0 5 0\nscene 3 1 2 65536 7 5\ndone 9\n"),
+        (vec![voice(1), same_title(0, 0), END], "scene 1 1 2 0\nscene 3 1 8 5\ndone 5\n"),
         (
             [two(&[]), two(&[same_title(0, 1)]), vec![FIRST_NOT_SECOND]].concat(),
-            "scene 2 1 4 4 0 0 0\ndone 18\n",
+            "scene 2 1 4 65536 4 65536 0 0 0 0 0\ndone 18\n",
         ),
     ] {
         prints(&format!("{rows:?}"), File(&volume), File(&plan_bytes(&rows)), output);
@@ -157,10 +160,10 @@ fn words_before_the_first_title() {
 fn words_at_a_set_remove() {
     let volume = sample().volume();
     for (rows, output) in [
-        (two(&[apart(0, 1, 2, 4)]), "scene 1 1 2 5\nscene 2 1 4 9\ndone 6\n"),
+        (two(&[apart(0, 1, 2, 4)]), "scene 1 1 2 0 5 0\nscene 2 1 4 65536 9 65536\ndone 6\n"),
         (two(&[apart(0, 1, 3, 3)]), "done 6\n"),
-        (two(&[apart(0, 1, 3, 65_535)]), "scene 1 1 2 7\nscene 2 1 4 9\ndone 6\n"),
-        (two(&[apart(1, 0, 0, 0)]), "scene 1 1 8 7\ndone 6\n"),
+        (two(&[apart(0, 1, 3, 65_535)]), "scene 1 1 2 0 7 6\nscene 2 1 4 65536 9 65536\ndone 6\n"),
+        (two(&[apart(1, 0, 0, 0)]), "scene 1 1 8 6 7 6\ndone 6\n"),
         (two(&[apart(0, 0, 0, 65_535)]), "done 6\n"),
         (two(&[apart(0, 1, 4, 3)]), "refused 10 2\n"),
     ] {
@@ -207,16 +210,16 @@ fn numbers_of_every_length() {
         "numbers",
         File(&volume),
         File(&plan_bytes(&rows)),
-        "scene 0 1 0 0 0 0 0\n\
-         scene 9 1 9 0 0 0 0\n\
-         scene 10 1 10 0 0 0 0\n\
-         scene 99 1 99 0 0 0 0\n\
-         scene 100 1 100 0 0 0 0\n\
-         scene 999 1 999 0 0 0 0\n\
-         scene 1000 1 1000 0 0 0 0\n\
-         scene 9999 1 9999 0 0 0 0\n\
-         scene 10000 1 10000 0 0 0 0\n\
-         scene 65535 1 65535 1 0 65535 65535\n\
+        "scene 0 1 0 65536 0 0 0 0 0 0 0\n\
+         scene 9 1 9 65536 0 0 0 0 0 0 0\n\
+         scene 10 1 10 65536 0 0 0 0 0 0 0\n\
+         scene 99 1 99 65536 0 0 0 0 0 0 0\n\
+         scene 100 1 100 65536 0 0 0 0 0 0 0\n\
+         scene 999 1 999 65536 0 0 0 0 0 0 0\n\
+         scene 1000 1 1000 65536 0 0 0 0 0 0 0\n\
+         scene 9999 1 9999 65536 0 0 0 0 0 0 0\n\
+         scene 10000 1 10000 65536 0 0 0 0 0 0 0\n\
+         scene 65535 1 65535 65535 1 0 65536 65535 65535 65535 65535\n\
          done 26\n",
     );
 }
@@ -281,7 +284,7 @@ fn long_volumes() {
         let volume = longest(free).volume();
         assert_eq!(volume.len(), 65_536);
         let output = compare("65,536 bytes", File(&volume), File(&plan));
-        assert_eq!(output, format!("scene 0 1 0\ndone {}\n", 123 - free));
+        assert_eq!(output, format!("scene 0 1 0 65536\ndone {}\n", 123 - free));
         prints("65,536 bytes, a bad plan", File(&volume), File(&bad_plan), "refused 14 0\n");
     }
 
@@ -319,10 +322,10 @@ fn long_volumes() {
 #[test]
 fn listings_of_several_calls() {
     for (rows, width, most_calls) in [
-        (vec![voice(1), END], 3, 2),
-        (vec![voice(1), voice(1), END], 4, 2),
-        (vec![voice(1), voice(1), END, voice(1), voice(1), before(0, 1), END, EITHER], 7, 2),
-        (widest_plan(), 59, 4),
+        (vec![voice(1), END], 4, 2),
+        (vec![voice(1), voice(1), END], 6, 2),
+        (vec![voice(1), voice(1), END, voice(1), voice(1), before(0, 1), END, EITHER], 11, 2),
+        (widest_plan(), 110, 4),
     ] {
         let fit = (BUFFER_WORDS / width) as u32;
         let vars = rows.iter().filter(|row| row[0] == lihambozy::kind::VOICE).count() as u32;

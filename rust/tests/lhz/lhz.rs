@@ -39,7 +39,10 @@ fn answers_on_the_sample() {
         ("show sample.plan", SAMPLE_PLAN),
         ("show titles.vol sample.plan 0", SAMPLE_PLAN),
         ("show --line titles.vol sample.plan", "[1 2;b 0 1;t 0 1]\n"),
-        ("list titles.vol --line [1]&[2]", "scene 1 1 2 1 5\nscene 2 1 4 1 9\ndone 6\n"),
+        (
+            "list titles.vol --line [1]&[2]",
+            "scene 1 1 2 0 1 5 0\nscene 2 1 4 65536 1 9 65536\ndone 6\n",
+        ),
     ] {
         assert_eq!(folder.lhz(line).told(), (0, stdout, ""), "lhz {line}");
     }
@@ -108,6 +111,10 @@ fn standard_input_twice() {
         "show --line - -",
         "show --line --names - - sample.plan",
         "show --line --names - titles.vol -",
+        "list --json - -",
+        "list --names - - sample.plan",
+        "list --names - titles.vol -",
+        "list --json --names - - --line [1]",
     ] {
         let sentence = folder.lhz_given(line, &sample().volume()).failure(2, "").to_string();
         assert!(sentence.contains("standard input"), "lhz {line}: {sentence}");
@@ -150,13 +157,17 @@ fn list_as(cases: &[(&str, usize, &str)]) {
 #[test]
 fn the_table_of_cases() {
     list_as(&[
-        ("VOICE 1\nVOICE 2\nNEAR 0 1 0\nEND", 2, "scene 1 1 8 7\ndone 6\n"),
-        ("VOICE 1\nVOICE 2\nNEAR 0 1 3\nEND", 2, "scene 1 1 2 5\ndone 6\n"),
-        ("VOICE 1\nVOICE 2\nNEAR 0 1 4\nEND", 2, "scene 1 1 2 5\nscene 2 1 4 9\ndone 6\n"),
-        ("VOICE 1\nVOICE 2\nSPAN 4\nEND", 2, "scene 1 1 2 5\ndone 6\n"),
-        ("VOICE 1\nVOICE 2\nSPAN 3\nEND", 2, "scene 1 1 8 7\ndone 6\n"),
-        ("VOICE 1\nVOICE 2\nBEFORE 1 0\nSAME TITLE 0 1\nEND", 2, "scene 1 1 8 7\ndone 6\n"),
-        ("VOICE 1\nVOICE 1\nEND", 2, "scene 1 1 2 2\nscene 2 1 4 4\ndone 6\n"),
+        ("VOICE 1\nVOICE 2\nNEAR 0 1 0\nEND", 2, "scene 1 1 8 6 7 6\ndone 6\n"),
+        ("VOICE 1\nVOICE 2\nNEAR 0 1 3\nEND", 2, "scene 1 1 2 0 5 0\ndone 6\n"),
+        (
+            "VOICE 1\nVOICE 2\nNEAR 0 1 4\nEND",
+            2,
+            "scene 1 1 2 0 5 0\nscene 2 1 4 65536 9 65536\ndone 6\n",
+        ),
+        ("VOICE 1\nVOICE 2\nSPAN 4\nEND", 2, "scene 1 1 2 0 5 0\ndone 6\n"),
+        ("VOICE 1\nVOICE 2\nSPAN 3\nEND", 2, "scene 1 1 8 6 7 6\ndone 6\n"),
+        ("VOICE 1\nVOICE 2\nBEFORE 1 0\nSAME TITLE 0 1\nEND", 2, "scene 1 1 8 6 7 6\ndone 6\n"),
+        ("VOICE 1\nVOICE 1\nEND", 2, "scene 1 1 2 0 2 0\nscene 2 1 4 65536 4 65536\ndone 6\n"),
         ("VOICE 1\nBEFORE 0 0\nEND", 1, "done 3\n"),
     ]);
 }
@@ -165,10 +176,10 @@ fn the_table_of_cases() {
 #[test]
 fn scenes_without_a_title() {
     list_as(&[
-        ("VOICE 1\nVOICE 2\nSAME TITLE 0 1\nEND", 2, "scene 1 1 2 5\ndone 6\n"),
-        ("VOICE 2\nSAME TITLE 0 0\nEND", 1, "scene 1 1 5\ndone 3\n"),
-        ("VOICE 1\nVOICE 2\nSAME TITLE 1 1\nEND", 2, "scene 1 1 2 5\ndone 6\n"),
-        ("VOICE 1\nVOICE 2\nEND", 2, "scene 1 1 2 5\nscene 2 1 4 9\ndone 6\n"),
+        ("VOICE 1\nVOICE 2\nSAME TITLE 0 1\nEND", 2, "scene 1 1 2 0 5 0\ndone 6\n"),
+        ("VOICE 2\nSAME TITLE 0 0\nEND", 1, "scene 1 1 5 0\ndone 3\n"),
+        ("VOICE 1\nVOICE 2\nSAME TITLE 1 1\nEND", 2, "scene 1 1 2 0 5 0\ndone 6\n"),
+        ("VOICE 1\nVOICE 2\nEND", 2, "scene 1 1 2 0 5 0\nscene 2 1 4 65536 9 65536\ndone 6\n"),
     ]);
 }
 
@@ -176,12 +187,20 @@ fn scenes_without_a_title() {
 #[test]
 fn words_at_a_set_remove() {
     list_as(&[
-        ("VOICE 1\nVOICE 2\nAPART 0 1 2 4\nEND", 2, "scene 1 1 2 5\nscene 2 1 4 9\ndone 6\n"),
-        ("VOICE 1\nVOICE 2\nAPART 0 1 0 2\nEND", 2, "scene 1 1 2 5\ndone 6\n"),
+        (
+            "VOICE 1\nVOICE 2\nAPART 0 1 2 4\nEND",
+            2,
+            "scene 1 1 2 0 5 0\nscene 2 1 4 65536 9 65536\ndone 6\n",
+        ),
+        ("VOICE 1\nVOICE 2\nAPART 0 1 0 2\nEND", 2, "scene 1 1 2 0 5 0\ndone 6\n"),
         ("VOICE 1\nVOICE 2\nAPART 0 1 3 3\nEND", 2, "done 6\n"),
-        ("VOICE 1\nVOICE 2\nAPART 0 1 3 65535\nEND", 2, "scene 1 1 2 7\nscene 2 1 4 9\ndone 6\n"),
-        ("VOICE 1\nVOICE 2\nAPART 1 0 0 0\nEND", 2, "scene 1 1 8 7\ndone 6\n"),
-        ("VOICE 1\nVOICE 1\nAPART 0 1 5 5\nEND", 2, "scene 1 1 2 8\ndone 6\n"),
+        (
+            "VOICE 1\nVOICE 2\nAPART 0 1 3 65535\nEND",
+            2,
+            "scene 1 1 2 0 7 6\nscene 2 1 4 65536 9 65536\ndone 6\n",
+        ),
+        ("VOICE 1\nVOICE 2\nAPART 1 0 0 0\nEND", 2, "scene 1 1 8 6 7 6\ndone 6\n"),
+        ("VOICE 1\nVOICE 1\nAPART 0 1 5 5\nEND", 2, "scene 1 1 2 0 8 6\ndone 6\n"),
         ("VOICE 1\nAPART 0 0 0 65535\nEND", 1, "done 3\n"),
     ]);
 }
@@ -196,7 +215,7 @@ fn a_plan_of_two_figures() {
     folder.lhz_given("plan - two.plan", rows.as_bytes()).answer();
     for (line, stdout) in [
         ("check titles.vol two.plan", "lists 3 postings 8\nfigures 2 voices 5\n"),
-        ("list titles.vol two.plan", "scene 2 1 4 9 0 0 0 0\ndone 15\n"),
+        ("list titles.vol two.plan", "scene 2 1 4 65536 9 65536 0 0 0 0 0 0 0\ndone 15\n"),
         ("show two.plan", &rows),
         ("show titles.vol two.plan 0", first),
         ("show titles.vol two.plan 1", second),

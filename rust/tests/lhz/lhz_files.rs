@@ -231,7 +231,9 @@ fn a_standard_output_that_is_closed_early() {
     folder.write("long.vol", Lists::new(&[vec![], word]).volume());
     folder.write("long.plan", plan_bytes(&[voice(1), END]));
     for (line, first) in [
-        ("list long.vol long.plan", "scene 0 1 0\n"),
+        ("list long.vol long.plan", "scene 0 1 0 65536\n"),
+        ("list --names - long.vol long.plan", "scene 0\n  figure 0: list 1 at place 0"),
+        ("list --json long.vol long.plan", "{\"scene\":0,\"figures\":[{\"found\":true,"),
         ("read long.vol", "-\n"),
         ("read long.vol 1", "0:0 "),
     ] {
@@ -248,5 +250,5 @@ fn a_standard_output_that_is_closed_early() {
         assert_eq!(ended.status.code(), Some(2), "lhz {line}");
     }
     let ended = folder.sh("lhz list long.vol long.plan | head -n 1");
-    assert_eq!(ended.told(), (0, "scene 0 1 0\n", ""));
+    assert_eq!(ended.told(), (0, "scene 0 1 0 65536\n", ""));
 }

@@ -9,9 +9,11 @@ const COMMANDS: [&str; 9] =
     ["check", "list", "matches", "read", "test", "write", "join", "plan", "show"];
 
 /// How each command is used.
-const USES: [&str; 12] = [
+const USES: [&str; 14] = [
     "lhz check VOLUME [PLAN]",
     "lhz list VOLUME PLAN",
+    "lhz list --names FILE VOLUME PLAN",
+    "lhz list --json [--names FILE] VOLUME PLAN",
     "lhz matches VOLUME PLAN FIGURE SCENE [PLACE..]",
     "lhz read VOLUME [LIST]",
     "lhz test VOLUME PLAN FIGURE SCENE PLACE..",
@@ -113,6 +115,6 @@ fn examples_from_texts_to_a_listing() {
     let examples: Vec<&str> = examples.lines().filter_map(|line| line.strip_prefix("  ")).collect();
     let printed: String =
         examples.iter().map(|line| folder.sh(line).answer().to_string()).collect();
-    let typed = "scene 1 1 2 5\nscene 2 1 4 9\ndone 6\n";
+    let typed = "scene 1 1 2 0 5 0\nscene 2 1 4 65536 9 65536\ndone 6\n";
     assert_eq!(printed, format!("lists 3 postings 8 blocks 1\n{typed}rows 5\n{SAMPLE_LISTING}"));
 }

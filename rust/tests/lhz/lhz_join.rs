@@ -32,10 +32,12 @@ fn two_works_as_one() {
 
     let listed =
         |volume: &str| folder.lhz(&format!("list {volume} --line [1]")).answer().to_string();
-    assert_eq!(listed("titles.vol"), "scene 1 1 2\nscene 2 1 4\ndone 3\n");
-    assert_eq!(listed("second.vol"), "scene 0 1 3\nscene 5 1 1\ndone 2\n");
-    let both = "scene 1 1 2\nscene 2 1 4\nscene 3 1 3\nscene 8 1 1\ndone 5\n";
-    assert_eq!(listed("new.vol"), both);
+    let [first, second] =
+        ["scene 1 1 2 0\nscene 2 1 4 65536\n", "scene 0 1 3 0\nscene 5 1 1 65536\n"];
+    assert_eq!(listed("titles.vol"), format!("{first}done 3\n"));
+    assert_eq!(listed("second.vol"), format!("{second}done 2\n"));
+    let raised = "scene 3 1 3 0\nscene 8 1 1 65536\n";
+    assert_eq!(listed("new.vol"), format!("{first}{raised}done 5\n"));
 }
 
 /// Standard input is either volume, and standard output the joined one, with nothing else.

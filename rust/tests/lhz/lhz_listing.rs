@@ -82,7 +82,7 @@ fn listings_of_several_pages() {
             let scenes = 65_536 - count..=65_535;
             let word: Vec<u32> = scenes.clone().map(|scene| scene * 65_536 + 9).collect();
             folder.write("titles.vol", Lists::new(&[vec![], word]).volume());
-            let places = " 9".repeat(vars);
+            let places = " 9 65536".repeat(vars);
             let lines: String = scenes.map(|scene| format!("scene {scene} 1{places}\n")).collect();
             let listing = format!("{lines}done {}\n", vars as u32 * count);
             let answer = folder.lhz("list titles.vol titles.plan");
@@ -107,10 +107,12 @@ fn largest() -> (Lists, String) {
 
     let mut listing = String::new();
     for scene in others {
-        let (place, other) = (place(scene), other_place(scene));
+        // No title starts in any scene.
+        let [place, other] =
+            [place(scene), other_place(scene)].map(|place| format!("{place} 65536"));
         match scene % 2 {
             0 => writeln!(listing, "scene {scene} 1 {place} {other} 1 {other}").unwrap(),
-            _ => writeln!(listing, "scene {scene} 0 0 0 1 {other}").unwrap(),
+            _ => writeln!(listing, "scene {scene} 0 0 0 0 0 1 {other}").unwrap(),
         }
     }
     (lists, listing + &format!("done {tally}\n"))

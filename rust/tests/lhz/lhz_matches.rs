@@ -79,11 +79,11 @@ fn lines_go_into_other_commands() {
     let at_the_end = "-\n5:1 5:65535\n5:7 5:65535\n5:65535\n";
     let [p, q, r] = [1, 7, 65_535];
     for (lists, rows, row, lines) in [
-        (two_titles, near_both, "scene 5 1 1 2\ndone 7\n", near_lines),
+        (two_titles, near_both, "scene 5 1 1 0 2 0\ndone 7\n", near_lines),
         (
             at_the_end,
             "VOICE 1\nVOICE 2\nVOICE 3\nEND\n",
-            "scene 5 1 1 7 65535\ndone 5\n",
+            "scene 5 1 1 65536 7 65536 65535 65536\ndone 5\n",
             &[&[p, q, r], &[p, r, r], &[r, q, r], &[r, r, r]],
         ),
     ] {

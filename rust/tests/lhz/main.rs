@@ -8,6 +8,7 @@ mod support;
 mod lhz;
 mod lhz_arguments;
 mod lhz_files;
+mod lhz_forms;
 mod lhz_help;
 mod lhz_join;
 mod lhz_line;

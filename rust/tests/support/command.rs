@@ -20,8 +20,8 @@ pub const LHZ: &str = env!("CARGO_BIN_EXE_lhz");
 pub const SAMPLE_LISTS: &str = "1:0 1:6\n1:2 1:8 2:4\n1:5 1:7 2:9\n";
 /// The text of the sample plan in document 01.
 pub const SAMPLE_PLAN: &str = "VOICE 1\nVOICE 2\nBEFORE 0 1\nSAME TITLE 0 1\nEND\n";
-/// The listing of the sample, as request N3 of document 02 has it.
-pub const SAMPLE_LISTING: &str = "scene 1 1 2 5\ndone 6\n";
+/// The listing of the sample, as request N8 of document 02 has it.
+pub const SAMPLE_LISTING: &str = "scene 1 1 2 0 5 0\ndone 6\n";
 
 impl Folder {
     /// A folder with the sample of document 01: `titles.vol` and `sample.plan`, and their texts

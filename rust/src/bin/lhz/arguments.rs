@@ -2,7 +2,7 @@
 
 use crate::failure::Failure;
 use std::ffi::{OsStr, OsString};
-use std::fmt;
+use std::{fmt, mem};
 
 /// A number in an argument. It is shown as it stands there.
 #[derive(Clone, Copy)]
@@ -47,6 +47,8 @@ pub struct Arguments {
     pub as_line: bool,
     /// The file that tells the words of lists.
     pub names: Option<OsString>,
+    /// Whether a listing is to be printed as JSON.
+    pub json: bool,
     /// Whether help is asked for.
     pub help: bool,
 }
@@ -60,7 +62,7 @@ impl Arguments {
         arguments: impl Iterator<Item = OsString>,
     ) -> Result<Arguments, Failure> {
         let takes_line = matches!(command, "check" | "list" | "matches" | "test" | "plan" | "show");
-        let shows = command == "show";
+        let (shows, lists) = (command == "show", command == "list");
         let mut split = Arguments::default();
         let mut only_words = false;
         let mut arguments = arguments.peekable();
@@ -69,17 +71,15 @@ impl Arguments {
                 Some("--") => only_words = true,
                 Some("--help" | "-h") => split.help = true,
                 Some("--line") if shows && !arguments.peek().is_some_and(starts_line) => {
-                    if split.as_line {
-                        return Err(twice("--line"));
-                    }
-                    split.as_line = true;
+                    ask(&mut split.as_line, "--line")?;
                 }
                 Some("--line") if takes_line => {
                     set(&mut split.line, "--line", "LINE", arguments.next())?;
                 }
-                Some("--names") if shows => {
+                Some("--names") if shows || lists => {
                     set(&mut split.names, "--names", "FILE", arguments.next())?;
                 }
+                Some("--json") if lists => ask(&mut split.json, "--json")?,
                 Some(option) if option.len() > 1 && option.starts_with('-') => {
                     return Err(Failure::Usage(format!("there is no option `{option}`")));
                 }
@@ -104,6 +104,14 @@ impl Arguments {
 /// Whether an argument starts as every line does.
 fn starts_line(argument: &OsString) -> bool {
     matches!(argument.as_encoded_bytes(), [b'[' | b'(', ..])
+}
+
+/// Sets an option that takes nothing.
+fn ask(option: &mut bool, name: &str) -> Result<(), Failure> {
+    match mem::replace(option, true) {
+        true => Err(twice(name)),
+        false => Ok(()),
+    }
 }
 
 /// Sets what an option takes.

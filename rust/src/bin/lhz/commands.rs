@@ -3,7 +3,7 @@
 use crate::arguments::Argument::{self, Line, Word};
 use crate::arguments::{number, Arguments, Number};
 use crate::failure::{self, Failure};
-use crate::{files, help};
+use crate::{files, help, listing};
 use lihambozy::calls::CheckedPlan;
 use lihambozy::text::{self, ListLine};
 use lihambozy::{kind, line, Names, Plan, Refusal, Volume, BLOCK_BYTES};
@@ -33,11 +33,12 @@ pub fn run(
     if arguments.help {
         return print(out, page);
     }
-    let Arguments { as_line, names, .. } = &arguments;
+    let Arguments { as_line, json, .. } = arguments;
+    let names = arguments.names.as_deref();
     match (&*command, &arguments.in_place(&command)[..]) {
         ("check", &[Word(volume)]) => check(volume, None, out),
         ("check", &[Word(volume), plan]) => check(volume, Some(plan), out),
-        ("list", &[Word(volume), plan]) => list(volume, plan, out),
+        ("list", &[Word(volume), plan]) => list(volume, plan, names, json, out),
         ("matches", &[Word(volume), plan, Word(pattern), Word(doc), ref from @ ..]) => {
             let asked = Asked { may_lack_places: true, ..Asked::new(pattern, doc, from)? };
             matches(volume, plan, &asked, out)
@@ -52,9 +53,7 @@ pub fn run(
             join([first, second], number("H", raise)?, volume, out)
         }
         ("plan", &[text, Word(plan)]) => write_plan(text, plan, out),
-        ("show", &[Word(volume), plan]) if *as_line => {
-            show_line(volume, plan, names.as_deref(), out)
-        }
+        ("show", &[Word(volume), plan]) if as_line => show_line(volume, plan, names, out),
         ("show", &[plan]) if !as_line && names.is_none() => show(plan, out),
         ("show", &[Word(volume), plan, Word(pattern)]) if !as_line && names.is_none() => {
             show_pattern(volume, plan, pattern, out)
@@ -138,6 +137,22 @@ fn open_both(
     }
 }
 
+/// The volume of a file, a plan that is accepted over it, and the words of lists, where a file of
+/// them is given.
+fn open_named(
+    volume: &OsStr,
+    source: Argument<'_>,
+    names: Option<&OsStr>,
+) -> Result<(Volume<'static>, Plan, Option<Names>), Failure> {
+    if names.is_some_and(|path| path == "-") && (volume == "-" || is_input(source)) {
+        return Err(Failure::Usage(
+            "names and volume or plan cannot both be standard input".into(),
+        ));
+    }
+    let (volume, plan, _) = open_both(volume, source)?;
+    Ok((volume, plan, names.map(open_names).transpose()?))
+}
+
 /// A sentence on a refusal, with the refusal's number and place behind it.
 fn with_number(why: &str, Refusal { number, at }: Refusal) -> String {
     format!("{why} (refused {number} {at})")
@@ -162,14 +177,29 @@ fn check(volume: &OsStr, plan: Option<Argument<'_>>, out: &mut impl Write) -> Re
     }
 }
 
-fn list(volume: &OsStr, plan: Argument<'_>, out: &mut impl Write) -> Result<(), Failure> {
-    let file = plan_name(plan);
-    let (volume, plan, _) = open_both(volume, plan)?;
-    let mut search = volume.search(&plan).map_err(|refusal| Failure::refused(file, refusal))?;
+/// Lists in document 01's words, or in words with those of `names`, or as JSON.
+fn list(
+    volume: &OsStr,
+    source: Argument<'_>,
+    names: Option<&OsStr>,
+    json: bool,
+    out: &mut impl Write,
+) -> Result<(), Failure> {
+    let (volume, plan, names) = open_named(volume, source, names)?;
+    let search = volume.search(&plan);
+    let mut search = search.map_err(|refusal| Failure::refused(plan_name(source), refusal))?;
+    let patterns = listing::patterns(&plan, names.as_ref());
     for row in search.by_ref() {
-        print(out, format_args!("{row}\n"))?;
+        match (json, &names) {
+            (true, _) => print(out, format_args!("{}\n", listing::json(&row, &patterns)))?,
+            (false, Some(_)) => print(out, listing::in_words(&row, &patterns))?,
+            (false, None) => print(out, format_args!("{row}\n"))?,
+        }
     }
-    print(out, format_args!("done {}\n", search.tally()))
+    match json {
+        true => print(out, format_args!("{}\n", listing::json_done(search.tally()))),
+        false => print(out, format_args!("done {}\n", search.tally())),
+    }
 }
 
 fn read(path: &OsStr, list: Option<&OsStr>, out: &mut impl Write) -> Result<(), Failure> {
@@ -410,13 +440,7 @@ fn show_line(
     names: Option<&OsStr>,
     out: &mut impl Write,
 ) -> Result<(), Failure> {
-    if names.is_some_and(|path| path == "-") && (volume == "-" || is_input(source)) {
-        return Err(Failure::Usage(
-            "names and volume or plan cannot both be standard input".into(),
-        ));
-    }
-    let (volume, plan, _) = open_both(volume, source)?;
-    let names = names.map(open_names).transpose()?;
+    let (volume, plan, names) = open_named(volume, source, names)?;
     let line = plan.to_line(&volume);
     let line = line.map_err(|refusal| Failure::refused(plan_name(source), refusal))?;
     print(out, format_args!("{line}\n"))?;

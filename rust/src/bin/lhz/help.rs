@@ -6,6 +6,8 @@ lhz checks, reads, writes, joins and searches the volumes of a surtitle archive.
 
   lhz check VOLUME [PLAN]                         check a volume, and a plan
   lhz list VOLUME PLAN                            list the true scenes
+  lhz list --names FILE VOLUME PLAN               list them in words
+  lhz list --json [--names FILE] VOLUME PLAN      list them as JSON
   lhz matches VOLUME PLAN FIGURE SCENE [PLACE..]  print every passing choice
   lhz read VOLUME [LIST]                          print one list, or all
   lhz test VOLUME PLAN FIGURE SCENE PLACE..       ask whether places pass
@@ -73,22 +75,51 @@ PLAN (lhz plan --help).
   figures 2 voices 3
 ";
 
-const LIST: &str = "\
-lhz list VOLUME PLAN
+const LIST: &str = r#"lhz list VOLUME PLAN
+lhz list --names FILE VOLUME PLAN
+lhz list --json [--names FILE] VOLUME PLAN
 
 Lists all true scenes of a plan, rising, each once. A line is `scene`, the
-scene, and for each figure 1 and the earliest places of its voices, or 0 and
-zeros where the figure is not found in that scene. The last line is `done` and
-the number of postings of the voices' lists; without it the listing is not
-whole. `--line LINE` may stand in place of PLAN (lhz plan --help).
+scene, and for each figure 1 and two numbers for each of its voices, or 0 and
+zeros where the figure is not found in that scene. The two numbers are the
+voice's earliest place, and the place at which its title starts, or 65536 where
+it is in no title. The last line is `done` and the number of postings of the
+voices' lists; without it the listing is not whole. `--line LINE` may stand in
+place of PLAN (lhz plan --help).
 
   $ lhz list titles.vol sample.plan
-  scene 1 1 2 5
+  scene 1 1 2 0 5 0
   done 6
   $ lhz list titles.vol --line '[1 2;b 0 1]![2 1;n 0 1 0]'
-  scene 2 1 4 9 0 0 0
+  scene 2 1 4 65536 9 65536 0 0 0 0 0
   done 12
-";
+
+With --names each scene is told in words, with a line for each figure. FILE
+tells the words by lines `N word`, or is a text of lists, with comments
+`# list N: word`. A list without a word is told by its number.
+
+  $ cat words.txt
+  1 silver
+  $ lhz list --names words.txt titles.vol --line '[1]|[2;t 0 0]'
+  scene 1
+    figure 0: silver at place 2 in the title from 0
+    figure 1: list 2 at place 5 in the title from 0
+  scene 2
+    figure 0: silver at place 4 in no title
+    figure 1: not found
+  done 6
+
+With --json each line is an object of JSON, for programs. In the objects of
+scenes, `title` is null where a place is in no title, and a figure that is not
+found is {"found":false}. With --names each place whose list has a word has it
+as `word`. The object with `done` is the last. What is refused is printed as
+without --json.
+
+  $ lhz list --json titles.vol --line '[1]'
+  {"scene":1,"figures":[{"found":true,"places":[{"place":2,"title":0}]}]}
+  {"scene":2,"figures":[{"found":true,"places":[{"place":4,"title":null}]}]}
+  {"done":true,"tally":3}
+"#;
 
 const MATCHES: &str = "\
 lhz matches VOLUME PLAN FIGURE SCENE [PLACE..]

@@ -8,6 +8,7 @@ mod commands;
 mod failure;
 mod files;
 mod help;
+mod listing;
 
 use failure::Failure;
 use std::io::{self, BufWriter, Write};
