@@ -36,9 +36,7 @@ fn lists_and_plan(rng: &mut Rng) -> (Lists, Vec<Row>) {
     let is_few = rng.below(2) == 0;
     let count = if is_few { 1 + rng.below(12) } else { 300 + rng.below(1_500) };
     let docs = random_docs(rng, count);
-    // One document in eight has no title. In most others words stand before the first one.
-    let titled: Vec<u32> = docs.iter().copied().filter(|_| rng.below(8) > 0).collect();
-    let mut lists = vec![spread(rng, &titled, 4 * count)];
+    let mut lists = vec![starts(rng, &docs, words)];
     // The lists that a first variable may take, and those that the others may take.
     let (mut firsts, mut others) = (vec![], vec![]);
     for _ in 0..4 {
@@ -70,6 +68,22 @@ fn lists_and_plan(rng: &mut Rng) -> (Lists, Vec<Row>) {
         left -= 1 + length;
     }
     (Lists::new(&lists), rows)
+}
+
+/// List 0 of these documents, in a volume of so many words: none at all, few starts in each
+/// document or thousands, or one before all words. But for the last, one document in eight has no
+/// title, and in most others words stand before the first one.
+fn starts(rng: &mut Rng, docs: &[u32], words: usize) -> Vec<u32> {
+    let titled: Vec<u32> = docs.iter().copied().filter(|_| rng.below(8) > 0).collect();
+    match rng.below(8) {
+        0 => vec![],
+        1 | 2 => {
+            let most = (words / 4).min(20_000 * titled.len());
+            spread(rng, &titled, most)
+        }
+        3 => docs.iter().map(|doc| doc * 65_536).collect(),
+        _ => spread(rng, &titled, 4 * docs.len()),
+    }
 }
 
 /// So many different documents, rising.
@@ -139,6 +153,7 @@ fn search(rng: &mut Rng, counts: &mut Counts, volume: &[u8], rows: &[Row]) {
     search.assert_whole(&counts.trial.case);
     counts.searches.count("searches", 1);
     counts.searches.count("searches to done", 1);
+    count_starts(&mut counts.searches, &subject);
     other_starts(rng, &mut counts.trial, &subject, 3);
     for _ in 0..4 {
         any_test(rng, counts, &subject);

@@ -44,7 +44,7 @@ use std::time::{Duration, Instant};
 use support::Rng;
 use watch::Note;
 
-/// A run at least so long, in seconds, meets every refusal.
+/// A run at least so long, in seconds, meets every refusal and every sort of title start.
 const WHOLE: u64 = 60;
 /// After so much time a run tells how far it is.
 const TOLD: Duration = Duration::from_secs(30);

@@ -8,7 +8,7 @@ use crate::report::Counts;
 use crate::support::matches::{random_crowd, random_from};
 use crate::support::searches::{random_large_subject, random_subject, Subject};
 use crate::support::{pair, Lists, Rng};
-use lihambozy::{Matches, Plan, Posting, Search, Volume};
+use lihambozy::{Matches, Plan, Position, Posting, Search, Volume};
 use std::fmt::Debug;
 
 /// Compares one answer of the package.
@@ -240,12 +240,10 @@ pub fn walk(rng: &mut Rng, counts: &mut Counts, subject: &Subject, search: Searc
         assert_eq!((answer.words(), answer.doc()), (&row[..], row[0]), "{case}");
         let shown: String = row.iter().map(|word| format!(" {word}")).collect();
         assert_eq!(answer.to_string(), format!("scene{shown}"), "{case}");
-        let mut rest = &row[1..];
-        for (pattern, answer) in searcher.patterns.iter().zip(answer.patterns()) {
-            let positions = &rest[1..][..pattern.lists.len()];
-            assert_eq!(answer, (rest[0] == 1).then_some(positions), "{case}");
-            rest = &rest[1 + pattern.lists.len()..];
-        }
+        let words = |var: Position| [var.pos, var.title_start.unwrap_or(65_536)];
+        let pairs =
+            answer.patterns().map(|found| found.map(|vars| vars.iter().map(words).collect()));
+        assert_eq!(pairs.collect::<Vec<_>>(), searcher.shown(&row), "{case}");
         assert!(row[0] < search.reached() && search.reached() <= 65_536, "{case}");
         assert_eq!(search.tally(), searcher.tally(0, search.reached()).into(), "{case}");
         counts.searches.count("rows of Search", 1);

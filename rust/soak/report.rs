@@ -1,6 +1,7 @@
 //! What a run counts, and what it tells.
 
 use crate::line_trial::{Lines, Way};
+use crate::support::searches::STARTS;
 use crate::support::{Call, Met, Trial};
 use std::collections::BTreeMap;
 use std::time::Duration;
@@ -144,13 +145,15 @@ impl Counts {
         }
     }
 
-    /// The numbers that a call can tell and never did.
+    /// The numbers that a call can tell and never did, and where no title start of a row has lain.
     pub fn missed(&self) -> Vec<String> {
         let of_call = |(name, of, can): (&str, Of, &[u32])| {
             let met = self.met(of);
             let never = can.iter().filter(|number| !met.contains_key(number));
             never.map(|number| format!("{name} never met {number}")).collect::<Vec<_>>()
         };
-        CALLS.into_iter().flat_map(of_call).collect()
+        let starts = STARTS.into_iter().filter(|&what| !self.searches.0.contains_key(what));
+        let starts = starts.map(|what| format!("no row met {what}"));
+        CALLS.into_iter().flat_map(of_call).chain(starts).collect()
     }
 }

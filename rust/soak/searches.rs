@@ -21,6 +21,7 @@ pub fn searches(case: &mut Case) {
     for _ in 0..2 {
         random_search(rng, &mut counts.trial, &mut counts.searches, &subject);
     }
+    count_starts(&mut counts.searches, &subject);
     other_starts(rng, &mut counts.trial, &subject, 3);
 }
 
@@ -73,9 +74,11 @@ fn fitting_test(rng: &mut Rng, searcher: &Searcher) -> (usize, u32, Vec<u32>) {
     if !searcher.rows.is_empty() && rng.below(2) == 0 {
         // The least positions, or zeros.
         let row = &searcher.rows[rng.below(searcher.rows.len())];
-        let before: usize =
-            searcher.patterns[..number].iter().map(|pattern| 1 + pattern.lists.len()).sum();
-        return (number, row[0], row[2 + before..][..vars].to_vec());
+        let positions = match &searcher.shown(row)[number] {
+            Some(pairs) => pairs.iter().map(|[pos, _]| *pos).collect(),
+            None => vec![0; vars],
+        };
+        return (number, row[0], positions);
     }
     let docs: Vec<u32> = searcher.docs().into_iter().chain([65_535]).collect();
     let doc = rng.pick(&docs);

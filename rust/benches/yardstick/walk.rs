@@ -1,5 +1,5 @@
-//! A searcher: the volume is checked with late reduction, the lists that the plan uses are decoded
-//! into vectors, and one pass over them lists the documents.
+//! A searcher: the volume is checked with late reduction, the lists that the plan uses and list 0
+//! are decoded into vectors, and one pass over them lists the documents.
 //!
 //! The pass: a cursor is what is left of a list. Each pattern takes its variables in the order of
 //! their lists' lengths, and joins the lists: the shortest one leads, the others leap to the
@@ -8,7 +8,9 @@
 //! since no plan is true where no pattern has all its variables. Each pattern that stands there is
 //! settled: from the first positions on, a predicate that fails moves the variable that it leaves
 //! short, of several the first in the order, and where all hold the match is the least. The cursors
-//! themselves move, and the next join goes on from where they lie.
+//! themselves move, and the next join goes on from where they lie. Title starts, those of a row and
+//! those that SAME TITLE asks for, are found by a cursor on list 0 for each variable: since its
+//! positions rise, it goes on from where the variable's start was found last.
 
 use super::late::{self, Refused};
 
@@ -52,32 +54,33 @@ pub fn walk(volume: &[u8], plan: &[u32], start: u32, out: &mut [u32]) -> Result<
     let list = |number: u32| &lists[used.binary_search(&number).unwrap()][..];
     let mut patterns: Vec<Joined> =
         plan.patterns.iter().map(|pattern| Joined::new(pattern, start, list)).collect();
-    let mut starts = if plan.has_samepara() { list(0) } else { &[] };
 
     let mut rows = 0;
-    let mut least = [[0; MAX_VARS]; MAX_PATTERNS];
     let next = loop {
         let doc = patterns.iter().map(|pattern| pattern.doc).min().unwrap_or(END);
         if doc == END {
             break None;
         }
-        starts = seek(starts, doc << 16);
         let mut found = 0;
         for (i, pattern) in patterns.iter_mut().enumerate() {
-            let here = if pattern.doc == doc { pattern.settle(starts) } else { None };
-            found |= u32::from(here.is_some()) << i;
-            least[i] = here.unwrap_or_default();
+            let here = pattern.doc == doc && pattern.settle().is_some();
+            found |= u32::from(here) << i;
         }
         if plan.is_true(found) {
             let Some(row) = out.get_mut(rows * width..(rows + 1) * width) else {
                 break Some(doc);
             };
             row[0] = doc;
-            let mut at = 1;
-            for (i, (pattern, least)) in patterns.iter().zip(&least).enumerate() {
-                row[at] = found >> i & 1;
-                row[at + 1..][..pattern.vars].copy_from_slice(&least[..pattern.vars]);
-                at += 1 + pattern.vars;
+            let mut rest = &mut row[1..];
+            for (i, pattern) in patterns.iter_mut().enumerate() {
+                let words;
+                (words, rest) = rest.split_at_mut(1 + 2 * pattern.vars);
+                if found >> i & 1 == 1 {
+                    words[0] = 1;
+                    pattern.show(&mut words[1..]);
+                } else {
+                    words.fill(0);
+                }
             }
             rows += 1;
         }
@@ -178,8 +181,7 @@ enum Predicate {
 impl Predicate {
     /// The variable that the predicate leaves short at these positions of a document, of several
     /// the first in the order, and the position that it needs there at least, `END` where no
-    /// position will do; `None` where the predicate holds. `largest` is the largest position, and
-    /// `starts` begins with the document's own.
+    /// position will do; `None` where the predicate holds. `largest` is the largest position.
     #[inline]
     fn short(
         self,
@@ -187,7 +189,7 @@ impl Predicate {
         at: &[u32],
         order: &[usize],
         largest: u32,
-        starts: &[u32],
+        titles: &mut Titles,
     ) -> Option<(usize, u32)> {
         match self {
             Predicate::Distance { a, b, most } => {
@@ -197,7 +199,7 @@ impl Predicate {
             Predicate::Ordered { a, b } => (at[a] >= at[b]).then(|| (b, at[a] + 1)),
             Predicate::Samepara { a, b } => {
                 let (earlier, later) = if at[a] < at[b] { (a, b) } else { (b, a) };
-                let start = needed_start(doc, at[later], starts);
+                let start = titles.needed(doc, later, at[later]);
                 (at[earlier] < start).then_some((earlier, start))
             }
             Predicate::Window { most } => {
@@ -217,14 +219,39 @@ impl Predicate {
     }
 }
 
-/// The greatest start of the document that is not above the position. A position that has none is
-/// in no title, and needs the document's first start instead, or `END` where the document has none.
-fn needed_start(doc: u32, pos: u32, starts: &[u32]) -> u32 {
-    let posting = doc << 16 | pos;
-    let behind = posting.checked_add(1).map_or(0, |bound| seek(starts, bound).len());
-    match starts[..starts.len() - behind].last().or(starts.first()) {
+/// List 0, and a cursor on it for each variable of a pattern: what is left of it behind the
+/// position whose start was looked for last. The positions of a variable rise.
+struct Titles<'a> {
+    starts: &'a [u32],
+    left: [&'a [u32]; MAX_VARS],
+}
+
+/// The position of a start, where it is in the document; else `END`.
+fn start_in(doc: u32, start: Option<&u32>) -> u32 {
+    match start {
         Some(start) if start >> 16 == doc => start & 0xffff,
         _ => END,
+    }
+}
+
+impl Titles<'_> {
+    /// The title start of a variable's position: the greatest start of the document that is not
+    /// above it, or `END` if there is none.
+    #[inline]
+    fn start(&mut self, doc: u32, var: usize, pos: u32) -> u32 {
+        let left = &mut self.left[var];
+        *left = (doc << 16 | pos).checked_add(1).map_or(&[], |bound| seek(left, bound));
+        start_in(doc, self.starts[..self.starts.len() - left.len()].last())
+    }
+
+    /// The same, but a position that has no start is in no title, and needs the document's first
+    /// start, which is behind it.
+    #[inline]
+    fn needed(&mut self, doc: u32, var: usize, pos: u32) -> u32 {
+        match self.start(doc, var, pos) {
+            END => start_in(doc, self.left[var].first()),
+            start => start,
+        }
     }
 }
 
@@ -238,6 +265,7 @@ struct Joined<'a> {
     left: [&'a [u32]; MAX_VARS],
     /// The positions of these postings.
     at: [u32; MAX_VARS],
+    titles: Titles<'a>,
     /// The next document in which every variable has a posting.
     doc: u32,
 }
@@ -251,8 +279,16 @@ impl<'a> Joined<'a> {
         let vars = pattern.lists.len();
         let mut order: [usize; MAX_VARS] = std::array::from_fn(|var| var);
         order[..vars].sort_by_key(|&var| left[var].len());
-        let predicates = &pattern.predicates;
-        let mut joined = Joined { predicates, vars, order, left, at: [0; MAX_VARS], doc: start };
+        let starts = seek(list(0), start << 16);
+        let mut joined = Joined {
+            predicates: &pattern.predicates,
+            vars,
+            order,
+            left,
+            at: [0; MAX_VARS],
+            titles: Titles { starts, left: [starts; MAX_VARS] },
+            doc: start,
+        };
         joined.join(start);
         joined
     }
@@ -285,16 +321,17 @@ impl<'a> Joined<'a> {
         }
     }
 
-    /// The least match in `doc`: a position for each variable. The cursors move there; where there
-    /// is none, they move until one of them has no position left in `doc`.
-    fn settle(&mut self, starts: &[u32]) -> Option<[u32; MAX_VARS]> {
+    /// Moves the cursors to the least match in `doc`; where there is none, until one of them has no
+    /// position left there.
+    fn settle(&mut self) -> Option<()> {
         let (doc, order) = (self.doc, &self.order[..self.vars]);
         let (left, at) = (&mut self.left[..self.vars], &mut self.at[..self.vars]);
         let mut largest = at.iter().copied().max().unwrap_or(0);
         // So many predicates in turn hold.
         let mut holding = 0;
         for predicate in self.predicates.iter().cycle() {
-            while let Some((var, pos)) = predicate.short(doc, at, order, largest, starts) {
+            while let Some((var, pos)) = predicate.short(doc, at, order, largest, &mut self.titles)
+            {
                 left[var] = seek(left[var], (doc << 16).checked_add(pos)?);
                 let posting = left[var].first()?;
                 if posting >> 16 != doc {
@@ -309,7 +346,14 @@ impl<'a> Joined<'a> {
                 break;
             }
         }
-        Some(self.at)
+        Some(())
+    }
+
+    /// Writes the positions of a match that is settled in `doc`, each followed by its title start.
+    fn show(&mut self, words: &mut [u32]) {
+        for (var, (pair, &pos)) in words.chunks_exact_mut(2).zip(&self.at).enumerate() {
+            pair.copy_from_slice(&[pos, self.titles.start(self.doc, var, pos)]);
+        }
     }
 }
 
@@ -415,21 +459,13 @@ impl Plan {
 
     /// The words of a row of the listing.
     fn width(&self) -> usize {
-        1 + self.patterns.iter().map(|pattern| 1 + pattern.lists.len()).sum::<usize>()
+        1 + self.patterns.iter().map(|pattern| 1 + 2 * pattern.lists.len()).sum::<usize>()
     }
 
-    fn has_samepara(&self) -> bool {
-        let mut predicates = self.patterns.iter().flat_map(|pattern| &pattern.predicates);
-        predicates.any(|predicate| matches!(predicate, Predicate::Samepara { .. }))
-    }
-
-    /// The lists that the plan uses, each once, rising.
+    /// List 0 and the lists that the plan uses, each once, rising.
     fn used(&self) -> Vec<u32> {
-        let mut used: Vec<u32> =
-            self.patterns.iter().flat_map(|pattern| &pattern.lists).copied().collect();
-        if self.has_samepara() {
-            used.push(0);
-        }
+        let lists = self.patterns.iter().flat_map(|pattern| &pattern.lists);
+        let mut used: Vec<u32> = [0].iter().chain(lists).copied().collect();
         used.sort_unstable();
         used.dedup();
         used

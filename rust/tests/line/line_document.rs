@@ -261,23 +261,28 @@ fn the_writer() {
 }
 
 /// "Where a line's rows are accepted, their true scenes are exactly those of the line read on its
-/// own, without rows." Document 01's cases, typed; what passes is as they say, with request N3.
+/// own, without rows." Document 01's cases, typed; what passes is as they say, with request N3, and
+/// title starts stand beside the places, by request N8.
 #[test]
 fn the_cases_of_document_01_typed() {
     let volume = Volume::new(sample().volume()).unwrap();
     let rows: &[(&str, &[&str], u64)] = &[
-        ("[1 2;b 0 1;t 0 1]", &["scene 1 1 2 5"], 6),
-        ("[1 2;n 0 1 0]", &["scene 1 1 8 7"], 6),
-        ("[1 2;n 0 1 3]", &["scene 1 1 2 5"], 6),
-        ("[1 2;n 0 1 4]", &["scene 1 1 2 5", "scene 2 1 4 9"], 6),
-        ("[1 2;s 4]", &["scene 1 1 2 5"], 6),
-        ("[1 2;s 3]", &["scene 1 1 8 7"], 6),
-        ("[1 2;b 1 0;t 0 1]", &["scene 1 1 8 7"], 6),
-        ("[1 1]", &["scene 1 1 2 2", "scene 2 1 4 4"], 6),
+        ("[1 2;b 0 1;t 0 1]", &["scene 1 1 2 0 5 0"], 6),
+        ("[1 2;n 0 1 0]", &["scene 1 1 8 6 7 6"], 6),
+        ("[1 2;n 0 1 3]", &["scene 1 1 2 0 5 0"], 6),
+        ("[1 2;n 0 1 4]", &["scene 1 1 2 0 5 0", "scene 2 1 4 65536 9 65536"], 6),
+        ("[1 2;s 4]", &["scene 1 1 2 0 5 0"], 6),
+        ("[1 2;s 3]", &["scene 1 1 8 6 7 6"], 6),
+        ("[1 2;b 1 0;t 0 1]", &["scene 1 1 8 6 7 6"], 6),
+        ("[1 1]", &["scene 1 1 2 0 2 0", "scene 2 1 4 65536 4 65536"], 6),
         ("[1;b 0 0]", &[], 3),
-        ("[1 2;b 0 1]![1 2;n 0 1 0]", &["scene 2 1 4 9 0 0 0"], 12),
-        ("[1 2;a 0 1 4 4]", &["scene 1 1 2 7", "scene 2 1 4 9"], 6),
-        ("[1 2;b 0 1]!([1 2;n 0 1 0]|[1 2;n 0 1 0])", &["scene 2 1 4 9 0 0 0 0 0 0"], 18),
+        ("[1 2;b 0 1]![1 2;n 0 1 0]", &["scene 2 1 4 65536 9 65536 0 0 0 0 0"], 12),
+        ("[1 2;a 0 1 4 4]", &["scene 1 1 2 0 7 6", "scene 2 1 4 65536 9 65536"], 6),
+        (
+            "[1 2;b 0 1]!([1 2;n 0 1 0]|[1 2;n 0 1 0])",
+            &["scene 2 1 4 65536 9 65536 0 0 0 0 0 0 0 0 0 0"],
+            18,
+        ),
     ];
     for (line, listed, tally) in rows {
         let plan = Plan::from_line(line).unwrap();

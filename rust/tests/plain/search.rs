@@ -1,8 +1,9 @@
 //! A naive searcher, straight from document 01 ("Plan" and "Calls") and from requests N2 (APART),
-//! N3 (SAME TITLE before the first title) and N4 (all the places in a scene) of document 02. It
-//! shares nothing with the library or its wrappers: in each document it tries every choice of
-//! positions and keeps those that pass; it settles all documents before the first call, and reads
-//! each answer off their rows.
+//! N3 (SAME TITLE before the first title), N4 (all the places in a scene) and N8 (title starts
+//! beside the places) of document 02. It shares nothing with the library or its wrappers: in each
+//! document it tries every choice of positions and keeps those that pass; it settles all documents
+//! before the first call, and reads each answer off their rows. SAME TITLE is N3's sentence, and
+//! looks at no title start.
 
 use super::plan::{self, Row};
 use super::{lists, Refused};
@@ -60,6 +61,12 @@ pub fn choices(positions: &[impl AsRef<[u32]>]) -> Vec<Vec<u32>> {
         choices = choices.iter().flat_map(longer).collect();
     }
     choices
+}
+
+/// The title start of a position, in a document where titles start at `starts`: the greatest start
+/// not above it, or 65,536 if there is none.
+pub fn title_start(starts: &[u32], pos: u32) -> u32 {
+    starts.iter().copied().filter(|&start| start <= pos).max().unwrap_or(65_536)
 }
 
 /// Whether a predicate holds of a choice, in a document where titles start at `starts`.
@@ -186,7 +193,7 @@ impl Searcher {
     }
 
     /// The row of a document, if it is true: the document, then for each pattern 1 and its earliest
-    /// positions, or 0 and zeros.
+    /// positions, each followed by its title start, or 0 and zeros.
     pub fn row(&self, doc: u32) -> Option<Vec<u32>> {
         let earliest: Vec<Option<Vec<u32>>> =
             self.patterns.iter().map(|pattern| self.earliest(pattern, doc)).collect();
@@ -194,14 +201,40 @@ impl Searcher {
         if !self.answer(&found) {
             return None;
         }
+        let starts = self.positions(0, doc);
         let mut row = vec![doc];
         for (pattern, earliest) in self.patterns.iter().zip(earliest) {
             match earliest {
-                Some(positions) => row.extend([vec![1], positions].concat()),
-                None => row.extend(vec![0; 1 + pattern.lists.len()]),
+                Some(positions) => {
+                    row.push(1);
+                    for pos in positions {
+                        row.extend([pos, title_start(&starts, pos)]);
+                    }
+                }
+                None => row.extend(vec![0; 1 + 2 * pattern.lists.len()]),
             }
         }
         Some(row)
+    }
+
+    /// What a row shows: for each pattern the position and the title start of each variable, or
+    /// `None` where all its words are 0.
+    pub fn shown(&self, row: &[u32]) -> Vec<Option<Vec<[u32; 2]>>> {
+        assert_eq!(row.len(), self.width(), "the words of {row:?}");
+        let mut rest = &row[1..];
+        let mut shown = vec![];
+        for pattern in &self.patterns {
+            let (words, behind) = rest.split_at(1 + 2 * pattern.lists.len());
+            shown.push(match words[0] {
+                1 => Some(words[1..].chunks(2).map(|pair| [pair[0], pair[1]]).collect()),
+                _ => {
+                    assert!(words.iter().all(|&word| word == 0), "{words:?} in {row:?}");
+                    None
+                }
+            });
+            rest = behind;
+        }
+        shown
     }
 
     /// V, the variables of all patterns together.
@@ -209,9 +242,9 @@ impl Searcher {
         self.patterns.iter().map(|pattern| pattern.lists.len()).sum()
     }
 
-    /// The words of a row: 1 + F + V.
+    /// The words of a row: 1 + F + 2V.
     pub fn width(&self) -> usize {
-        1 + self.patterns.len() + self.vars()
+        1 + self.patterns.len() + 2 * self.vars()
     }
 
     /// The postings of each variable's list from one document up to another, which is not counted,

@@ -95,19 +95,19 @@ fn the_table_of_cases() {
     }
 }
 
-/// A row of a listing has 1 + F + V words. The documents list these plans over the sample.
+/// A row of a listing has 1 + F + 2V words. The documents list these plans over the sample.
 #[test]
 fn words_of_a_listing_row() {
     let volume = sample().volume();
     let joined = [two(&[before(0, 1)]), two(&[near(0, 1, 0)]), vec![FIRST_NOT_SECOND]].concat();
     for (rows, row) in [
-        (SAMPLE.to_vec(), &[1, 1, 2, 5][..]),
-        (two(&[near(0, 1, 4)]), &[1, 1, 2, 5]),
-        (joined, &[2, 1, 4, 9, 0, 0, 0]),
+        (SAMPLE.to_vec(), &[1, 1, 2, 0, 5, 0][..]),
+        (two(&[near(0, 1, 4)]), &[1, 1, 2, 0, 5, 0]),
+        (joined, &[2, 1, 4, 65_536, 9, 65_536, 0, 0, 0, 0, 0]),
     ] {
         let plan = rows.concat();
         let checked = lihambozy::calls::check_plan(&volume, &plan).unwrap();
-        let width = (1 + checked.patterns + checked.vars) as usize;
+        let width = (1 + checked.patterns + 2 * checked.vars) as usize;
         // There is room for one row and all words but one of a second.
         let mut out = vec![99; 2 * width - 1];
         let listing = lihambozy::calls::list(&volume, &plan, 0, &mut out).unwrap();

@@ -51,7 +51,7 @@ fn lengths_before_rows() {
     }
 }
 
-/// The greatest number of variables: 51 in 7 patterns, so that a row of a listing has 59 words.
+/// The greatest number of variables: 51 in 7 patterns, so that a row of a listing has 110 words.
 #[test]
 fn the_largest_plans() {
     let volume = sample().volume();

@@ -33,7 +33,7 @@ fn works_in_a_table() {
             sample,
             2,
             &SAMPLE,
-            &[&[1, 1, 2, 5], &[3, 1, 2, 5]],
+            &[&[1, 1, 2, 0, 5, 0], &[3, 1, 2, 0, 5, 0]],
             12,
         ),
         (
@@ -42,11 +42,32 @@ fn works_in_a_table() {
             sample,
             2,
             &ordered,
-            &[&[1, 1, 2, 5], &[2, 1, 4, 9], &[3, 1, 2, 5], &[4, 1, 4, 9]],
+            &[
+                &[1, 1, 2, 0, 5, 0],
+                &[2, 1, 4, NO_START, 9, NO_START],
+                &[3, 1, 2, 0, 5, 0],
+                &[4, 1, 4, NO_START, 9, NO_START],
+            ],
             12,
         ),
-        ("rows of the first alone", sample, none, 9, &ordered, &[&[1, 1, 2, 5], &[2, 1, 4, 9]], 6),
-        ("rows of the second alone", none, sample, 0, &ordered, &[&[1, 1, 2, 5], &[2, 1, 4, 9]], 6),
+        (
+            "rows of the first alone",
+            sample,
+            none,
+            9,
+            &ordered,
+            &[&[1, 1, 2, 0, 5, 0], &[2, 1, 4, NO_START, 9, NO_START]],
+            6,
+        ),
+        (
+            "rows of the second alone",
+            none,
+            sample,
+            0,
+            &ordered,
+            &[&[1, 1, 2, 0, 5, 0], &[2, 1, 4, NO_START, 9, NO_START]],
+            6,
+        ),
         ("no rows", none, none, u32::MAX, &ordered, &[], 0),
         (
             "the last documents",
@@ -54,7 +75,7 @@ fn works_in_a_table() {
             sample,
             65_533,
             &two(&[near(0, 1, 0)]),
-            &[&[1, 1, 8, 7], &[65_534, 1, 8, 7]],
+            &[&[1, 1, 8, 6, 7, 6], &[65_534, 1, 8, 6, 7, 6]],
             12,
         ),
         (
@@ -63,7 +84,10 @@ fn works_in_a_table() {
             sample,
             100,
             &[&two(&[before(0, 1)])[..], &two(&[near(0, 1, 0)]), &[FIRST_NOT_SECOND]].concat(),
-            &[&[2, 1, 4, 9, 0, 0, 0], &[102, 1, 4, 9, 0, 0, 0]],
+            &[
+                &[2, 1, 4, NO_START, 9, NO_START, 0, 0, 0, 0, 0],
+                &[102, 1, 4, NO_START, 9, NO_START, 0, 0, 0, 0, 0],
+            ],
             24,
         ),
         // 7:65,535 and 8:0 are neighbours as numbers, and in no document.
@@ -73,7 +97,7 @@ fn works_in_a_table() {
             front,
             8,
             &two(&[near(0, 1, 0)]),
-            &[&[7, 1, 65_535, 65_534], &[8, 1, 1, 0]],
+            &[&[7, 1, 65_535, 0, 65_534, 0], &[8, 1, 1, 1, 0, NO_START]],
             4,
         ),
         ("no BEFORE from work to work", edge, front, 8, &two(&[before(0, 1)]), &[], 4),
@@ -84,7 +108,7 @@ fn works_in_a_table() {
             front,
             8,
             &[voice(2), same_title(0, 0), END],
-            &[&[7, 1, 65_534]],
+            &[&[7, 1, 65_534, 0]],
             2,
         ),
         (
@@ -93,7 +117,7 @@ fn works_in_a_table() {
             front,
             8,
             &[voice(1), same_title(0, 0), END],
-            &[&[7, 1, 65_535], &[8, 1, 1]],
+            &[&[7, 1, 65_535, 0], &[8, 1, 1, 1]],
             2,
         ),
         (
@@ -102,7 +126,7 @@ fn works_in_a_table() {
             &[&[], &[], &[(3, 4)]],
             1,
             &[voice(1), END, voice(2), END, EITHER],
-            &[&[3, 1, 3, 0, 0], &[4, 0, 0, 1, 4]],
+            &[&[3, 1, 3, NO_START, 0, 0, 0], &[4, 0, 0, 0, 1, 4, NO_START]],
             2,
         ),
         (
@@ -138,12 +162,13 @@ fn more_between_the_works() {
         trial.case = format!("raise {raise}");
         let joined = trial.join(&volume, &volume, raise, 512).unwrap();
         let subject = Subject::new(&joined, &two(&[before(0, 1)]).concat());
-        let (words, first) = trial.list_rows(&subject, 0, 8).unwrap();
-        assert_eq!(words, [1, 1, 2, 5, 2, 1, 4, 9]);
+        let (words, first) = trial.list_rows(&subject, 0, 12).unwrap();
+        assert_eq!(words, [1, 1, 2, 0, 5, 0, 2, 1, 4, NO_START, 9, NO_START]);
         assert_eq!((first.tally, first.more), (6, Some(1 + raise)));
         for start in [3, 1 + raise] {
-            let (words, second) = trial.list_rows(&subject, start, 8).unwrap();
-            assert_eq!(words, [1 + raise, 1, 2, 5, 2 + raise, 1, 4, 9], "from {start}");
+            let (words, second) = trial.list_rows(&subject, start, 12).unwrap();
+            let told = [1 + raise, 1, 2, 5, 2 + raise, 1, 4, 9];
+            assert_eq!(words, subject.with_starts(&told), "from {start}");
             assert_eq!((second.tally, second.more), (6, None), "from {start}");
         }
     }
@@ -224,7 +249,7 @@ fn plans_refused_alike() {
         }
         for volume in &volumes {
             let subject = Subject::new(volume, &plan);
-            let listed = trial.list_rows(&subject, 0, 60).map(|_| ());
+            let listed = trial.list_rows(&subject, 0, 110).map(|_| ());
             assert_eq!(listed, answers[0].map(|_| ()), "{}", trial.case);
         }
     }

@@ -1,5 +1,6 @@
-//! Searches: documents listed, in joined volumes too, positions tested, and all tuples listed that
-//! pass in a document; and the yardstick of the benchmarks.
+//! Searches: documents listed, in joined volumes too, with title starts beside the positions,
+//! positions tested, and all tuples listed that pass in a document; and the yardstick of the
+//! benchmarks.
 
 #[path = "../plain/mod.rs"]
 mod plain;
@@ -21,6 +22,7 @@ mod search_edges;
 mod search_order;
 mod search_random;
 mod search_refusals;
+mod search_starts;
 mod search_titles;
 mod test_positions;
 mod yardstick_walk;

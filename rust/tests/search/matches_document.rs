@@ -122,7 +122,8 @@ fn the_first_is_the_earliest() {
         let subject = over_sample(predicates);
         let (rows, _) = trial.search(&subject, 40);
         for doc in 0..4 {
-            let shown = rows.chunks(4).find(|row| row[0] == doc).map(|row| row[2..].to_vec());
+            let row = rows.chunks(6).find(|row| row[0] == doc);
+            let shown = row.map(|row| vec![row[2], row[4]]);
             let (written, _) = trial.match_page(&subject, 0, doc, &[0, 0], 2).unwrap();
             assert_eq!(written.first().cloned(), shown, "{predicates:?} {doc}");
         }
@@ -132,7 +133,8 @@ fn the_first_is_the_earliest() {
     // FIRST NOT SECOND leaves it out.
     let rows = [&two(&[before(0, 1)])[..], &two(&[near(0, 1, 0)]), &[FIRST_NOT_SECOND]].concat();
     let subject = Subject::new(&sample().volume(), &rows.concat());
-    assert_eq!(trial.search(&subject, 70).0, [2, 1, 4, 9, 0, 0, 0]);
+    let row = [2, 1, 4, NO_START, 9, NO_START, 0, 0, 0, 0, 0];
+    assert_eq!(trial.search(&subject, 110).0, row);
     let zeros = [0, 0];
     let first = trial.match_page(&subject, 0, 1, &zeros, 9).unwrap();
     assert_eq!(first, (vec![vec![2, 5], vec![2, 7]], None));

@@ -99,7 +99,7 @@ fn large_archives() {
     let mut rng = Rng::new(seed);
     let mut trial = Trial::default();
     let mut met = Met::default();
-    for round in 0..60 {
+    for round in 0..150 {
         let subject = random_large_subject(&mut rng);
         trial.case = format!("seed {seed}, round {round}, {:?}", subject.plan());
         for _ in 0..100 {

@@ -25,20 +25,17 @@ fn first_tuples_are_those_listed() {
         let (words, _) = trial.search(&subject, 100 * subject.width());
         let docs: Vec<&[u32]> = words.chunks(subject.width()).collect();
         for row in docs.iter().take(4) {
-            let mut rest = &row[1..];
-            for pattern in 0..subject.searcher().patterns.len() as u32 {
+            for (pattern, shown) in (0..).zip(subject.searcher().shown(row)) {
                 let vars = subject.vars(pattern);
-                let (flag, positions) = (rest[0], &rest[1..1 + vars]);
-                rest = &rest[1 + vars..];
                 let tuples = trial.match_page(&subject, pattern, row[0], &vec![0; vars], 70_000);
                 let (tuples, more) = tuples.unwrap();
                 assert_eq!(more, None, "{}", trial.case);
-                assert_eq!(tuples.is_empty(), flag == 0, "{}: {row:?}", trial.case);
-                let Some(first) = tuples.first() else {
+                assert_eq!(tuples.is_empty(), shown.is_none(), "{}: {row:?}", trial.case);
+                let (Some(first), Some(pairs)) = (tuples.first(), shown) else {
                     missed += 1;
                     continue;
                 };
-                assert_eq!(first, positions, "{}: {row:?}", trial.case);
+                assert!(first.iter().eq(pairs.iter().map(|[pos, _]| pos)), "{}", trial.case);
                 let is_least = |tuple: &Vec<u32>| tuple.iter().zip(first).all(|(p, q)| p >= q);
                 assert!(tuples.iter().all(is_least), "{}: {tuples:?}", trial.case);
                 let ascend = |pair: &[Vec<u32>]| comes_before(&pair[0], &pair[1]);

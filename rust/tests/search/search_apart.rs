@@ -111,8 +111,7 @@ fn a_variable_named_twice() {
     // Two variables on one list are two, and may take one position and the next.
     let rows = [voice(1), voice(1), apart(0, 1, 0, 0), END];
     let list = [(1, 4), (1, 6), (1, 7), (2, 5), (2, 7), (3, 0), (3, 1), (3, 2)];
-    let (words, tally) = trial.listing(&Subject::over(&[&[], &list], &rows));
-    assert_eq!((&words[..], tally), (&[1, 1, 6, 7, 3, 1, 0, 1][..], 16));
+    trial.lists(&Subject::over(&[&[], &list], &rows), &[1, 1, 6, 7, 3, 1, 0, 1], 16);
 }
 
 /// APART with each of the other predicates and with all of them: the least positions are those that
@@ -276,12 +275,11 @@ fn under_each_operator() {
     ] {
         trial.case = name.to_string();
         let rows = [&phrase[..], &remote, &[operator]].concat();
-        assert_eq!(trial.listing(&Subject::over(&lists, &rows)), (words.to_vec(), 22), "{name}");
+        trial.lists(&Subject::over(&lists, &rows), words, 22);
     }
     trial.case = "the second without the first".to_string();
     let rows = [&remote[..], &phrase, &[FIRST_NOT_SECOND]].concat();
-    let words = vec![2, 1, 7, 13, 0, 0, 0];
-    assert_eq!(trial.listing(&Subject::over(&lists, &rows)), (words, 22));
+    trial.lists(&Subject::over(&lists, &rows), &[2, 1, 7, 13, 0, 0, 0], 22);
 
     // Beside patterns of each other kind.
     for (predicate, docs) in [
@@ -302,7 +300,7 @@ fn under_each_operator() {
                 let rows = [&sides[0][..], sides[1], &[operator]].concat();
                 trial.case = format!("{predicate:?}, {operator:?}, turned {turned}");
                 let (words, _) = trial.listing(&Subject::over(&lists, &rows));
-                let listed: Vec<u32> = words.chunks(7).map(|row| row[0]).collect();
+                let listed: Vec<u32> = words.chunks(11).map(|row| row[0]).collect();
                 let is_true = |doc: &u32| {
                     let found = [[1, 3].contains(doc), docs.contains(doc)];
                     let [one, two] = if turned { [found[1], found[0]] } else { found };
@@ -343,13 +341,14 @@ fn needs_beyond_a_document() {
             let alone = two(&[apart(0, 1, least, most)]);
             let joined = [&alone[..], &[voice(2), END, BOTH]].concat();
             let turned = vec![voice(2), voice(1), span(65_536), apart(1, 0, least, most), END];
-            for (rows, found) in
-                [(alone, [1, pos, needed]), (joined, [1, pos, needed]), (turned, [1, needed, pos])]
+            for (rows, [p, q]) in
+                [(alone, [pos, needed]), (joined, [pos, needed]), (turned, [needed, pos])]
             {
                 trial.case = format!("{doc}:{pos}, {rows:?}");
                 let subject = Subject::over(&[&[], &first, &second], &rows);
                 let (words, _) = trial.listing(&subject);
-                let row = words.get(..4).filter(|row| row[0] == doc).map(|row| &row[1..]);
+                let row = words.get(..6).filter(|row| row[0] == doc);
+                let found = [doc, 1, p, NO_START, q, NO_START];
                 let expected = (needed < 65_536).then_some(&found[..]);
                 assert_eq!(row, expected, "{}", trial.case);
                 *if needed < 65_536 { &mut within } else { &mut beyond } += 1;
@@ -402,9 +401,9 @@ fn every_small_document() {
                 let subject = Subject::new(&volume, &two(&[apart(a, b, least, most)]).concat());
                 trial.case = format!("from {first}, APART {a} {b} {least} {most}");
                 if least > most {
-                    assert_eq!(trial.list_rows(&subject, 0, 4), Err((10, 2)), "{}", trial.case);
+                    assert_eq!(trial.list_rows(&subject, 0, 6), Err((10, 2)), "{}", trial.case);
                 } else {
-                    found += trial.search(&subject, 4 * 1_000).0.len() / 4;
+                    found += trial.search(&subject, 6 * 1_000).0.len() / 6;
                 }
             }
         }
@@ -426,7 +425,7 @@ fn every_small_document_of_three() {
             let rows = [&[voice(1), voice(2), voice(3)], &predicates[..], &[END]].concat();
             trial.case = format!("{predicates:?}");
             let subject = Subject::new(&volume, &rows.concat());
-            found += trial.search(&subject, 5 * 1_000).0.len() / 5;
+            found += trial.search(&subject, 8 * 1_000).0.len() / 8;
         }
     }
     assert!(found > 4_000, "{found}");
@@ -466,14 +465,14 @@ fn random_chains() {
         let (words, _) = trial.listing(&subject);
         let searcher = subject.searcher();
         let pattern = &searcher.patterns[0];
-        for row in words.chunks(2 + vars) {
+        for row in words.chunks(subject.width()).map(without_starts) {
             let of_vars = searcher.of_vars(pattern, row[0]);
             let on = of_vars.iter().zip(&row[2..]).filter(|(of, pos)| of[0] != **pos).count();
             found += 1;
             moved += usize::from(on >= 2);
         }
         let all = |doc: &&u32| searcher.of_vars(pattern, **doc).iter().all(|of| !of.is_empty());
-        missed += docs.iter().filter(all).count() - words.len() / (2 + vars);
+        missed += docs.iter().filter(all).count() - words.len() / subject.width();
     }
     assert!(found > 500 && moved > 500 && missed > 500, "{found} {moved} {missed}");
 }
@@ -590,7 +589,8 @@ fn wider_limits() {
         for narrow in low.iter().chain(&high) {
             let row = wide.iter().find(|row| row[0] == narrow[0]);
             let row = row.unwrap_or_else(|| panic!("{}: {narrow:?} is lost", trial.case));
-            assert!(row.iter().zip(narrow).all(|(wide, narrow)| wide <= narrow), "{}", trial.case);
+            let [row, narrow] = [row, narrow].map(|row| without_starts(row));
+            assert!(row.iter().zip(&narrow).all(|(wide, narrow)| wide <= narrow), "{}", trial.case);
             earlier += usize::from(row != narrow);
             kept += 1;
         }

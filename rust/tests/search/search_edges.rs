@@ -336,8 +336,7 @@ fn one_list_under_several_variables() {
         ),
     ] {
         trial.case = name.to_string();
-        let subject = Subject::over(&[&[], list], &rows);
-        assert_eq!(trial.listing(&subject), (words.to_vec(), tally), "{name}");
+        trial.lists(&Subject::over(&[&[], list], &rows), words, tally);
     }
 }
 
@@ -370,16 +369,16 @@ fn operators_over_every_set_of_patterns() {
         let plan = [&word(0)[..], &word(1), &[one]].concat();
         trial.case = format!("{plan:?}");
         let expected = rows(2, &|doc| first(has(doc, 0), has(doc, 1)));
-        assert_eq!(trial.listing(&Subject::over(&lists, &plan)), (expected, 16), "{}", trial.case);
+        trial.lists(&Subject::over(&lists, &plan), &expected, 16);
         for (two, second) in operators {
             let plan = [&word(0)[..], &word(1), &[one], &word(2), &[two]].concat();
             trial.case = format!("{plan:?}");
             let expected = rows(3, &|doc| second(first(has(doc, 0), has(doc, 1)), has(doc, 2)));
-            assert_eq!(trial.listing(&Subject::over(&lists, &plan)), (expected, 24));
+            trial.lists(&Subject::over(&lists, &plan), &expected, 24);
             let plan = [&word(0)[..], &word(1), &word(2), &[one, two]].concat();
             trial.case = format!("{plan:?}");
             let expected = rows(3, &|doc| second(has(doc, 0), first(has(doc, 1), has(doc, 2))));
-            assert_eq!(trial.listing(&Subject::over(&lists, &plan)), (expected, 24));
+            trial.lists(&Subject::over(&lists, &plan), &expected, 24);
             for (three, third) in operators {
                 let pairs = [[word(0), word(1)].concat(), vec![one], [word(2), word(3)].concat()];
                 let plan = [&pairs.concat()[..], &[two, three]].concat();
@@ -387,7 +386,7 @@ fn operators_over_every_set_of_patterns() {
                 let expected = rows(4, &|doc| {
                     third(first(has(doc, 0), has(doc, 1)), second(has(doc, 2), has(doc, 3)))
                 });
-                assert_eq!(trial.listing(&Subject::over(&lists, &plan)), (expected, 32));
+                trial.lists(&Subject::over(&lists, &plan), &expected, 32);
             }
         }
     }
@@ -464,7 +463,7 @@ fn patterns_in_the_row_of_an_either() {
         let subject = Subject::over(&lists, &rows);
         let lists = subject.searcher().patterns.iter().flat_map(|pattern| &pattern.lists);
         let tally = lists.map(|&list| [0, 9, 4, 1, 4][list]).sum();
-        assert_eq!(trial.listing(&subject), (words.to_vec(), tally), "{name}");
+        trial.lists(&subject, words, tally);
     }
 }
 
@@ -495,7 +494,7 @@ fn eight_patterns() {
     ] {
         trial.case = name.to_string();
         let subject = Subject::over(&lists, &[&patterns[..], &operators].concat());
-        assert_eq!(trial.listing(&subject), (words, 17), "{name}");
+        trial.lists(&subject, &words, 17);
     }
 }
 
@@ -522,7 +521,7 @@ fn empty_lists() {
         trial.case = name.to_string();
         for starts in [&[][..], list, &[(0, 1), (7, 7)]] {
             let subject = Subject::over(&[starts, list, &[]], &rows);
-            assert_eq!(trial.listing(&subject), (words.to_vec(), tally), "{name}");
+            trial.lists(&subject, words, tally);
             for room in 0..subject.searcher().width() {
                 assert_eq!(trial.list_rows(&subject, 0, room), Err((16, 0)), "{name}");
             }
@@ -530,13 +529,14 @@ fn empty_lists() {
     }
 }
 
-/// The largest plan: 51 variables in 7 patterns and 64 rows, so that a row has 59 words.
+/// The largest plan: 51 variables in 7 patterns and 64 rows, so that a row has 110 words.
 #[test]
 fn the_widest_row() {
     let rows = widest_plan_on(|var| var + 1, EITHER);
     assert_eq!((rows[56], rows[63], rows.len()), (voice(51), EITHER, 64));
     // Variable i stands at 1,000 + i. Document 9 has all of them, document 10 those of the patterns
-    // of even number, document 11 those of the others, document 12 all of each pattern but one.
+    // of even number, document 11 those of the others, document 12 all of each pattern but one. A
+    // title starts at every tenth position from 1,010 on, but in document 11.
     let in_doc = |doc: u32, var: u32| match doc {
         9 => true,
         10 => (var / 8).is_multiple_of(2),
@@ -547,37 +547,45 @@ fn the_widest_row() {
     let of_var = |var: u32| -> Vec<(u32, u32)> {
         docs.clone().filter(|&doc| in_doc(doc, var)).map(|doc| (doc, 1_000 + var)).collect()
     };
-    let lists: Vec<Vec<(u32, u32)>> = (0..51).map(of_var).collect();
-    let lists = behind_no_starts(&lists);
+    let mut lists: Vec<Vec<(u32, u32)>> = (0..51).map(of_var).collect();
+    let postings = lists.iter().map(|list| list.len() as u32).sum();
+    let starts = [9, 10].into_iter().flat_map(|doc| (1..5).map(move |i| (doc, 1_000 + 10 * i)));
+    lists.insert(0, starts.collect());
+    let lists: Vec<&[(u32, u32)]> = lists.iter().map(Vec::as_slice).collect();
     let mut expected = Vec::new();
     for doc in 9..12 {
         expected.push(doc);
         for (pattern, size) in (0..).zip(WIDEST) {
-            let vars = 8 * pattern..8 * pattern + size;
             let found = in_doc(doc, 8 * pattern);
             expected.push(u32::from(found));
-            expected.extend(vars.map(|var| if found { 1_000 + var } else { 0 }));
+            for var in 8 * pattern..8 * pattern + size {
+                expected.extend(match (found, doc) {
+                    (false, _) => [0, 0],
+                    (true, 11) => [1_000 + var, NO_START],
+                    (true, _) if var < 10 => [1_000 + var, NO_START],
+                    (true, _) => [1_000 + var, 1_000 + 10 * 4.min(var / 10)],
+                });
+            }
         }
     }
-    let postings = lists.iter().map(|list| list.len() as u32).sum();
     let subject = Subject::over(&lists, &rows);
     let mut trial = Trial::default();
-    assert_eq!(subject.searcher().width(), 59);
+    assert_eq!(subject.searcher().width(), 110);
     assert_eq!(trial.listing(&subject), (expected.clone(), postings));
     for (room, written, more) in [
-        (59, 1, Some(10)),
-        (60, 1, Some(10)),
-        (117, 1, Some(10)),
-        (118, 2, Some(11)),
-        (176, 2, Some(11)),
-        (177, 3, None),
-        (500, 3, None),
+        (110, 1, Some(10)),
+        (111, 1, Some(10)),
+        (219, 1, Some(10)),
+        (220, 2, Some(11)),
+        (329, 2, Some(11)),
+        (330, 3, None),
+        (900, 3, None),
     ] {
         let (words, listed) = trial.list_rows(&subject, 0, room).unwrap();
         assert_eq!((listed.rows, listed.more), (written, more), "{room} words");
-        assert_eq!(words, expected[..59 * written as usize], "{room} words");
+        assert_eq!(words, expected[..110 * written as usize], "{room} words");
     }
-    for room in [0, 1, 8, 51, 52, 57, 58] {
+    for room in [0, 1, 8, 58, 59, 60, 102, 108, 109] {
         assert_eq!(trial.list_rows(&subject, 0, room), Err((16, 0)), "{room} words");
     }
 }
@@ -593,28 +601,29 @@ fn buffers_that_are_just_full() {
     let subject = Subject::over(&[&[], &list, &other], &rows);
     let mut trial = Trial::default();
     for (start, room, written, tally, more) in [
-        (0, 5, &[3][..], 5, Some(90)),
-        (0, 9, &[3], 5, Some(90)),
-        (0, 10, &[3, 90], 7, Some(65_535)),
+        (0, 7, &[3][..], 5, Some(90)),
+        (0, 13, &[3], 5, Some(90)),
         (0, 14, &[3, 90], 7, Some(65_535)),
-        (0, 15, &[3, 90, 65_535], 8, None),
-        (0, 16, &[3, 90, 65_535], 8, None),
-        (0, 20, &[3, 90, 65_535], 8, None),
-        (1, 10, &[3, 90], 6, Some(65_535)),
-        (3, 5, &[3], 4, Some(90)),
-        (4, 5, &[90], 5, Some(65_535)),
-        (4, 10, &[90, 65_535], 6, None),
-        (5, 5, &[90], 3, Some(65_535)),
-        (51, 5, &[90], 2, Some(65_535)),
-        (90, 5, &[90], 2, Some(65_535)),
-        (91, 5, &[65_535], 2, None),
-        (92, 5, &[65_535], 1, None),
-        (65_534, 5, &[65_535], 1, None),
-        (65_535, 5, &[65_535], 1, None),
+        (0, 20, &[3, 90], 7, Some(65_535)),
+        (0, 21, &[3, 90, 65_535], 8, None),
+        (0, 22, &[3, 90, 65_535], 8, None),
+        (0, 28, &[3, 90, 65_535], 8, None),
+        (1, 14, &[3, 90], 6, Some(65_535)),
+        (3, 7, &[3], 4, Some(90)),
+        (4, 7, &[90], 5, Some(65_535)),
+        (4, 14, &[90, 65_535], 6, None),
+        (5, 7, &[90], 3, Some(65_535)),
+        (51, 7, &[90], 2, Some(65_535)),
+        (90, 7, &[90], 2, Some(65_535)),
+        (91, 7, &[65_535], 2, None),
+        (92, 7, &[65_535], 1, None),
+        (65_534, 7, &[65_535], 1, None),
+        (65_535, 7, &[65_535], 1, None),
         (65_535, 500, &[65_535], 1, None),
     ] {
         trial.case = format!("from {start} into {room} words");
-        let words: Vec<u32> = written.iter().flat_map(|&doc| [doc, 1, 7, 0, 0]).collect();
+        let words: Vec<u32> =
+            written.iter().flat_map(|&doc| [doc, 1, 7, NO_START, 0, 0, 0]).collect();
         let listed = Listed { rows: written.len() as u32, tally, more };
         assert_eq!(trial.list_rows(&subject, start, room), Ok((words, listed)), "{}", trial.case);
     }
@@ -645,7 +654,7 @@ fn lists_over_the_edges_of_blocks() {
         let moved = Lists::new(&[lists[0], &front[..], lists[1], lists[2]]);
         let rows = [voice(2), voice(3), before(0, 1), same_title(0, 1), END];
         let subject = Subject::new(&moved.volume(), &rows.concat());
-        assert_eq!(trial.search(&subject, 4), (vec![1, 1, 2, 5], 6));
+        assert_eq!(trial.search(&subject, 6), (vec![1, 1, 2, 0, 5, 0], 6));
     }
 }
 
@@ -658,23 +667,25 @@ fn any_alignment() {
         let mut memory = vec![0x5a; 16 + volume.len() + 16];
         let lent = offset..offset + volume.len();
         memory[lent.clone()].copy_from_slice(&volume);
-        let mut out = [7; 9];
+        let mut out = [7; 11];
         let listing = lihambozy::calls::list(&memory[lent.clone()], &plan, 0, &mut out);
         assert_eq!(listing, Ok(Listing { rows: 1, tally: 6, next: Next::Done }), "{offset}");
-        assert_eq!(out, [1, 1, 2, 5, 7, 7, 7, 7, 7], "{offset}");
+        assert_eq!(out, [1, 1, 2, 0, 5, 0, 7, 7, 7, 7, 7], "{offset}");
         let passes = lihambozy::calls::test_positions(&memory[lent], &plan, 0, 1, &[8, 7]);
         assert_eq!(passes, Ok(false), "{offset}");
     }
 }
 
-/// Every document matches, and each call has room for some of them.
+/// Every document matches, and each call has room for some of them. A title starts at position 3 of
+/// every fifth document.
 #[test]
 fn every_document() {
     let list: Vec<u32> = (0..65_536).map(|doc| doc * 65_536 + doc % 7).collect();
-    let volume = Lists::new(&[&[][..], &list]).volume();
+    let starts: Vec<u32> = (0..65_536).step_by(5).map(|doc| doc * 65_536 + 3).collect();
+    let volume = Lists::new(&[&starts[..], &list]).volume();
     let plan = [voice(1), voice(1), END].concat();
     for fit in [1_000, 65_535, 65_536, 65_537] {
-        let mut out = vec![0; 4 * fit + 3];
+        let mut out = vec![0; 6 * fit + 5];
         let (mut start, mut done) = (0, false);
         while !done {
             out.fill(9);
@@ -684,9 +695,10 @@ fn every_document() {
             let next = if done { Next::Done } else { Next::More(end) };
             let rows = end - start;
             assert_eq!(listing, Listing { rows, tally: 2 * rows, next }, "{start}, {fit} rows");
-            let (rows, behind) = out.split_at(4 * rows as usize);
-            for (row, doc) in rows.chunks(4).zip(start..end) {
-                assert_eq!(row, [doc, 1, doc % 7, doc % 7]);
+            let (rows, behind) = out.split_at(6 * rows as usize);
+            for (row, doc) in rows.chunks(6).zip(start..end) {
+                let title = if doc % 5 == 0 && doc % 7 >= 3 { 3 } else { NO_START };
+                assert_eq!(row, [doc, 1, doc % 7, title, doc % 7, title]);
             }
             assert!(behind.iter().all(|&word| word == 9), "{start}, {fit} rows");
             start = end;
@@ -751,7 +763,9 @@ fn every_position() {
         let listing = lihambozy::calls::list(&volume, &rows.concat(), 0, &mut out).unwrap();
         let mut words = vec![];
         for doc in [7, 8] {
-            words.extend(least.iter().flat_map(|least| [&[doc, 1], &least[..]].concat()));
+            let Some(least) = &least else { continue };
+            words.extend([doc, 1]);
+            words.extend(least.iter().flat_map(|&pos| [pos, pos / 100 * 100]));
         }
         let found = if least.is_some() { 2 } else { 0 };
         assert_eq!(listing, Listing { rows: found, tally, next: Next::Done }, "{name}");
@@ -770,15 +784,15 @@ fn the_greatest_tally() {
     let plan = widest_plan_on(|_| 1, BOTH).concat();
     assert_eq!(plan.len(), 256);
     // Documents 0 to 14 have every position, document 15 those up to the last posting.
-    let mut out = vec![9; 59 * 16];
+    let mut out = vec![9; 110 * 16];
     let listing = lihambozy::calls::list(&volume, &plan, 0, &mut out).unwrap();
     assert_eq!(listing, Listing { rows: 16, tally: 51 * postings, next: Next::Done });
-    for (row, doc) in out.chunks(59).zip(0..) {
-        assert_eq!(row[0], doc);
-        let flags = [1, 10, 19, 28, 37, 46, 55];
-        assert!((1..59).all(|i| row[i] == u32::from(flags.contains(&i))), "{row:?}");
+    let found = |vars: usize| [&[1][..], &[0, NO_START].repeat(vars)].concat();
+    let patterns = [found(8).repeat(6), found(3)].concat();
+    for (row, doc) in out.chunks(110).zip(0..) {
+        assert_eq!((row[0], &row[1..]), (doc, &patterns[..]));
     }
-    let listing = lihambozy::calls::list(&volume, &plan, 0, &mut out[..59 * 15]).unwrap();
+    let listing = lihambozy::calls::list(&volume, &plan, 0, &mut out[..110 * 15]).unwrap();
     assert_eq!(listing, Listing { rows: 15, tally: 51 * 15 * 65_536, next: Next::More(15) });
     let listing = lihambozy::calls::list(&volume, &plan, 15, &mut out).unwrap();
     let left = postings - 15 * 65_536;

@@ -34,7 +34,7 @@ fn same_in_each(trial: &mut Trial, lists: &Lists, rows: &[Row], orders: &[Vec<us
         let subject = Subject::new(&volume, &in_order(rows, order).concat());
         trial.case = format!("{rows:?} in the order {order:?}");
         let (rows, tally) = listed(trial, &subject);
-        let row = |row: &Vec<u32>| [&row[..2], &turned_back(&row[2..], order)].concat();
+        let row = |row: &Vec<u32>| [&row[..2], &pairs_turned_back(&row[2..], order)].concat();
         let mut tuples = BTreeSet::new();
         for doc in rows.iter().step_by(5).map(|row| row[0]).chain([6]) {
             let all = trial.enumerate(&subject, 0, doc, 3 * order.len());
@@ -128,7 +128,8 @@ fn settles_at_each_rank(
         let tally = all[1..].iter().map(|list| list.len() as u32).sum();
         let subject = Subject::new(&Lists::new(&all).volume(), &rows.concat());
         trial.case = format!("starts {starts:?}, lists {lists:?}, ranks {ranks:?}, {predicates:?}");
-        let of_doc = |doc: u32| least.map(|least| [&[doc, 1], least].concat());
+        let of_doc =
+            |doc: u32| least.map(|least| subject.with_starts(&[&[doc, 1], least].concat()));
         let expected: Vec<Vec<u32>> = [4, 9].into_iter().filter_map(of_doc).collect();
         assert_eq!(listed(trial, &subject), (expected, tally), "{}", trial.case);
         let (tuples, _) =
@@ -277,14 +278,15 @@ fn lists_that_end_first_or_lag_behind() {
             let rows = [&voices[..], &predicates, &[END]].concat();
             let subject = Subject::new(&lists.volume(), &rows.concat());
             trial.case = format!("{docs:?}");
-            assert_eq!(trial.listing(&subject).0, expected, "{}", trial.case);
+            let words = subject.with_starts(&expected);
+            assert_eq!(trial.listing(&subject).0, words, "{}", trial.case);
             let orders = many_orders(&mut rng, docs.len());
             assert_eq!(same_in_each(&mut trial, &lists, &rows, &orders), found.len());
         }
     }
 }
 
-/// What a call gives that has room for one row: the tally and the row.
+/// What a call gives that has room for one row: the tally, and the row told without title starts.
 type Answer<'a> = (u32, &'a [u32]);
 
 /// In each document both variables of `pair` go on to their last positions there. Calls have room
@@ -323,9 +325,9 @@ fn tallies_before_a_settled_document() {
         trial.case = format!("{rows:?}");
         let mut start = Some(0);
         for &(tally, row) in answers {
-            let from = start.expect("a row is left");
+            let (from, row) = (start.expect("a row is left"), subject.with_starts(row));
             let (words, answer) = trial.list_rows(&subject, from, row.len()).unwrap();
-            assert_eq!((&words[..], answer.tally), (row, tally), "{}", trial.case);
+            assert_eq!((words, answer.tally), (row, tally), "{}", trial.case);
             start = answer.more;
         }
         assert_eq!(start, None, "{}", trial.case);
@@ -360,17 +362,19 @@ const LISTS_OF_VARS: [fn(u32) -> u32; 7] = [
     |var| if var.is_multiple_of(2) { 1_023 } else { 1 },
 ];
 
-/// 51 variables. Catches a list that is taken to start elsewhere, and an order or a position that a
-/// variable of another pattern gets.
+/// 51 variables. In document 7 a title starts at 0, in document 9 behind all of them. Catches a
+/// list that is taken to start elsewhere, and an order, a position or a title start that a variable
+/// of another pattern gets.
 #[test]
 fn most_variables_over_most_lists() {
     let mut trial = Trial::default();
     let [full, last_alone] = [false, true].map(most_lists);
-    let plans = LISTS_OF_VARS
-        .map(|list| (&full, list))
-        .into_iter()
-        .chain([(&last_alone, LISTS_OF_VARS[0])]);
-    for (volume, list) in plans {
+    let plans = LISTS_OF_VARS.map(|list| (&full, list, 0)).into_iter().chain([(
+        &last_alone,
+        LISTS_OF_VARS[0],
+        NO_START,
+    )]);
+    for (volume, list, start) in plans {
         let subject = Subject::new(volume, &widest_plan_on(list, EITHER).concat());
         trial.case = format!("51 variables on lists {}, {}, ..", list(0), list(1));
         let (rows, _) = listed(&mut trial, &subject);
@@ -379,8 +383,8 @@ fn most_variables_over_most_lists() {
             of_7.push(1);
             of_9.push(1);
             for list in vars.by_ref().take(count as usize).map(list) {
-                of_7.push(list);
-                of_9.push(3_000 - list);
+                of_7.extend([list, start]);
+                of_9.extend([3_000 - list, NO_START]);
             }
         }
         assert_eq!(rows[rows.len() - 2..], [of_7, of_9], "{}", trial.case);
@@ -409,7 +413,8 @@ fn tuples_over_most_lists() {
 }
 
 /// Plans of several patterns over lists of very different lengths, the variables of each pattern in
-/// another order: the same documents and tallies, and the positions at their variables' places.
+/// another order: the same documents and tallies, and the positions and title starts at their
+/// variables' places.
 /// Catches an order that is another pattern's.
 #[test]
 fn patterns_in_another_order() {
@@ -424,8 +429,8 @@ fn patterns_in_another_order() {
             let (mut back, mut rest) = (vec![row[0]], &row[1..]);
             for order in &orders {
                 back.push(rest[0]);
-                back.extend(turned_back(&rest[1..][..order.len()], order));
-                rest = &rest[1 + order.len()..];
+                back.extend(pairs_turned_back(&rest[1..][..2 * order.len()], order));
+                rest = &rest[1 + 2 * order.len()..];
             }
             back
         };

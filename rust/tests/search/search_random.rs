@@ -17,15 +17,15 @@ fn count_rows(met: &mut Met, subject: &Subject) {
         false => "zeros under EITHER",
     };
     for row in &searcher.rows {
-        let mut rest = &row[1..];
-        for pattern in &searcher.patterns {
-            let (found, positions) = (rest[0] == 1, &rest[1..][..pattern.lists.len()]);
-            rest = &rest[1 + pattern.lists.len()..];
+        for (pattern, shown) in searcher.patterns.iter().zip(searcher.shown(row)) {
+            let Some(pairs) = shown else {
+                met.count(zeros, 1);
+                continue;
+            };
             let of_vars = searcher.of_vars(pattern, row[0]);
-            let at_first = of_vars.iter().zip(positions).all(|(of, pos)| of.first() == Some(pos));
-            met.count(zeros, usize::from(!found));
-            met.count("found at first positions", usize::from(found && at_first));
-            met.count("found further on", usize::from(found && !at_first));
+            let at_first = of_vars.iter().zip(&pairs).all(|(of, [pos, _])| of[0] == *pos);
+            met.count("found at first positions", usize::from(at_first));
+            met.count("found further on", usize::from(!at_first));
         }
     }
     // Patterns of one predicate, in the documents where each of its variables has a position.
@@ -97,6 +97,7 @@ fn whole_searches() {
         }
         other_starts(&mut rng, &mut trial, &subject, 3);
         count_rows(&mut met, &subject);
+        count_starts(&mut met, &subject);
         count_titles(&mut met, subject.searcher());
     }
     trial.assert_met(Call::List, 3_000, &[0, 15, 16]);
@@ -139,6 +140,7 @@ fn whole_searches() {
     let [lead_ins, docs] =
         ["with a lead-in", "with words"].map(|of| met.0[&format!("documents {of}")]);
     assert!(3 * lead_ins >= docs, "{lead_ins} of {docs} documents have a lead-in");
+    met.assert_at_least(&STARTS.map(|what| (what, 1_600)));
     let made = trial.made(Call::List);
     assert!(made >= 100_000, "{made} comparisons");
 }
@@ -156,6 +158,7 @@ fn large_archives() {
         random_search(&mut rng, &mut trial, &mut met, &subject);
         other_starts(&mut rng, &mut trial, &subject, 3);
         count_rows(&mut met, &subject);
+        count_starts(&mut met, &subject);
         count_titles(&mut met, subject.searcher());
     }
     met.assert_at_least(&[
@@ -167,4 +170,5 @@ fn large_archives() {
         ("SAME TITLE missed, in a lead-in", 300),
         ("SAME TITLE found behind a lead-in", 40),
     ]);
+    met.assert_at_least(&STARTS.map(|what| (what, 500)));
 }

@@ -34,8 +34,8 @@ fn refused_in_order() {
             trial.case = format!("volume {of_volume:?}, plan {of_plan:?}");
             for start in [0, 1, 65_535, 65_536, 65_537, 1 << 31, u32::MAX] {
                 let of_start = (start > 65_535).then_some((15, 0));
-                for room in [0, 1, 3, 4, 5, 100] {
-                    let of_room = (room < 4).then_some((16, 0));
+                for room in [0, 1, 4, 5, 6, 7, 100] {
+                    let of_room = (room < 6).then_some((16, 0));
                     let first = of_volume.or(of_plan).or(of_start).or(of_room);
                     let answer = trial.list_rows(&subject, start, room);
                     assert_eq!(answer.err(), first, "{}: {start}, {room}", trial.case);
@@ -60,7 +60,7 @@ fn buffers_of_every_length() {
                 let pattern = [vec![voice(1); vars], vec![END]].concat();
                 let plan = [pattern.repeat(patterns), vec![EITHER; patterns - 1]].concat();
                 let subject = Subject::new(&volume, &plan.concat());
-                let width = 1 + patterns * (1 + vars);
+                let width = 1 + patterns * (1 + 2 * vars);
                 trial.case = format!("{patterns} patterns of {vars} variables");
                 for start in [0, 4, 5, 6, 65_535] {
                     for room in 0..=2 * width + 1 {
@@ -80,9 +80,9 @@ fn calls_behind_a_refused_one() {
     let subject = Subject::new(&sample().volume(), &two(&[before(0, 1)]).concat());
     let mut trial = Trial::default();
     let mut search = Search::new(&subject);
-    let (mut memory, lent) = memory_for(4);
+    let (mut memory, lent) = memory_for(6);
     for _ in 0..2 {
-        for short in [0, 1, 2, 3, 3] {
+        for short in [0, 1, 4, 5, 5] {
             let short = lent.start..lent.start + short;
             assert_eq!(search.call(&mut trial, &mut memory, short), Err((16, 0)));
             search.assert_whole(&trial.case);
@@ -91,7 +91,8 @@ fn calls_behind_a_refused_one() {
         search.assert_whole(&trial.case);
     }
     assert!(search.done);
-    assert_eq!((search.words, search.tally), (vec![1, 1, 2, 5, 2, 1, 4, 9], 6));
+    let words = vec![1, 1, 2, 0, 5, 0, 2, 1, 4, NO_START, 9, NO_START];
+    assert_eq!((search.words, search.tally), (words, 6));
 }
 
 /// Damaged volumes and spoiled plans, short buffers and late starts, all at once.
@@ -106,7 +107,7 @@ fn random_faults() {
         let subject = Subject::new(&volume, &plan);
         for _ in 0..3 {
             let start = rng.pick(&[0, 0, 1, 2, 65_535, 65_536, u32::MAX]);
-            let room = rng.pick(&[0, 2, 3, 4, 8, 20, 59, 120, 300]);
+            let room = rng.pick(&[0, 3, 4, 6, 12, 30, 110, 220, 500]);
             let _ = trial.list_rows(&subject, start, room);
             let (pattern, doc) = (rng.below(3) as u32, rng.pick(&[0, 1, 2, 65_535, 65_536]));
             let given = (0..1 + rng.below(3)).map(|_| rng.pick(&[0, 1, 2, 9, 9, 65_535, 65_536]));
@@ -127,11 +128,11 @@ fn lengths_over_8_16_and_32_bits() {
     let volume = sample().volume();
     let plan = SAMPLE.concat();
     for longer in [1 << 8, 1 << 16, 1 << 30] {
-        let mut out = vec![0; longer + 3];
+        let mut out = vec![0; longer + 5];
         let listing = lihambozy::calls::list(&volume, &plan, 0, &mut out);
         assert_eq!(listing, Ok(Listing { rows: 1, tally: 6, next: Next::Done }), "{longer}");
-        assert_eq!(out[..4], [1, 1, 2, 5], "{longer}");
-        assert!(out[4..259].iter().all(|&word| word == 0), "{longer}");
+        assert_eq!(out[..6], [1, 1, 2, 0, 5, 0], "{longer}");
+        assert!(out[6..261].iter().all(|&word| word == 0), "{longer}");
         let refused = lihambozy::calls::list(&volume, &out, 0, &mut [0; 9]).map_err(pair);
         assert_eq!(refused, Err((9, 0)), "{longer}");
     }

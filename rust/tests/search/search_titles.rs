@@ -10,10 +10,15 @@ use crate::support::searches::*;
 use crate::support::*;
 use std::collections::BTreeSet;
 
-/// The sentence by itself: a position's title is the number of starts up to it, and 0 is no title.
+/// The number of a position's title in its document: how many starts are not above it. 0 is no
+/// title.
+fn title(starts: &[u32], pos: u32) -> usize {
+    starts.iter().filter(|&&start| start <= pos).count()
+}
+
+/// The sentence by itself.
 fn in_one_title(starts: &[u32], p: u32, q: u32) -> bool {
-    let title = |pos: u32| starts.iter().filter(|&&start| start <= pos).count();
-    title(p) > 0 && title(p) == title(q)
+    title(starts, p) > 0 && title(starts, p) == title(starts, q)
 }
 
 /// One pattern over documents that all have these starts and positions. Exactly these choices pass,
@@ -291,8 +296,7 @@ fn starts_of_other_documents() {
                     let subject = Subject::over(&[&starts, &word, &word], rows);
                     let row = |&other: &u32| [other, 1, of[0], of[0]];
                     let words: Vec<u32> = titled.iter().flat_map(row).collect();
-                    let tally = 2 * word.len() as u32;
-                    assert_eq!(trial.listing(&subject), (words, tally), "{}", trial.case);
+                    trial.lists(&subject, &words, 2 * word.len() as u32);
                     for &pos in own {
                         let answer = trial.test(&subject, 0, doc, &[pos, pos]);
                         assert_eq!(answer, Ok(false), "{}: {pos}", trial.case);
@@ -389,8 +393,7 @@ fn under_each_operator() {
         ),
     ] {
         trial.case = name.to_string();
-        let subject = Subject::over(&lists, &rows);
-        assert_eq!(trial.listing(&subject), (words.to_vec(), tally), "{name}");
+        trial.lists(&Subject::over(&lists, &rows), words, tally);
     }
 }
 
@@ -421,17 +424,17 @@ fn pages_of_one_row() {
     let nexts = listed[1..].iter().copied().map(Some).chain([None]);
     let mut start = 0;
     for (&doc, more) in listed.iter().zip(nexts) {
-        let least = if doc.is_multiple_of(6) { [13, 15] } else { [3, 5] };
+        let pairs = if doc.is_multiple_of(6) { [13, 10, 15, 10] } else { [3, 0, 5, 0] };
         let tally = (start..more.unwrap_or(30)).map(postings).sum();
-        let answer = trial.list_rows(&subject, start, 4);
-        let row = [&[doc, 1], &least[..]].concat();
+        let answer = trial.list_rows(&subject, start, 6);
+        let row = [&[doc, 1], &pairs[..]].concat();
         assert_eq!(answer, Ok((row, Listed { rows: 1, tally, more })), "from {start}");
         start = more.unwrap_or(30);
     }
     // From any document: none of those in between is ever named.
     for start in docs {
         let left: Vec<u32> = listed.iter().copied().filter(|&doc| doc >= start).collect();
-        let (words, Listed { more, .. }) = trial.list_rows(&subject, start, 7).unwrap();
+        let (words, Listed { more, .. }) = trial.list_rows(&subject, start, 11).unwrap();
         assert_eq!((words.first(), more), (left.first(), left.get(1).copied()), "from {start}");
     }
 }
@@ -471,12 +474,19 @@ fn every_document(trial: &mut Trial, docs: &[(&[u32], Vec<Of>)], [a, b]: [u32; 2
                 unmet += 1;
             }
         }
-        words.extend(least(&passing).iter().flat_map(|row| [&[doc, 1], &row[..]].concat()));
+        if let Some(least) = least(&passing) {
+            words.extend([doc, 1]);
+            for pos in least {
+                let before = title(starts, pos).checked_sub(1);
+                words.extend([pos, before.map_or(NO_START, |i| starts[i])]);
+            }
+        }
     }
-    for room in [words.len().max(2 + vars), 2 + vars] {
+    let width = 2 + 2 * vars;
+    for room in [words.len().max(width), width] {
         assert_eq!(trial.search(&subject, room).0, words, "{}", trial.case);
     }
-    [words.len() / (2 + vars), unmet]
+    [words.len() / width, unmet]
 }
 
 /// Every document with starts and one word at five positions, the first or the last there are or
@@ -543,8 +553,9 @@ fn within(case: &str, rows: &[Vec<u32>], wider: &[Vec<u32>]) -> [usize; 2] {
     for row in rows {
         let other = wider.iter().find(|other| other[0] == row[0]);
         let other = other.unwrap_or_else(|| panic!("{case}: {row:?} is not listed"));
+        let [row, other] = [row, other].map(|row| without_starts(row));
         assert!(
-            other.iter().zip(row).all(|(other, own)| other <= own),
+            other.iter().zip(&row).all(|(other, own)| other <= own),
             "{case}: {row:?}, {other:?}"
         );
         earlier += usize::from(other != row);
@@ -569,8 +580,10 @@ fn a_variable_in_a_title() {
             let in_doc = |posting: &&u32| **posting / 65_536 == row[0];
             let start = lists[0].iter().find(in_doc)?;
             let first = word.iter().filter(in_doc).find(|&posting| posting >= start)?;
+            let last_start = lists[0].iter().rfind(|&start| start <= first)?;
             let mut row = row.clone();
-            row[2 + var as usize] = first % 65_536;
+            row[2 + 2 * var as usize..][..2]
+                .copy_from_slice(&[first, last_start].map(|p| p % 65_536));
             Some(row)
         };
         let rows = pattern.listed(trial, &bare(&[title]));

@@ -296,13 +296,12 @@ fn listed_positions_are_least() {
         let (words, _) = trial.search(&subject, 4 * searcher.width());
         for row in words.chunks(searcher.width()) {
             let doc = row[0];
-            let mut rest = &row[1..];
-            for (number, pattern) in (0..).zip(&searcher.patterns) {
-                let (flag, positions) = (rest[0], &rest[1..][..pattern.lists.len()]);
-                rest = &rest[1 + pattern.lists.len()..];
+            for ((number, pattern), pairs) in (0..).zip(&searcher.patterns).zip(searcher.shown(row))
+            {
                 let inside = searcher.of_vars(pattern, doc);
-                if flag == 1 {
-                    assert_eq!(trial.test(&subject, number, doc, positions), Ok(true));
+                if let Some(pairs) = pairs {
+                    let positions: Vec<u32> = pairs.iter().map(|[pos, _]| *pos).collect();
+                    assert_eq!(trial.test(&subject, number, doc, &positions), Ok(true));
                     shown += 1;
                     for (var, before) in inside.iter().enumerate() {
                         for &pos in before.iter().filter(|&&pos| pos < positions[var]).take(4) {

@@ -21,6 +21,9 @@ fn the_yardstick_lists_as_the_naive_searcher() {
             }
         };
         let case = format!("seed {seed}, round {round}, {:?}", subject.plan());
+        if subject.naive.is_ok() {
+            count_starts(&mut met, &subject);
+        }
         for _ in 0..3 {
             let docs: Vec<u32> = subject.docs().into_iter().chain([0, 0, 65_536]).collect();
             let start = rng.pick(&docs).saturating_add_signed(rng.pick(&[-1, 0, 0, 1]));
@@ -43,4 +46,5 @@ fn the_yardstick_lists_as_the_naive_searcher() {
     }
     met.assert_at_least(&[("0", 9_000), ("3", 50), ("10", 50), ("13", 50), ("15", 300)]);
     met.assert_at_least(&[("16", 600)]);
+    met.assert_at_least(&STARTS.map(|what| (what, 500)));
 }

@@ -45,9 +45,15 @@ pub fn in_order(rows: &[Row], order: &[usize]) -> Vec<Row> {
 }
 
 /// A tuple of variables in this order, as one of the variables in their own.
-pub fn turned_back(tuple: &[u32], order: &[usize]) -> Vec<u32> {
+pub fn turned_back<T: Copy>(tuple: &[T], order: &[usize]) -> Vec<T> {
     let place = |var| order.iter().position(|&old| old == var).expect("each variable once");
     (0..tuple.len()).map(|var| tuple[place(var)]).collect()
+}
+
+/// The same of the words of a row that a pattern's variables have, a position and a title start for
+/// each.
+pub fn pairs_turned_back(words: &[u32], order: &[usize]) -> Vec<u32> {
+    turned_back(words.as_chunks::<2>().0, order).concat()
 }
 
 /// A plan with the variables of each pattern in another order, and these orders.

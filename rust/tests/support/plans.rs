@@ -14,7 +14,7 @@ pub fn two(predicates: &[Row]) -> Vec<Row> {
 /// The variables of each pattern of the plan of 64 rows with the most of them, 51.
 pub const WIDEST: [u32; 7] = [8, 8, 8, 8, 8, 8, 3];
 
-/// That plan, whose rows have 59 words. Each variable has the list given for its number, and the
+/// That plan, whose rows have 110 words. Each variable has the list given for its number, and the
 /// patterns are joined by this operator.
 pub fn widest_plan_on(list: impl Fn(u32) -> u32, operator: Row) -> Vec<Row> {
     let mut vars = 0..;

@@ -3,11 +3,14 @@
 
 use super::plans::*;
 use super::{amid, damage, pair, Call, Fill, Lists, Met, Rng, Trial, AMID};
-use crate::plain::search::{Listed, Searcher};
+use crate::plain::search::{title_start, Listed, Searcher};
 use crate::plain::{self, Refused};
 use lihambozy::calls::{Listing, Next};
 use std::collections::{BTreeMap, BTreeSet};
 use std::ops::Range;
+
+/// What a row has for the title start of a position that has none.
+pub const NO_START: u32 = 65_536;
 
 /// A volume and a plan in the middle of other elements, and the naive searcher over them, or why it
 /// refuses them.
@@ -63,7 +66,30 @@ impl Subject {
 
     /// The words of a row, or of that of a small plan where this one is refused.
     pub fn width(&self) -> usize {
-        self.naive.as_ref().map_or(4, Searcher::width)
+        self.naive.as_ref().map_or(6, Searcher::width)
+    }
+
+    /// The words of rows that are told without title starts, with the start behind each position.
+    #[track_caller]
+    pub fn with_starts(&self, told: &[u32]) -> Vec<u32> {
+        let searcher = self.searcher();
+        let rows = told.chunks_exact(1 + searcher.patterns.len() + searcher.vars());
+        assert!(rows.remainder().is_empty(), "{told:?} are no rows");
+        let mut words = vec![];
+        for row in rows {
+            let starts = searcher.positions(0, row[0]);
+            words.push(row[0]);
+            let mut rest = &row[1..];
+            for pattern in &searcher.patterns {
+                let (flag, positions) = (rest[0], &rest[1..][..pattern.lists.len()]);
+                words.push(flag);
+                for &pos in positions {
+                    words.extend([pos, if flag == 1 { title_start(&starts, pos) } else { 0 }]);
+                }
+                rest = &rest[1 + positions.len()..];
+            }
+        }
+        words
     }
 
     /// The documents that have a posting; none where volume or plan is refused.
@@ -77,6 +103,12 @@ impl Subject {
         assert!(self.bytes == self.kept.0, "{case}: written in the volume or beside it");
         assert!(self.words == self.kept.1, "{case}: written in the plan or beside it");
     }
+}
+
+/// A row of one pattern that is found, without its title starts.
+pub fn without_starts(row: &[u32]) -> Vec<u32> {
+    let positions = row[2..].iter().step_by(2);
+    row[..2].iter().chain(positions).copied().collect()
 }
 
 /// Words before and behind a buffer of so many words, and where it lies.
@@ -183,6 +215,12 @@ impl Trial {
             assert_eq!(self.search(subject, room), all, "{}: {room} words", self.case);
         }
         all
+    }
+
+    /// The listing has these rows, which are told without title starts, and this tally.
+    #[track_caller]
+    pub fn lists(&mut self, subject: &Subject, told: &[u32], tally: u32) {
+        assert_eq!(self.listing(subject), (subject.with_starts(told), tally), "{}", self.case);
     }
 }
 
@@ -295,9 +333,10 @@ pub fn settles(
     for docs in [&DOCS[..], &DOCS[..1], &DOCS[2..]] {
         let subject = Subject::one_pattern(docs, starts, lists, predicates);
         let rows: Vec<u32> = docs.iter().copied().flat_map(of_doc).collect();
+        let rows = subject.with_starts(&rows);
         let tally = (docs.len() * postings) as u32;
         for fit in [1, 2, 5] {
-            let room = fit * (2 + lists.len());
+            let room = fit * (2 + 2 * lists.len());
             let searched = trial.search(&subject, room);
             assert_eq!(searched, (rows.clone(), tally), "{}", trial.case);
         }
@@ -361,22 +400,66 @@ fn random_window(rng: &mut Rng) -> Vec<u32> {
     }
 }
 
-/// List 0 of these documents. A part of them has a lead-in: the first title starts behind some of
-/// the positions. Some have no title at all. In the others all positions are in titles.
-fn random_starts(rng: &mut Rng, docs: &[u32], window: &[u32]) -> Vec<u32> {
+/// List 0 of these documents. It is empty, or dense, or has starts in front of all positions alone,
+/// or all its starts in one document. Mostly it is none of these: a part of the documents has a
+/// lead-in, the first title starting behind some of the positions, some have no title at all, and
+/// in the others all positions are in titles.
+pub fn random_starts(rng: &mut Rng, docs: &[u32], window: &[u32]) -> Vec<u32> {
     let smallest = window.iter().copied().min().expect("an archive uses some positions");
+    let (way, crowded) = (rng.below(32), rng.pick(docs));
     let often = rng.pick(&[1, 1, 3, 10, 30]);
     let mut starts = BTreeSet::new();
     for &doc in docs {
-        let first = match rng.below(12) {
-            0 => continue,
-            1..=6 => rng.pick(window),
-            _ => rng.pick(&[smallest, smallest, 0]),
-        };
-        let more = (1..often).map(|_| rng.pick(window)).filter(|&pos| pos > first);
-        starts.extend([first].into_iter().chain(more).map(|pos| doc * 65_536 + pos));
+        let mut of_doc: Vec<u32> = vec![];
+        match way {
+            0 => {}
+            1 => of_doc.extend(window.iter().filter(|_| rng.below(3) > 0)),
+            2 => of_doc.push(rng.pick(&[smallest, smallest.saturating_sub(1), 0])),
+            3 if doc == crowded => of_doc.extend(window.iter().filter(|_| rng.below(2) > 0)),
+            3 => {}
+            _ => {
+                let first = match rng.below(12) {
+                    0 => continue,
+                    1..=7 => rng.pick(window),
+                    _ => rng.pick(&[smallest, smallest, 0]),
+                };
+                of_doc.push(first);
+                of_doc.extend((1..often).map(|_| rng.pick(window)).filter(|&pos| pos > first));
+            }
+        }
+        starts.extend(of_doc.iter().map(|pos| doc * 65_536 + pos));
     }
     starts.into_iter().collect()
+}
+
+/// Where the title starts that rows show lie, each of which a search is to meet.
+pub const STARTS: [&str; 6] = [
+    "starts: none in the document",
+    "starts: all behind the position",
+    "starts: at the position",
+    "starts: the document's first",
+    "starts: one between",
+    "starts: the document's last",
+];
+
+/// Counts these in the rows of a subject.
+pub fn count_starts(met: &mut Met, subject: &Subject) {
+    let searcher = subject.searcher();
+    for row in &searcher.rows {
+        let starts = searcher.positions(0, row[0]);
+        for [pos, start] in searcher.shown(row).into_iter().flatten().flatten() {
+            let [none, behind, at, first, between, last] = STARTS;
+            let what = match starts.iter().position(|&other| other == start) {
+                None if starts.is_empty() => none,
+                None => behind,
+                Some(_) if start == pos => at,
+                Some(0) => first,
+                Some(i) if i + 1 == starts.len() => last,
+                Some(_) => between,
+            };
+            met.count(what, 1);
+        }
+    }
 }
 
 /// An archive of few documents, with up to `most` positions of a list in each.
