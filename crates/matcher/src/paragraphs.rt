@@ -7,7 +7,7 @@ ghost use Rattle.fulltext.specs.Matches.{startsIn};
 ghost use Rattle.fulltext.specs.Paragraphs.{paraStart};
 ghost use Rattle.fulltext.specs.Inner.Paragraphs.{neededStart};
 ghost use Rattle.matcher.specs.Inner.Cursors.{seekFrom, Stretch, Galloped, AtDocument};
-ghost use Rattle.matcher.specs.Inner.Blocks.{RisingBlock, Across, Whole, startIn};
+ghost use Rattle.matcher.specs.Inner.Blocks.{RisingBlock, Across, Whole, blocksOf, startIn};
 use super::cursor::Cursor;
 use super::cursor::Document;
 use volume::BLOCK_WORDS;
@@ -174,7 +174,7 @@ fn last_below(volume: &[u8], block: usize, bound: u64) -> usize
 
 // The blocks that a cursor on list 0 has before it.
 pub fn blocks_of(starts: Cursor) -> Blocks
-    ensures { λ r. ⌜ Whole starts r ⌝ }
+    ensures { λ r. ⌜ r ≡ blocksOf starts ⌝ }
 {
     let first = starts.at / BLOCK_WORDS + 1;
     let two = 2 * BLOCK_WORDS;

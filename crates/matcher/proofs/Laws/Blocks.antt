@@ -2,6 +2,7 @@
 --     narrowed                   the last of five words of a block that is below a bound
 --     block-rises                the words of a block that has starts alone rise
 --     across-seek                the sought index, by two words of a block beside each other
+--     blocks-whole               the blocks that a cursor has before it lie between it and its end
 -- Assumes nothing.
 use Prim.Native.Nat.{ℕ, _+_, _*_, _<_, _≤_}
 use native.Mathlib.Omega.{arith}
@@ -12,8 +13,9 @@ use borrow.Author.Tests.{lt-ltb, le-ltb}
 use Rattle.seq.proofs.Laws.Tests.{below-or}
 use Rattle.volume.specs.Layout.{word}
 use Rattle.volume.specs.Inner.Below.{belowOf}
+use Rattle.matcher.specs.declared.cursor.Cursor.{Cursor}
 use Rattle.matcher.specs.Inner.Cursors.{seekFrom, Stretch}
-use Rattle.matcher.specs.Inner.Blocks.{RisingBlock, Across}
+use Rattle.matcher.specs.Inner.Blocks.{RisingBlock, Across, Whole, blocksOf}
 use Rattle.matcher.proofs.Laws.Cursors.{seek-between, stretch-within}
 
 below-yes : (x y : ℕ) → x < y → belowOf x y ≡ 1
@@ -100,3 +102,15 @@ module _ {v : List ℕ} {i e : ℕ} (s : Stretch v i e) (block : ℕ) (from : i 
 
   pub across-seek : {bound k : ℕ} → k ≤ 124 → Across v block bound k 1 → seekFrom v bound i e ≡ 126 * block + k + 1
   across-seek {bound} {k} small a = seek-between v bound i e s (126 * block + k) (omega arith) (omega arith) (a .below) (a .above)
+
+pub blocks-whole : (c : Cursor) → Whole c (blocksOf c)
+blocks-whole c = record {
+  from = λ b h. omega arith;
+  to = λ b h. ⊎-elim (none b h) (some b h) (below-or (c .end) 252);
+}
+  where
+    none : (b : ℕ) → b < blocksOf c .last → c .end < 252 → 126 * b + 252 ≤ c .end
+    none b h l = let g = rw (lt-ltb (c .end) 252 l) at h in absurd (let z : ⊥ = omega arith in z)
+
+    some : (b : ℕ) → b < blocksOf c .last → 252 ≤ c .end → 126 * b + 252 ≤ c .end
+    some b h l = let g = rw (le-ltb (c .end) 252 l) at h in omega arith

@@ -19,6 +19,7 @@ use Rattle.fulltext.specs.Matches.{startsIn}
 use Rattle.fulltext.specs.Documents.{work}
 use Rattle.fulltext.proofs.Laws.Counts.{work-even}
 use Rattle.matcher.specs.Inner.Cursors.{sought}
+use Rattle.matcher.proofs.Laws.Blocks.{blocks-whole}
 use Rattle.search.proofs.Laws.Loop.{Progress, same-size}
 use Rattle.search.proofs.Laws.Seen.{at-document, starts-stretch, block-first, walking-first, seen-true}
 use Rattle.search.specs.Inner.Rows.{rowBy}
@@ -344,7 +345,7 @@ write-row-requires c κs =
       (
         at-document _ _ _ _ (seen .visit .ensures .0 .later) (inside found) (walking .starts-at) (walking .starts-end),
         (
-          turn .before .before .blocks-of .ensures,
+          rw (turn .before .before .blocks-of .ensures) (blocks-whole _),
           (
             turn .loop .inv .1 .1 .1 .1 .1 .1 .1,
             (
