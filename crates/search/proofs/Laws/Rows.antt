@@ -402,7 +402,7 @@ least-small lists d f ps e =
     (first-has ps (matches ss vs (f .predicates)) e))
 
 module _ (v p table : List ℕ) (tabled : Tabled p table) (d bits : ℕ) (ps : List ℕ) (bits-are : bits ≡ foundBits (found (listsOf v) d) p)
-    (least : (k : ℕ) → k < sizes p .patterns → LeastAt v p d ps k) (room : sizes p .vars ≤ length ps) where
+    (least : (k : ℕ) → k < sizes p .patterns → LeastAt v p d ps k) where
   flag-is : (k : ℕ) → k < sizes p .patterns → halved bits k % 2 ≡ flagOf (found (listsOf v) d (patternAt p k))
   unfolding sizes
   flag-is k h =

@@ -82,13 +82,11 @@ module _ (v p table orders ends : List ℕ) (w : Walks v p table orders ends) (f
     pub visit-small : (k : ℕ) → k < n → halved (seen .found) k % 2 ≡ 1
         → InDocument (take (outlineAt table k .vars) (drop (outlineAt table k .first) ps))
     visit-small k h =
-        let room = s .walking inside .positions-room in
-        row-small v p table (w .tabled) (seen .doc) (seen .found) ps (s .found-are inside) (s .least inside) room k (omega arith)
+        row-small v p table (w .tabled) (seen .doc) (seen .found) ps (s .found-are inside) (s .least inside) k (omega arith)
 
     visit-row : rowBy (startsIn (listsOf v) (seen .doc)) table (seen .doc) (seen .found) ps n ≡ work v p .rowOf (seen .doc)
     visit-row =
-        let room = s .walking inside .positions-room in
-        row-is v p table (w .tabled) (seen .doc) (seen .found) ps (s .found-are inside) (s .least inside) room n e
+        row-is v p table (w .tabled) (seen .doc) (seen .found) ps (s .found-are inside) (s .least inside) n e
 
     pub visit-wide : length (rowBy (startsIn (listsOf v) (seen .doc)) table (seen .doc) (seen .found) ps n)
         ≡ rowWords (sizes p .patterns) (sizes p .vars)

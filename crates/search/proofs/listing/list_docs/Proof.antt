@@ -268,8 +268,8 @@ loop-again c =
           (visit-passed _ _ _ _ _ _ _ _ _ _ _ (seen .visit .ensures .0) _ _ (turn .loop .inv .0 .progress) (inside found)
           (told told-at ∙ not-true _ (c .if2 .taken))),
       (
-        part-length (turn .loop .docs) (seen .visit .last .1 .1 .1 .1 .1 .1 .1 .1 .0) (length (now (start .args .table)) / 4) 8
-            (docs-size seen) (turn .loop .inv .1 .0),
+        part-length (turn .loop .docs) (seen .visit .last .1 .1 .1 .1 .1 .1 .1 .1 .0) (length (now (start .args .table)) / 4)
+            mostPatterns (docs-size seen) (turn .loop .inv .1 .0),
         (ats-size seen, (known-size told-at, (remembers told-at, (positions-size seen, (paras-size seen, within))))),
       ),
     )
@@ -383,8 +383,8 @@ loop-again-2 c =
           (told told-at ∙ not-false _ (true-of c .if2 .left)) _ (wide (words-of turn))
           (c .before .before .before .before .before .if3 .left) _ _ (start .pre .0) _ (many start) _ (wrote .0)),
       (
-        part-length (turn .loop .docs) (seen .visit .last .1 .1 .1 .1 .1 .1 .1 .1 .0) (length (now (start .args .table)) / 4) 8
-            (docs-size seen) (turn .loop .inv .1 .0),
+        part-length (turn .loop .docs) (seen .visit .last .1 .1 .1 .1 .1 .1 .1 .1 .0) (length (now (start .args .table)) / 4)
+            mostPatterns (docs-size seen) (turn .loop .inv .1 .0),
         (ats-size seen, (known-size told-at, (remembers told-at, (positions-size seen, (paras-size seen, wrote .1))))),
       ),
     )
