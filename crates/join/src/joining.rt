@@ -53,10 +53,10 @@ fn put_joined(
     ensures { λ _. ⌜ now (out .exit) ≡ storedFirst (joinedWord lift (now (first .entry)) (now (second .entry))) n (now (out .entry)) ⌝ }
 {
     let mut words: [u32; BLOCK_WORDS] = [0; BLOCK_WORDS];
-    let mut place = front(lists);
+    let mut merge = front(lists);
     let mut k: usize = 0;
     while k < n {
-        place = next_block(first, second, lift, lists, all, k, place, &mut words);
+        merge = next_block(first, second, lift, lists, all, k, merge, &mut words);
         let start = BLOCK_BYTES * k;
         let end = start + BLOCK_BYTES;
         put_made(&words, k, &mut out[start..end]);

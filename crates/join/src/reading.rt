@@ -17,7 +17,7 @@ use volume::word_behind;
 // How far both volumes are read: how many lists have been entered, and of the last of these the
 // stream index of the next posting in the first volume, where the list stops there, the index of the
 // next posting in the second volume, and where the list ends there.
-pub struct Place {
+pub struct Merge {
     pub lists: usize,
     pub first: usize,
     pub stop: usize,
@@ -26,12 +26,12 @@ pub struct Place {
 }
 
 // In front of all postings.
-pub fn front(lists: usize) -> Place
+pub fn front(lists: usize) -> Merge
     requires { ⌜ lists ≤ 1024 ⌝ }
     ensures { λ r. ⌜ r ≡ frontOf lists ⌝ }
 {
     let at = lead(lists);
-    Place {
+    Merge {
         lists: 0,
         first: at,
         stop: at,
@@ -70,62 +70,62 @@ fn copy_run(volume: &[u8], from: usize, n: usize, lift: u32, words: &mut [u32], 
 }
 
 // Enters the next list, where the last one has ended.
-fn enter(first: &[u8], second: &[u8], place: Place) -> Place
+fn enter(first: &[u8], second: &[u8], merge: Merge) -> Merge
     requires { ⌜ Joinable (now first) (now second) ⌝ }
-    requires { ⌜ StandsAt (now first) (now second) place ⌝ }
-    requires { ⌜ place .first ≡ place .stop ⌝ }
-    requires { ⌜ place .second ≡ place .end ⌝ }
-    requires { ⌜ place .lists < listCount (now first) ⌝ }
+    requires { ⌜ StandsAt (now first) (now second) merge ⌝ }
+    requires { ⌜ merge .first ≡ merge .stop ⌝ }
+    requires { ⌜ merge .second ≡ merge .end ⌝ }
+    requires { ⌜ merge .lists < listCount (now first) ⌝ }
     ensures { λ r. ⌜ StandsAt (now (first .entry)) (now (second .entry)) r ⌝ }
-    ensures { λ r. ⌜ readOf r ≡ readOf place ⌝ }
-    ensures { λ r. ⌜ r .lists ≡ place .lists + 1 ⌝ }
+    ensures { λ r. ⌜ readOf r ≡ readOf merge ⌝ }
+    ensures { λ r. ⌜ r .lists ≡ merge .lists + 1 ⌝ }
 {
-    let i = place.lists;
-    Place {
+    let i = merge.lists;
+    Merge {
         lists: i + 1,
-        first: place.first,
-        stop: place.stop + count_at(first, i) as usize,
-        second: place.second,
-        end: place.end + count_at(second, i) as usize,
+        first: merge.first,
+        stop: merge.stop + count_at(first, i) as usize,
+        second: merge.second,
+        end: merge.end + count_at(second, i) as usize,
     }
 }
 
 // Makes the next words of a block, from word `to` on: a run of postings of one volume, or no word
 // where a list is entered.
-fn turn(first: &[u8], second: &[u8], lift: u32, place: Place, to: usize, words: &mut [u32]) -> Place
+fn turn(first: &[u8], second: &[u8], lift: u32, merge: Merge, to: usize, words: &mut [u32]) -> Merge
     requires { ⌜ Joinable (now first) (now second) ⌝ }
-    requires { ⌜ StandsAt (now first) (now second) place ⌝ }
-    requires { ⌜ readOf place < extent (now first) + extent (now second) ⌝ }
+    requires { ⌜ StandsAt (now first) (now second) merge ⌝ }
+    requires { ⌜ readOf merge < extent (now first) + extent (now second) ⌝ }
     requires { ⌜ to < 126 ⌝ }
     requires { ⌜ length (now words) ≡ 126 ⌝ }
     requires { ⌜ Lifts lift (now second) ⌝ }
-    ensures { λ r. ⌜ Turned lift (now (first .entry)) (now (second .entry)) place to (now (words .entry)) r (now (words .exit)) ⌝ }
-    ensures { λ r. ⌜ place .lists + readOf place < r .lists + readOf r ⌝ }
+    ensures { λ r. ⌜ Turned lift (now (first .entry)) (now (second .entry)) merge to (now (words .entry)) r (now (words .exit)) ⌝ }
+    ensures { λ r. ⌜ merge .lists + readOf merge < r .lists + readOf r ⌝ }
 {
     let room = BLOCK_WORDS - to;
-    if place.first < place.stop {
-        let n = run_length(place.first, place.stop, room);
-        copy_run(first, place.first, n, 0, words, to);
-        return Place {
-            lists: place.lists,
-            first: place.first + n,
-            stop: place.stop,
-            second: place.second,
-            end: place.end,
+    if merge.first < merge.stop {
+        let n = run_length(merge.first, merge.stop, room);
+        copy_run(first, merge.first, n, 0, words, to);
+        return Merge {
+            lists: merge.lists,
+            first: merge.first + n,
+            stop: merge.stop,
+            second: merge.second,
+            end: merge.end,
         };
     }
-    if place.second < place.end {
-        let n = run_length(place.second, place.end, room);
-        copy_run(second, place.second, n, lift, words, to);
-        return Place {
-            lists: place.lists,
-            first: place.first,
-            stop: place.stop,
-            second: place.second + n,
-            end: place.end,
+    if merge.second < merge.end {
+        let n = run_length(merge.second, merge.end, room);
+        copy_run(second, merge.second, n, lift, words, to);
+        return Merge {
+            lists: merge.lists,
+            first: merge.first,
+            stop: merge.stop,
+            second: merge.second + n,
+            end: merge.end,
         };
     }
-    enter(first, second, place)
+    enter(first, second, merge)
 }
 
 // Makes the words of a block from word `from` on, up to its end or to the last posting. `all` is
@@ -135,20 +135,20 @@ fn fill(
     second: &[u8],
     lift: u32,
     all: usize,
-    place: Place,
+    merge: Merge,
     from: usize,
     words: &mut [u32],
-) -> Place
+) -> Merge
     requires { ⌜ Joinable (now first) (now second) ⌝ }
     requires { ⌜ all ≡ extent (now first) + extent (now second) ⌝ }
-    requires { ⌜ StandsAt (now first) (now second) place ⌝ }
+    requires { ⌜ StandsAt (now first) (now second) merge ⌝ }
     requires { ⌜ from ≤ 126 ⌝ }
     requires { ⌜ length (now words) ≡ 126 ⌝ }
     requires { ⌜ Lifts lift (now second) ⌝ }
-    ensures { λ r. ⌜ Turned lift (now (first .entry)) (now (second .entry)) place from (now (words .entry)) r (now (words .exit)) ⌝ }
-    ensures { λ r. ⌜ readOf r ≡ min (readOf place + (126 - from)) all ⌝ }
+    ensures { λ r. ⌜ Turned lift (now (first .entry)) (now (second .entry)) merge from (now (words .entry)) r (now (words .exit)) ⌝ }
+    ensures { λ r. ⌜ readOf r ≡ min (readOf merge + (126 - from)) all ⌝ }
 {
-    let mut here = place;
+    let mut here = merge;
     let mut to = from;
     while to < BLOCK_WORDS && here.first + here.second < all {
         let next = turn(first, second, lift, here, to, words);
@@ -207,7 +207,7 @@ fn put_zeros(words: &mut [u32], from: usize)
     }
 }
 
-// Makes the words of block k, and goes on to the place behind them.
+// Makes the words of block k, and goes on behind them.
 pub fn next_block(
     first: &[u8],
     second: &[u8],
@@ -215,13 +215,13 @@ pub fn next_block(
     lists: usize,
     all: usize,
     k: usize,
-    place: Place,
+    merge: Merge,
     words: &mut [u32],
-) -> Place
+) -> Merge
     requires { ⌜ Joinable (now first) (now second) ⌝ }
     requires { ⌜ lists ≡ listCount (now first) ⌝ }
     requires { ⌜ all ≡ extent (now first) + extent (now second) ⌝ }
-    requires { ⌜ StandsBefore (now first) (now second) place k ⌝ }
+    requires { ⌜ StandsBefore (now first) (now second) merge k ⌝ }
     requires { ⌜ 126 * k < extentOfBoth (now first) (now second) ⌝ }
     requires { ⌜ length (now words) ≡ 126 ⌝ }
     requires { ⌜ Lifts lift (now second) ⌝ }
@@ -229,8 +229,8 @@ pub fn next_block(
     ensures { λ _. ⌜ now (words .exit) ≡ run (joinedWord lift (now (first .entry)) (now (second .entry))) (126 * k) 126 ⌝ }
 {
     let head = put_head(first, second, lists, BLOCK_WORDS * k, words);
-    let here = fill(first, second, lift, all, place, head, words);
-    let to = head + (here.first + here.second - (place.first + place.second));
+    let here = fill(first, second, lift, all, merge, head, words);
+    let to = head + (here.first + here.second - (merge.first + merge.second));
     put_zeros(words, to);
     here
 }

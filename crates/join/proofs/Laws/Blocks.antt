@@ -1,6 +1,6 @@
 -- The blocks of the joined stream: the counts of a block, its postings and its zeros, one behind the other. No contract cites this file.
---     stands-first     the place in front of the first block
---     block-next       the place behind a block
+--     stands-first     the merge in front of the first block
+--     block-next       the merge behind a block
 --     block-made       the words of a block
 -- Assumes nothing.
 use Prim.Native.Nat.{ℕ, _+_, _*_, _-_, _<_, _≤_, min, max}
@@ -14,7 +14,7 @@ use Rattle.seq.specs.Numbers.{run}
 use Rattle.seq.proofs.Laws.Tests.{below-or}
 use Rattle.volume.specs.Layout.{listCount, lead, extent}
 use Rattle.volume.proofs.Laws.Starts.{start-first}
-use Rattle.join.specs.declared.reading.Place.{Place}
+use Rattle.join.specs.declared.reading.Merge.{Merge}
 use Rattle.join.specs.Refusals.{extentOfBoth}
 use Rattle.join.specs.Inner.Reading.{joinedWord, headWord, Joinable, made, readOf, frontOf, indexOf, StandsBefore, Turned}
 use Rattle.join.proofs.Laws.Stream.{word-head, word-zero}
@@ -50,7 +50,7 @@ made-is c r head to h e = omega arith
 
 module _ (lift : ℕ) (v w : List ℕ) (j : Joinable v w) where
   -- in front of all postings
-  pub stands-first : (c : Place) (lists : ℕ) → c ≡ frontOf lists → lists ≡ listCount v → StandsBefore v w c 0
+  pub stands-first : (c : Merge) (lists : ℕ) → c ≡ frontOf lists → lists ≡ listCount v → StandsBefore v w c 0
   stands-first c lists e same =
       let p = start-first v in
       let q = start-first w in
@@ -69,8 +69,8 @@ module _ (lift : ℕ) (v w : List ℕ) (j : Joinable v w) where
         index = omega arith;
       })
 
-  -- the place behind block k: its counts, its postings and its zeros are made one behind the other
-  pub block-next : (c r : Place) (k head : ℕ) (before after : List ℕ) → StandsBefore v w c k → 126 * k < extentOfBoth v w
+  -- the merge behind block k: its counts, its postings and its zeros are made one behind the other
+  pub block-next : (c r : Merge) (k head : ℕ) (before after : List ℕ) → StandsBefore v w c k → 126 * k < extentOfBoth v w
       → head ≡ min 126 (lead (listCount v) - 126 * k) → Turned lift v w c head before r after
       → readOf r ≡ min (readOf c + (126 - head)) (extent v + extent w) → StandsBefore v w r (k + 1)
   block-next c r k head before after s h e t read =
@@ -87,7 +87,7 @@ module _ (lift : ℕ) (v w : List ℕ) (j : Joinable v w) where
       record { stands = t .stands; index = q ∙ ap (λ (n : ℕ). max l (min n end)) more }
 
   -- the words of block k
-  pub block-made : (c r : Place) (k head to : ℕ) (words a b d : List ℕ) → StandsBefore v w c k → 126 * k < extentOfBoth v w → length words ≡ 126
+  pub block-made : (c r : Merge) (k head to : ℕ) (words a b d : List ℕ) → StandsBefore v w c k → 126 * k < extentOfBoth v w → length words ≡ 126
       → head ≡ min 126 (lead (listCount v) - 126 * k) → a ≡ made (headWord v w) (126 * k) 0 head words
       → Turned lift v w c head a r b → readOf r ≡ min (readOf c + (126 - head)) (extent v + extent w)
       → to ≡ head + (readOf r - readOf c) → d ≡ made (λ i. 0) 0 to 126 b → d ≡ run (joinedWord lift v w) (126 * k) 126

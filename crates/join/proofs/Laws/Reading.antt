@@ -1,9 +1,9 @@
 -- How the joined stream is made, run by run: the laws of `specs/Inner/Reading.antt`. No contract cites this file.
 --     start-most                            no list starts behind the extent
---     Bounds, bounds                        where a place stands
+--     Bounds, bounds                        where a merge stands
 --     more-lists                            a list is left where not all is read
 --     first-lifts, second-lifts             what can be added to a run of postings
---     moved-first, moved-second, entered    a place moved on still stands
+--     moved-first, moved-second, entered    a merge moved on still stands
 --     turned-entered, turned-none           a list entered, and no step
 --     turned-then                           two steps, one behind the other
 --     turned-first, turned-second           a run of postings of one volume
@@ -22,7 +22,7 @@ use Rattle.block.proofs.Laws.Bytes.{le32-lt}
 use Rattle.volume.specs.Layout.{streamLength, offset, word, listCount, lead, count, extent, start}
 use Rattle.volume.proofs.Laws.Check.{good}
 use Rattle.volume.proofs.Laws.Starts.{start-next}
-use Rattle.join.specs.declared.reading.Place.{Place}
+use Rattle.join.specs.declared.reading.Merge.{Merge}
 use Rattle.join.specs.Inner.Reading.{joinedWord, Liftable, Lifts, Joinable, made, readOf, StandsAt, indexOf, Turned}
 use Rattle.join.proofs.Laws.Stream.{word-first, word-second}
 use Rattle.join.proofs.Laws.Made.{made-none, made-then, made-ext}
@@ -36,8 +36,8 @@ pub first-lifts : (v : List ℕ) (from n : ℕ) → IsBytes v → Liftable 0 v f
 unfolding word
 first-lifts v from n b = record { each = λ k l. let h = le32-lt v (offset (from + k)) b in omega arith }
 
--- where a place stands: behind the counts, and within both volumes
-pub record Bounds (v w : List ℕ) (c : Place) : Type 0 where
+-- where a merge stands: behind the counts, and within both volumes
+pub record Bounds (v w : List ℕ) (c : Merge) : Type 0 where
   pub first-least : lead (listCount v) ≤ c .first
   pub first-most : c .first ≤ extent v
   pub stop-most : c .stop ≤ extent v
@@ -50,19 +50,19 @@ pub record Bounds (v w : List ℕ) (c : Place) : Type 0 where
   pub second-small : extent w ≤ 1032192
 
 -- n postings further in the first volume
-abbrev firstOn : Place → ℕ → Place
+abbrev firstOn : Merge → ℕ → Merge
 firstOn c n = record { lists = c .lists; first = c .first + n; stop = c .stop; second = c .second; end = c .end }
 
 -- n postings further in the second
-abbrev secondOn : Place → ℕ → Place
+abbrev secondOn : Merge → ℕ → Merge
 secondOn c n = record { lists = c .lists; first = c .first; stop = c .stop; second = c .second + n; end = c .end }
 
 -- in the next list, of m and n postings
-abbrev nextOf : Place → ℕ → ℕ → Place
+abbrev nextOf : Merge → ℕ → ℕ → Merge
 nextOf c m n = record { lists = c .lists + 1; first = c .first; stop = c .stop + m; second = c .second; end = c .end + n }
 
 module _ (v w : List ℕ) (j : Joinable v w) where
-  pub bounds : (c : Place) → StandsAt v w c → Bounds v w c
+  pub bounds : (c : Merge) → StandsAt v w c → Bounds v w c
   bounds c s =
       let same = j .same in
       let first = start-most v (c .lists) (s .lists) in
@@ -83,7 +83,7 @@ module _ (v w : List ℕ) (j : Joinable v w) where
       }
 
   -- a list is left where not all is read
-  pub more-lists : (c : Place) → StandsAt v w c → c .first ≡ c .stop → c .second ≡ c .end → readOf c < extent v + extent w → c .lists < listCount v
+  pub more-lists : (c : Merge) → StandsAt v w c → c .first ≡ c .stop → c .second ≡ c .end → readOf c < extent v + extent w → c .lists < listCount v
   more-lists c s a b h =
       ⊎-elim
       (λ (l : c .lists < listCount v). l)
@@ -96,13 +96,13 @@ module _ (v w : List ℕ) (j : Joinable v w) where
       (below-or (c .lists) (listCount v))
 
   -- a posting of the second can be lifted
-  pub second-lifts : (lift : ℕ) (c : Place) (n : ℕ) → Lifts lift w → StandsAt v w c → c .second + n ≤ c .end → Liftable lift w (c .second) n
+  pub second-lifts : (lift : ℕ) (c : Merge) (n : ℕ) → Lifts lift w → StandsAt v w c → c .second + n ≤ c .end → Liftable lift w (c .second) n
   second-lifts lift c n k s h =
       let b = bounds c s in
       let same = j .same in
       record { each = λ i l. k .each (c .second + i) (omega arith) (omega arith) }
 
-  moved-first : (c : Place) (n : ℕ) → StandsAt v w c → c .first + n ≤ c .stop → StandsAt v w (firstOn c n)
+  moved-first : (c : Merge) (n : ℕ) → StandsAt v w c → c .first + n ≤ c .stop → StandsAt v w (firstOn c n)
   moved-first c n s h = record {
     lists = s .lists;
     first-end = s .first-end;
@@ -114,7 +114,7 @@ module _ (v w : List ℕ) (j : Joinable v w) where
     waits = λ l. s .waits (omega arith);
   }
 
-  moved-second : (c : Place) (n : ℕ) → StandsAt v w c → c .first ≡ c .stop → c .second + n ≤ c .end → StandsAt v w (secondOn c n)
+  moved-second : (c : Merge) (n : ℕ) → StandsAt v w c → c .first ≡ c .stop → c .second + n ≤ c .end → StandsAt v w (secondOn c n)
   moved-second c n s e h = record {
     lists = s .lists;
     first-end = s .first-end;
@@ -126,7 +126,7 @@ module _ (v w : List ℕ) (j : Joinable v w) where
     waits = λ l. absurd (omega arith);
   }
 
-  pub entered : (c : Place) (m n : ℕ) → StandsAt v w c → c .first ≡ c .stop → c .second ≡ c .end → c .lists < listCount v
+  pub entered : (c : Merge) (m n : ℕ) → StandsAt v w c → c .first ≡ c .stop → c .second ≡ c .end → c .lists < listCount v
       → m ≡ count v (c .lists) → n ≡ count w (c .lists) → StandsAt v w (nextOf c m n)
   entered c m n s p q h x y =
       let a = s .first-end in
@@ -145,7 +145,7 @@ module _ (v w : List ℕ) (j : Joinable v w) where
 
 module _ (lift : ℕ) (v w : List ℕ) (j : Joinable v w) where
   -- a list entered
-  pub turned-entered : (c r : Place) (to : ℕ) (words : List ℕ) → StandsAt v w r → readOf r ≡ readOf c → to ≤ 126 → Turned lift v w c to words r words
+  pub turned-entered : (c r : Merge) (to : ℕ) (words : List ℕ) → StandsAt v w r → readOf r ≡ readOf c → to ≤ 126 → Turned lift v w c to words r words
   turned-entered c r to words s e h =
       let none : to + (readOf r - readOf c) ≡ to = omega arith in
       record {
@@ -156,11 +156,11 @@ module _ (lift : ℕ) (v w : List ℕ) (j : Joinable v w) where
       }
 
   -- no step
-  pub turned-none : (c : Place) (to : ℕ) (words : List ℕ) → StandsAt v w c → to ≤ 126 → Turned lift v w c to words c words
+  pub turned-none : (c : Merge) (to : ℕ) (words : List ℕ) → StandsAt v w c → to ≤ 126 → Turned lift v w c to words c words
   turned-none c to words s h = turned-entered c c to words s refl h
 
   -- two steps
-  pub turned-then : (c r e : Place) (to next : ℕ) (words mid after : List ℕ) → StandsAt v w c → length words ≡ 126 → next ≡ to + (readOf r - readOf c)
+  pub turned-then : (c r e : Merge) (to next : ℕ) (words mid after : List ℕ) → StandsAt v w c → length words ≡ 126 → next ≡ to + (readOf r - readOf c)
       → Turned lift v w c to words r mid → Turned lift v w r next mid e after → Turned lift v w c to words e after
   turned-then c r e to next words mid after s l n t u =
       let b = bounds v w j c s in
@@ -179,7 +179,7 @@ module _ (lift : ℕ) (v w : List ℕ) (j : Joinable v w) where
       }
 
   -- a run of postings of the first volume
-  pub turned-first : (c : Place) (n to : ℕ) (words after : List ℕ) → StandsAt v w c → c .first + n ≤ c .stop → to + n ≤ 126
+  pub turned-first : (c : Merge) (n to : ℕ) (words after : List ℕ) → StandsAt v w c → c .first + n ≤ c .stop → to + n ≤ 126
       → after ≡ made (λ i. word v i + 0) (c .first) to (to + n) words → Turned lift v w c to words (firstOn c n) after
   turned-first c n to words after s h room e =
       let more : readOf (firstOn c n) - readOf c ≡ n = omega arith in
@@ -194,7 +194,7 @@ module _ (lift : ℕ) (v w : List ℕ) (j : Joinable v w) where
       }
 
   -- and of the second
-  pub turned-second : (c : Place) (n to : ℕ) (words after : List ℕ) → StandsAt v w c → c .first ≡ c .stop → c .second + n ≤ c .end → to + n ≤ 126
+  pub turned-second : (c : Merge) (n to : ℕ) (words after : List ℕ) → StandsAt v w c → c .first ≡ c .stop → c .second + n ≤ c .end → to + n ≤ 126
       → after ≡ made (λ i. word w i + lift) (c .second) to (to + n) words → Turned lift v w c to words (secondOn c n) after
   turned-second c n to words after s p h room e =
       let more : readOf (secondOn c n) - readOf c ≡ n = omega arith in

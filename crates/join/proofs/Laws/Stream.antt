@@ -1,6 +1,6 @@
 -- The words of the joined stream, by where they come from. No contract cites this file.
 --     word-head, head-count                    in front of the postings: the counts add up
---     word-first, word-second                  from a place on: the rest of a list of the first volume, then of the second
+--     word-first, word-second                  where a merge stands: the rest of a list of the first volume, then of the second
 --     word-zero                                behind the postings stand zeros
 -- Assumes nothing.
 use Prim.Native.Nat.{ℕ, zero, suc, _+_, _-_, _<_, _≤_}
@@ -16,7 +16,7 @@ use Rattle.seq.proofs.Laws.Numbers.{length-run, getD-run}
 use Rattle.volume.specs.Layout.{word, listCount, entry, lead, count, start, postingsOf}
 use Rattle.volume.proofs.Laws.Starts.{start-next}
 use Rattle.volume.proofs.Laws.Write.{stream-posting, stream-zero}
-use Rattle.join.specs.declared.reading.Place.{Place}
+use Rattle.join.specs.declared.reading.Merge.{Merge}
 use Rattle.join.specs.Refusals.{extentOfBoth}
 use Rattle.join.specs.Inner.Reading.{liftedLists, joinedWord, headWord, Joinable, StandsAt, indexOf}
 use Rattle.join.proofs.Laws.Joined.{length-lists, lengths, list-is, length-both, element-is}
@@ -90,7 +90,7 @@ module _ (lift : ℕ) (v w : List ℕ) (j : Joinable v w) where
   entered u zero p low high = absurd (let z : ⊥ = omega arith in z)
   entered u (suc n) p low high = omega arith
 
-  pub word-first : (c : Place) → StandsAt v w c → (k : ℕ) → c .first + k < c .stop
+  pub word-first : (c : Merge) → StandsAt v w c → (k : ℕ) → c .first + k < c .stop
       → joinedWord lift v w (indexOf v c + k) ≡ word v (c .first + k)
   word-first c s k h =
       let i = c .lists - 1 in
@@ -106,7 +106,7 @@ module _ (lift : ℕ) (v w : List ℕ) (j : Joinable v w) where
       let z : start v i + m ≡ c .first + k = omega arith in
       ap (joinedWord lift v w) q ∙ at-first i m (omega arith) (omega arith) ∙ ap (word v) z
 
-  pub word-second : (c : Place) → StandsAt v w c → c .first ≡ c .stop → (k : ℕ) → c .second + k < c .end
+  pub word-second : (c : Merge) → StandsAt v w c → c .first ≡ c .stop → (k : ℕ) → c .second + k < c .end
       → joinedWord lift v w (indexOf v c + k) ≡ word w (c .second + k) + lift
   word-second c s full k h =
       let i = c .lists - 1 in

@@ -9,7 +9,7 @@ use Rattle.seq.specs.Numbers.{run}
 use Rattle.volume.specs.Layout.{word, listCount, lead, count, extent, start, listsOf}
 use Rattle.volume.specs.Check.{Accepted}
 use Rattle.volume.specs.Write.{streamOf}
-use Rattle.join.specs.declared.reading.Place.{Place}
+use Rattle.join.specs.declared.reading.Merge.{Merge}
 use Rattle.join.specs.Joined.{joinedBy}
 use Rattle.join.specs.Refusals.{extentOfBoth}
 
@@ -46,15 +46,15 @@ abbrev pub made : (ℕ → ℕ) → ℕ → ℕ → ℕ → List ℕ → List �
 made f i to end words = take to words ++ run f i (end - to) ++ drop end words
 
 -- how much of both volumes is read: what the two stream indexes add up to
-abbrev pub readOf : Place → ℕ
+abbrev pub readOf : Merge → ℕ
 readOf c = c .first + c .second
 
 -- in front of all postings of so many lists
-abbrev pub frontOf : ℕ → Place
+abbrev pub frontOf : ℕ → Merge
 frontOf lists = record { lists = 0; first = lead lists; stop = lead lists; second = lead lists; end = lead lists }
 
 -- the lists entered, but the last, are read; the last one is read in the first volume before it is read in the second
-pub record StandsAt (v w : List ℕ) (c : Place) : Type 0 where
+pub record StandsAt (v w : List ℕ) (c : Merge) : Type 0 where
   pub lists : c .lists ≤ listCount v
   pub first-end : c .stop ≡ start v (c .lists)
   pub first-low : start v (c .lists - 1) ≤ c .first
@@ -65,16 +65,16 @@ pub record StandsAt (v w : List ℕ) (c : Place) : Type 0 where
   pub waits : c .first < c .stop → c .second ≡ start w (c .lists - 1)
 
 -- the index in the joined stream of the word that comes next
-abbrev pub indexOf : List ℕ → Place → ℕ
+abbrev pub indexOf : List ℕ → Merge → ℕ
 indexOf v c = readOf c - lead (listCount v)
 
--- a place in front of block k: what comes next is the block's first word, but not a count, and nothing where the block is behind the lists
-pub record StandsBefore (v w : List ℕ) (c : Place) (k : ℕ) : Type 0 where
+-- a merge in front of block k: what comes next is the block's first word, but not a count, and nothing where the block is behind the lists
+pub record StandsBefore (v w : List ℕ) (c : Merge) (k : ℕ) : Type 0 where
   pub stands : StandsAt v w c
   pub index : indexOf v c ≡ max (lead (listCount v)) (min (126 * k) (extentOfBoth v w))
 
--- from a place in front of word `to` of a block to one that is reached, with the words between made
-pub record Turned (lift : ℕ) (v w : List ℕ) (c : Place) (to : ℕ) (words : List ℕ) (r : Place) (after : List ℕ) : Type 0 where
+-- from a merge in front of word `to` of a block to one that is reached, with the words between made
+pub record Turned (lift : ℕ) (v w : List ℕ) (c : Merge) (to : ℕ) (words : List ℕ) (r : Merge) (after : List ℕ) : Type 0 where
   pub stands : StandsAt v w r
   pub onward : readOf c ≤ readOf r
   pub inside : to + (readOf r - readOf c) ≤ 126

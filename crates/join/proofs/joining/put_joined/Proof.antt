@@ -1,4 +1,4 @@
--- `join::joining::put_joined` meets its contract. The loop's invariant: the first k blocks are stored, and the place stands in front of block k.
+-- `join::joining::put_joined` meets its contract. The loop's invariant: the first k blocks are stored, and the merge stands in front of block k.
 -- The measure is what is left of the blocks. Assumes nothing.
 use Prim.Native.Nat.{ℕ, _+_, _*_, _-_, _<_, _≤_}
 use native.Mathlib.Nat.{sub-zero}
@@ -18,11 +18,11 @@ use Rattle.join.proofs.joining.put_joined.Statement.{statement}
 use Rattle.join.proofs.joining.put_joined.Tie as tie
 
 abbrev Inv-loop : tie.InvT-loop
-Inv-loop first second lift lists all n out₀ words₀ place₀ k₀ out words place k =
-    Laying (joinedWord lift first second) 0 n out₀ out k × StandsBefore first second place k × (length words ≡ 126)
+Inv-loop first second lift lists all n out₀ words₀ merge₀ k₀ out words merge k =
+    Laying (joinedWord lift first second) 0 n out₀ out k × StandsBefore first second merge k × (length words ≡ 126)
 
 abbrev μ-loop : tie.MeasureT-loop
-μ-loop first second lift lists all n out₀ words₀ place₀ k₀ out words place k = n - k
+μ-loop first second lift lists all n out₀ words₀ merge₀ k₀ out words merge k = n - k
 
 -- the function's start, from a turn
 abbrev begin : tie.At-loop Inv-loop μ-loop → tie.Start Inv-loop μ-loop

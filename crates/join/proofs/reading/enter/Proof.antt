@@ -7,9 +7,9 @@ use Rattle.join.proofs.Laws.Reading.{Bounds, bounds, entered}
 use Rattle.join.proofs.reading.enter.Statement.{statement}
 use Rattle.join.proofs.reading.enter.Tie as tie
 
--- where the place stands
-standing : (s : tie.Start) → Bounds (now (s .args .first)) (now (s .args .second)) (s .args .place)
-standing s = bounds (now (s .args .first)) (now (s .args .second)) (s .pre .0) (s .args .place) (s .pre .1 .0)
+-- where the merge stands
+standing : (s : tie.Start) → Bounds (now (s .args .first)) (now (s .args .second)) (s .args .merge)
+standing s = bounds (now (s .args .first)) (now (s .args .second)) (s .pre .0) (s .args .merge) (s .pre .1 .0)
 
 add-t5 : tie.Need-add-t5
 add-t5 c = search needs
@@ -52,7 +52,7 @@ returns c =
     let a = s .args in
     let stands = s .pre .1 in
     let ends = stands .1 .1 in (
-      entered (now (a .first)) (now (a .second)) (s .pre .0) (a .place) _ _ (stands .0) (stands .1 .0) (ends .0) (ends .1)
+      entered (now (a .first)) (now (a .second)) (s .pre .0) (a .merge) _ _ (stands .0) (stands .1 .0) (ends .0) (ends .1)
           (c .before .before .before .count-at .ensures) (c .before .count-at2 .ensures),
       (refl, refl),
     )

@@ -7,7 +7,7 @@ use borrow.Author.Tests.{ltb-true, ltb-false}
 use denote.Ref.{now}
 use lib.ListN.{length}
 use Rattle.volume.specs.Layout.{listCount}
-use Rattle.join.specs.declared.reading.Place.{Place}
+use Rattle.join.specs.declared.reading.Merge.{Merge}
 use Rattle.join.specs.Inner.Reading.{readOf, StandsAt, Turned}
 use Rattle.join.proofs.Laws.Reading.{Bounds, bounds, turned-none, turned-then}
 use Rattle.join.proofs.reading.fill.Statement.{statement}
@@ -24,8 +24,8 @@ abbrev μ-loop : tie.MeasureT-loop
 abbrev begin : tie.At-loop Inv-loop μ-loop → tie.Start Inv-loop μ-loop
 begin l = l .before .before .before .before
 
--- where a place stands
-standing : (s : tie.Start Inv-loop μ-loop) (c : Place) → let a = s .args in StandsAt (now (a .first)) (now (a .second)) c
+-- where a merge stands
+standing : (s : tie.Start Inv-loop μ-loop) (c : Merge) → let a = s .args in StandsAt (now (a .first)) (now (a .second)) c
     → Bounds (now (a .first)) (now (a .second)) c
 standing s c h = let a = s .args in bounds (now (a .first)) (now (a .second)) (s .pre .0) c h
 
@@ -34,7 +34,7 @@ loop-holds c =
     let s = c .before .before .before in
     let a = s .args in
     let stands = s .pre .1 .1 .0 in
-    (turned-none (a .lift) (now (a .first)) (now (a .second)) (s .pre .0) (a .place) (a .from) (now (a .words)) stands (omega arith), omega arith, refl)
+    (turned-none (a .lift) (now (a .first)) (now (a .second)) (s .pre .0) (a .merge) (a .from) (now (a .words)) stands (omega arith), omega arith, refl)
 
 add-if1 : tie.Need-add-if1 Inv-loop μ-loop
 add-if1 c =
@@ -52,7 +52,7 @@ turn-requires c κs =
     let q = l .loop .inv .2 in
     (s .pre .0, (l .loop .inv .0 .stands, (omega arith, (omega arith, (omega arith, s .pre .1 .1 .1 .1 .1)))))
 
--- where the place behind a turn stands
+-- where the merge stands behind a turn
 after : (c : tie.After-turn Inv-loop μ-loop) → let s = begin (c .before .before .before .before .before) in
     Bounds (now (s .args .first)) (now (s .args .second)) (c .turn .result)
 after c = standing (begin (c .before .before .before .before .before)) (c .turn .result) (c .turn .ensures .0 .stands)
@@ -94,7 +94,7 @@ loop-again c =
     let i = l .loop .inv in
     let o = i .0 .onward in
     let n = t .turn .ensures .0 .onward in (
-      turned-then (a .lift) (now (a .first)) (now (a .second)) (s .pre .0) (a .place) (l .loop .here) (t .turn .result) (a .from) (l .loop .to)
+      turned-then (a .lift) (now (a .first)) (now (a .second)) (s .pre .0) (a .merge) (l .loop .here) (t .turn .result) (a .from) (l .loop .to)
           (now (a .words)) (l .loop .words) _ (s .pre .1 .1 .0) (s .pre .1 .1 .1 .1 .0) (i .1) (i .0) (t .turn .ensures .0),
       omega arith,
       omega arith,

@@ -15,7 +15,7 @@ use Rattle.join.proofs.reading.next_block.Tie as tie
 abbrev begin : tie.After-fill → tie.Start
 begin c = c .before .before .before .before .before .before .before .before .before
 
--- where the place behind the postings stands
+-- where the merge stands behind the postings
 behind : (c : tie.After-fill) → let a = begin c .args in Bounds (now (a .first)) (now (a .second)) (c .fill .result)
 behind c =
     let s = begin c in
@@ -32,9 +32,9 @@ counts-are c =
 
 -- how far both volumes are read
 read-is : (c : tie.After-fill) → let a = begin c .args in let head = c .before .before .before .before .put-head in
-    readOf (c .fill .result) ≡ min (readOf (a .place) + (126 - head .result)) (extent (now (a .first)) + extent (now (a .second)))
+    readOf (c .fill .result) ≡ min (readOf (a .merge) + (126 - head .result)) (extent (now (a .first)) + extent (now (a .second)))
 read-is c = let head = c .before .before .before .before .put-head in
-    c .fill .ensures .1 ∙ ap (λ (n : ℕ). min (readOf (begin c .args .place) + (126 - head .result)) n) (begin c .pre .1 .1 .0)
+    c .fill .ensures .1 ∙ ap (λ (n : ℕ). min (readOf (begin c .args .merge) + (126 - head .result)) n) (begin c .pre .1 .1 .0)
 
 mul-put-head : tie.Need-mul-put-head
 mul-put-head c = search needs
@@ -86,9 +86,9 @@ returns c =
     let stands = s .pre .1 .1 .1 in
     let more = stands .1 .0 in
     let head = t .before .before .before .before .put-head in (
-      block-next (a .lift) (now (a .first)) (now (a .second)) (s .pre .0) (a .place) (t .fill .result) (a .k) (head .result) _ _ (stands .0) more (counts-are t)
+      block-next (a .lift) (now (a .first)) (now (a .second)) (s .pre .0) (a .merge) (t .fill .result) (a .k) (head .result) _ _ (stands .0) more (counts-are t)
           (t .fill .ensures .0) (read-is t),
-      block-made (a .lift) (now (a .first)) (now (a .second)) (s .pre .0) (a .place) (t .fill .result) (a .k) (head .result) _ (now (a .words)) _ _ _ (stands .0) more
+      block-made (a .lift) (now (a .first)) (now (a .second)) (s .pre .0) (a .merge) (t .fill .result) (a .k) (head .result) _ (now (a .words)) _ _ _ (stands .0) more
           (stands .1 .1 .0) (counts-are t) (head .ensures .1) (t .fill .ensures .0) (read-is t) refl (c .before .before .put-zeros .ensures),
     )
 

@@ -7,12 +7,12 @@ use Rattle.join.proofs.Laws.Reading.{Bounds, bounds, more-lists, first-
 use Rattle.join.proofs.reading.turn.Statement.{statement}
 use Rattle.join.proofs.reading.turn.Tie as tie
 
--- where the place stands
-standing : (s : tie.Start) → Bounds (now (s .args .first)) (now (s .args .second)) (s .args .place)
-standing s = bounds (now (s .args .first)) (now (s .args .second)) (s .pre .0) (s .args .place) (s .pre .1 .0)
+-- where the merge stands
+standing : (s : tie.Start) → Bounds (now (s .args .first)) (now (s .args .second)) (s .args .merge)
+standing s = bounds (now (s .args .first)) (now (s .args .second)) (s .pre .0) (s .args .merge) (s .pre .1 .0)
 
 -- the list is read in the first volume
-first-read : (c : tie.Else1) → let a = c .before .before .before .before .before .args in a .place .first ≡ a .place .stop
+first-read : (c : tie.Else1) → let a = c .before .before .before .before .before .args in a .merge .first ≡ a .merge .stop
 first-read c = let h = c .before .before .before .before .before .pre .1 .0 .first-high in let l = c .if1 .left in omega arith
 
 sub-room : tie.Need-sub-room
@@ -28,7 +28,7 @@ copy-run-requires c κs =
     let b = standing s in
     let e = c .before .run-length .ensures in
     let bytes = c .before .before .before .before .before .before .shared-slice-known .given in
-    (omega arith, (omega arith, (omega arith, first-lifts (now (a .first)) (a .place .first) _ (λ i. omega (arith, bytes i)))))
+    (omega arith, (omega arith, (omega arith, first-lifts (now (a .first)) (a .merge .first) _ (λ i. omega (arith, bytes i)))))
 
 add-t14 : tie.Need-add-t14
 add-t14 c = search needs
@@ -42,7 +42,7 @@ returns c =
     let a = s .args in
     let e = c .before .before .before .before .before .run-length .ensures in
     let h = c .before .before .before .before .before .before .if1 .taken in (
-      turned-first (a .lift) (now (a .first)) (now (a .second)) (s .pre .0) (a .place) _ (a .to) (now (a .words)) _ (s .pre .1 .0) (omega arith) (omega arith)
+      turned-first (a .lift) (now (a .first)) (now (a .second)) (s .pre .0) (a .merge) _ (a .to) (now (a .words)) _ (s .pre .1 .0) (omega arith) (omega arith)
           (c .before .before .before .copy-run .ensures),
       omega arith,
     )
@@ -58,7 +58,7 @@ copy-run-requires-2 c κs =
     let e = c .before .run-length2 .ensures in
     let h = c .before .before .if2 .taken in (
       omega arith,
-      (omega arith, (omega arith, second-lifts (now (a .first)) (now (a .second)) (s .pre .0) (a .lift) (a .place) _ (s .pre .1 .1 .1 .1 .1) (s .pre .1 .0) (omega arith))),
+      (omega arith, (omega arith, second-lifts (now (a .first)) (now (a .second)) (s .pre .0) (a .lift) (a .merge) _ (s .pre .1 .1 .1 .1 .1) (s .pre .1 .0) (omega arith))),
     )
 
 add-t18 : tie.Need-add-t18
@@ -74,7 +74,7 @@ returns-2 c =
     let a = s .args in
     let e = c .before .before .before .before .before .run-length2 .ensures in
     let h = c .before .before .before .before .before .before .if2 .taken in (
-      turned-second (a .lift) (now (a .first)) (now (a .second)) (s .pre .0) (a .place) _ (a .to) (now (a .words)) _ (s .pre .1 .0) (first-read passed)
+      turned-second (a .lift) (now (a .first)) (now (a .second)) (s .pre .0) (a .merge) _ (a .to) (now (a .words)) _ (s .pre .1 .0) (first-read passed)
           (omega arith) (omega arith) (c .before .before .before .copy-run2 .ensures),
       omega arith,
     )
@@ -87,8 +87,8 @@ enter-requires c κs =
     let j = s .pre .0 in
     let stands = s .pre .1 .0 in
     let p = first-read passed in
-    let q : a .place .second ≡ a .place .end = let h = stands .second-high in let l = c .if2 .left in omega arith in
-    (j, (stands, (p, (q, more-lists (now (a .first)) (now (a .second)) j (a .place) stands p q (s .pre .1 .1 .0)))))
+    let q : a .merge .second ≡ a .merge .end = let h = stands .second-high in let l = c .if2 .left in omega arith in
+    (j, (stands, (p, (q, more-lists (now (a .first)) (now (a .second)) j (a .merge) stands p q (s .pre .1 .1 .0)))))
 
 returns-3 : tie.Need-returns-3
 returns-3 c =
@@ -97,7 +97,7 @@ returns-3 c =
     let r = c .enter .ensures in
     let lists = r .1 .1 in
     let read = r .1 .0 in
-    (turned-entered (a .lift) (now (a .first)) (now (a .second)) (s .pre .0) (a .place) _ (a .to) (now (a .words)) (r .0) read (omega arith), omega arith)
+    (turned-entered (a .lift) (now (a .first)) (now (a .second)) (s .pre .0) (a .merge) _ (a .to) (now (a .words)) (r .0) read (omega arith), omega arith)
 
 pub turn-spec : {M : Type 1} → statement M
 turn-spec =
