@@ -39,11 +39,6 @@ joinRest h v w room =
     let from25 = cond (docsWrong h v w) (refused 25 0) (writeAnswer (map length lists) (joined lists) room) in
     cond (listCountsWrong v w) (refused 24 0) from25
 
--- the output afterwards
-unfoldable pub restOut : ℕ → List ℕ → List ℕ → List ℕ → List ℕ
-unfolding joinRest
-restOut h v w out = laid (joinRest h v w (length out)) (volumeOf (listsOfBoth h v w)) out
-
 -- 1 to 8 of the first volume, 1 to 8 of the second, or what comes behind
 abbrev pub joinBy : Said Sizes → Said Sizes → Said ℕ → JoinSaid
 joinBy (refused n p) second rest = record { volume = 1; said = refused n p }

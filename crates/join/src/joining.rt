@@ -6,9 +6,10 @@ ghost use Rattle.volume.specs.Layout.{listCount, postingCount, extent, blocksFo
 ghost use Rattle.volume.specs.Check.{Accepted};
 ghost use Rattle.volume.specs.Inner.Storing.{storedFirst};
 ghost use Rattle.join.specs.Answers.{saidJoined};
-ghost use Rattle.join.specs.Join.{joinRest, restOut, joinAnswer, joinOut};
+ghost use Rattle.join.specs.Join.{joinRest, joinAnswer, joinOut};
 ghost use Rattle.join.specs.Refusals.{extentOfBoth};
 ghost use Rattle.join.specs.Inner.Reading.{joinedWord, Lifts, Joinable};
+ghost use Rattle.join.specs.Inner.Joining.{restOut};
 use super::answers::Joined;
 use super::docs::doc_range;
 use super::docs::docs_clash;

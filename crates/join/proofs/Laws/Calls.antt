@@ -26,10 +26,11 @@ use Rattle.volume.specs.Inner.Storing.{storedFirst}
 use Rattle.volume.proofs.Laws.Check.{sizes-are}
 use Rattle.join.specs.Answers.{JoinSaid}
 use Rattle.join.specs.Joined.{raised}
-use Rattle.join.specs.Join.{listCountsWrong, docsWrong, listsOfBoth, joinRest, restOut, joinAnswer, joinOut}
+use Rattle.join.specs.Join.{listCountsWrong, docsWrong, listsOfBoth, joinRest, joinAnswer, joinOut}
 use Rattle.join.specs.Refusals.{extentOfBoth}
 use Rattle.join.specs.Inner.Docs.{rangeOf, clash}
 use Rattle.join.specs.Inner.Reading.{joinedWord, Lifts, Joinable}
+use Rattle.join.specs.Inner.Joining.{restOut}
 use Rattle.join.proofs.Laws.Docs.{docs-clash}
 use Rattle.join.proofs.Laws.Limits.{length-volume, write-rungs}
 use Rattle.join.proofs.Laws.JoinFirst.{listCounts-decides}
