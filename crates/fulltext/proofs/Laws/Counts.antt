@@ -26,9 +26,9 @@ use Rattle.seq.proofs.Laws.Keep.{keep-append, keep-run-none, keep-run-all, leng
 use Rattle.seq.proofs.Laws.Numbers.{first-le, first-ge, first-at, first-before, length-run}
 use Rattle.seq.proofs.Laws.Slices.{run-parts}
 use Rattle.block.specs.Bytes.{IsBytes}
-use Rattle.volume.specs.Layout.{offset, word, listCount, count, start, listsOf}
+use Rattle.volume.specs.Layout.{word, listCount, count, start, listsOf}
 use Rattle.volume.specs.Posting.{docOf}
-use Rattle.block.proofs.Laws.Bytes.{le32-lt}
+use Rattle.volume.proofs.Laws.Stream.{word-lt}
 use Rattle.volume.proofs.Laws.Volume.{list-of}
 use Rattle.plan.specs.declared.row.Row.{Row}
 use Rattle.plan.specs.Rows.{rowsOf}
@@ -172,8 +172,7 @@ module _ (v p : List ℕ) where
 
   -- all postings of a list that is there
   all-postings : IsBytes v → (l : ℕ) → l < listCount v → countIn 0 limit (listOf (listsOf v) l) ≡ count v l
-  unfolding word
-  all-postings bytes l h = ap (λ (xs : List ℕ). countIn 0 limit xs) (list-of v l h) ∙ count-run (word v) (start v l) (count v l) (λ j. le32-lt v (offset j) bytes)
+  all-postings bytes l h = ap (λ (xs : List ℕ). countIn 0 limit xs) (list-of v l h) ∙ count-run (word v) (start v l) (count v l) (λ j. word-lt v j bytes)
 
   -- of all variables
   pub whole : IsBytes v → plan.Accepted v p → work v p .postings 0 limit ≡ total (λ l. count v l) (varsOf (rowsOf p))

@@ -2,7 +2,7 @@
 --     start-most                            no list starts behind the extent
 --     Bounds, bounds                        where a merge stands
 --     more-lists                            a list is left where not all is read
---     first-lifts, second-lifts             what can be added to a run of postings
+--     second-lifts                          what can be added to a run of postings of the second volume
 --     moved-first, moved-second, entered    a merge moved on still stands
 --     turned-entered, turned-none           a list entered, and no step
 --     turned-then                           two steps, one behind the other
@@ -17,9 +17,7 @@ use mathlib.Core.List.{List}
 use lib.ListN.{length}
 use Rattle.seq.proofs.Laws.Tests.{below-or}
 use Rattle.seq.proofs.Laws.Numbers.{sum-mono}
-use Rattle.block.specs.Bytes.{IsBytes}
-use Rattle.block.proofs.Laws.Bytes.{le32-lt}
-use Rattle.volume.specs.Layout.{streamLength, offset, word, listCount, lead, count, extent, start}
+use Rattle.volume.specs.Layout.{streamLength, word, listCount, lead, count, extent, start}
 use Rattle.volume.proofs.Laws.Check.{good}
 use Rattle.volume.proofs.Laws.Starts.{start-next}
 use Rattle.join.specs.declared.reading.Merge.{Merge}
@@ -30,11 +28,6 @@ use Rattle.join.proofs.Laws.Made.{made-none, made-then, made-ext}
 -- no list starts behind the extent
 start-most : (v : List ℕ) (i : ℕ) → i ≤ listCount v → start v i ≤ extent v
 start-most v i h = let m = sum-mono (count v) i (listCount v) h in omega arith
-
--- 0 can be added to any word
-pub first-lifts : (v : List ℕ) (from n : ℕ) → IsBytes v → Liftable 0 v from n
-unfolding word
-first-lifts v from n b = record { each = λ k l. let h = le32-lt v (offset (from + k)) b in omega arith }
 
 -- where a merge stands: behind the counts, and within both volumes
 pub record Bounds (v w : List ℕ) (c : Merge) : Type 0 where

@@ -3,13 +3,15 @@
 --     offset-is, word-near              word i by one division, and the words behind it in its block
 --     word-of-block                     word k of a block
 --     word-behind                       behind the last block stand zeros
+--     word-lt                           a word fits 32 bits
 -- Assumes nothing.
 use Prim.Native.Nat.{ℕ, _+_, _*_, _/_, _%_, _<_, _≤_}
 use native.Mathlib.Omega.{arith}
 use mathlib.Core.Path.{_≡_, ap}
 use mathlib.Core.List.{List}
 use lib.ListN.{length, List·getD-eq-default}
-use Rattle.block.specs.Bytes.{le32}
+use Rattle.block.specs.Bytes.{IsBytes, le32}
+use Rattle.block.proofs.Laws.Bytes.{le32-lt}
 use Rattle.volume.specs.Layout.{word, offset}
 
 -- where word i of block k stands
@@ -50,3 +52,7 @@ le32-behind v o h =
 pub word-behind : (v : List ℕ) (n i : ℕ) → length v ≡ 512 * n → 126 * n ≤ i → word v i ≡ 0
 unfolding word
 word-behind v n i l h = let o = offset-behind n i h in le32-behind v (offset i) (omega arith)
+
+pub word-lt : (v : List ℕ) (i : ℕ) → IsBytes v → word v i < 4294967296
+unfolding word
+word-lt v i b = le32-lt v (offset i) b

@@ -20,7 +20,7 @@ use Rattle.seq.proofs.Laws.Tests.{below-or}
 use Rattle.seq.proofs.Laws.Lists.{length-joined}
 use Rattle.seq.proofs.Laws.Numbers.{length-run, getD-run}
 use Rattle.block.specs.Bytes.{IsBytes, IsWords}
-use Rattle.volume.specs.Layout.{lead, offset, word, listCount, count, postingCount, start, postingsOf, listsOf}
+use Rattle.volume.specs.Layout.{lead, word, listCount, count, postingCount, start, postingsOf, listsOf}
 use Rattle.volume.specs.Write.{volumeOf, givenList, givenLists}
 use Rattle.seq.specs.Lists.{Rising}
 use Rattle.volume.specs.Demands.{Within}
@@ -28,7 +28,7 @@ use Rattle.seq.proofs.Laws.Decides.{holds}
 use Rattle.seq.proofs.Laws.Rising.{rises-decides}
 use Rattle.volume.proofs.Laws.Check.{Good}
 use Rattle.seq.proofs.Laws.Runs.{sum-total}
-use Rattle.block.proofs.Laws.Bytes.{le32-lt}
+use Rattle.volume.proofs.Laws.Stream.{word-lt}
 use Rattle.volume.proofs.Laws.Lists.{length-given, given-counts, given-postings, given-list, given-lists, total-lengths}
 use Rattle.volume.proofs.Laws.Volume.{Given, written-good, written-lists, length-listsOf, list-of, join-of}
 
@@ -104,16 +104,12 @@ module _ (ls : List (List ℕ)) (w : Within ls) where
 
 -- the lists of an accepted volume
 module _ (v : List ℕ) (bytes : IsBytes v) (g : Good v) where
-  word-lt : (i : ℕ) → word v i < 4294967296
-  unfolding word
-  word-lt i = le32-lt v (offset i) bytes
-
   pub good-within : Within (listsOf v)
   good-within = record {
     some = let a = length-listsOf v in let b = g .lists-some in omega arith;
     most = let a = length-listsOf v in let b = g .lists-most in omega arith;
     rising = λ i h. let l : i < listCount v = (let a = length-listsOf v in omega arith) in subst Rising (sym (list-of v i l)) (rises-decides (postingsOf v i) .yes (g .lists-rise i l));
-    words = λ i h. let l : i < listCount v = (let a = length-listsOf v in omega arith) in subst IsWords (sym (list-of v i l)) (words-run (word v) (start v i) (count v i) word-lt);
+    words = λ i h. let l : i < listCount v = (let a = length-listsOf v in omega arith) in subst IsWords (sym (list-of v i l)) (words-run (word v) (start v i) (count v i) (λ j. word-lt v j bytes));
     fits =
         let a = length-listsOf v in
         let b = length-joined (listsOf v) in

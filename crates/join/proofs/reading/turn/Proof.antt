@@ -1,9 +1,11 @@
 -- `join::reading::turn` meets its contract: a run of the first volume, a run of the second, or a list entered. Assumes nothing.
+use Prim.Native.Nat.{_+_}
 use native.Mathlib.Omega.{arith}
 use borrow.Author.Needs.{needs}
 use mathlib.Core.Path.{_≡_}
 use denote.Ref.{now}
-use Rattle.join.proofs.Laws.Reading.{Bounds, bounds, more-lists, first-lifts, second-lifts, turned-first, turned-second, turned-entered}
+use Rattle.volume.proofs.Laws.Stream.{word-lt}
+use Rattle.join.proofs.Laws.Reading.{Bounds, bounds, more-lists, second-lifts, turned-first, turned-second, turned-entered}
 use Rattle.join.proofs.reading.turn.Statement.{statement}
 use Rattle.join.proofs.reading.turn.Tie as tie
 
@@ -27,8 +29,16 @@ copy-run-requires c κs =
     let a = s .args in
     let b = standing s in
     let e = c .before .run-length .ensures in
-    let bytes = c .before .before .before .before .before .before .shared-slice-known .given in
-    (omega arith, (omega arith, (omega arith, first-lifts (now (a .first)) (a .merge .first) _ (λ i. omega (arith, bytes i)))))
+    let bytes = c .before .before .before .before .before .before .shared-slice-known .given in (
+      omega arith,
+      (
+        omega arith,
+        (
+          omega arith,
+          record { each = λ k l. omega (arith, word-lt (now (a .first)) (a .merge .first + k) (λ i. omega (arith, bytes i))) },
+        ),
+      ),
+    )
 
 add-t14 : tie.Need-add-t14
 add-t14 c = search needs
