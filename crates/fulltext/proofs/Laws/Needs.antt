@@ -15,7 +15,7 @@
 use Prim.Native.Nat.{ℕ, zero, suc, _+_, _-_, min, max, _<_, _≤_}
 use native.Mathlib.Omega.{arith}
 use mathlib.Core.Path.{_≡_, refl, ap, subst, _∙_}
-use mathlib.Core.Bool.{true, not, _&&_}
+use mathlib.Core.Bool.{true, _&&_}
 use mathlib.Core.Logic.{inl, inr, ⊎-elim, _↔_, _≢_}
 use mathlib.Core.List.{List, [], _∷_}
 use lib.ListN.{length}
@@ -23,6 +23,7 @@ use lib.Dec.{leb, ltb}
 use Rattle.seq.proofs.Laws.Tests.{below-or}
 use Rattle.seq.proofs.Laws.Decides as decides
 use Rattle.seq.proofs.Laws.Decides.{Decides, eqb-decides, leb-decides, ltb-decides, and-decides, or-decides, same-decides, one-test}
+use Rattle.seq.proofs.Laws.Members.{Has, any-decides, has-index, index-has}
 use Rattle.plan.specs.declared.row.Predicate.{Predicate}
 use Rattle.plan.specs.declared.row.Predicate.the-variants.{Distance, Ordered, Samepara, Window, Proximity}
 use Rattle.plan.specs.Limits.{noUpperEnd}
@@ -32,7 +33,7 @@ use Rattle.fulltext.specs.Paragraphs.{paraStart, inPara, together}
 use Rattle.fulltext.specs.Matches.{difference, within, holds}
 use Rattle.fulltext.specs.Inner.Bounds.{Needs}
 use Rattle.fulltext.specs.Demands.{Sameparas, Proximities}
-use Rattle.fulltext.proofs.Laws.Positions.{in-none, any-decides, at-largest, smallest-at}
+use Rattle.fulltext.proofs.Laws.Positions.{in-none, at-largest, smallest-at}
 use Rattle.fulltext.proofs.Laws.Paragraphs.{para-told, para-begun, start-unparted, unparted-start}
 
 -- a position stands in a paragraph: some start is not above it
@@ -70,7 +71,10 @@ module _ (p q s : ℕ) where
   unparted h w = ⊎-elim (λ (l : p < s). ⊎-elim (λ (k : q < s). omega arith) (λ (k : s ≤ q). omega (arith, h .1 k)) (below-or q s)) (λ (l : s ≤ p). omega (arith, h .0 l)) (below-or p s)
 
 begun-decides : (ss : List ℕ) (p : ℕ) → Decides (inPara ss p) (Begun ss p)
-begun-decides ss p = any-decides (λ s. leb s p) (λ s. s ≤ p) (λ s. leb-decides s p) ss
+begun-decides ss p =
+    same-decides (any-decides (λ s. leb s p) (λ s. s ≤ p) (λ s. leb-decides s p) ss)
+    (λ w. (w .0, has-index 0 (w .0) ss (w .1), w .2))
+    (λ w. (w .0, subst (λ (s : ℕ). Has s ss) (w .1 .2) (index-has 0 ss (w .1 .0) (w .1 .1)), w .2))
 
 together-decides : (ss : List ℕ) (p q : ℕ) → Decides (together ss p q) (Together ss p q)
 unfolding together

@@ -1,7 +1,7 @@
 -- The laws of `specs/Positions.antt`, and of membership. No contract cites this file.
 --     in-none, in-here, in-later, in-cons     membership in a list, and in one with one more in front
 --     at-largest, smallest-at                 positions lie between the smallest and the largest
---     elem-decides, any-decides               `elem` decides membership, `any` that an element is so
+--     elem-decides                            `elem` decides membership
 --     positions-hold, in-positions, positions-in     the positions of a document are those that its list holds there
 --     positions-rise                          they rise where the list does
 --     rises-least                             the first element of a list that rises is its least
@@ -9,14 +9,14 @@
 -- Assumes nothing.
 use Prim.Native.Nat.{ℕ, zero, suc, _+_, _*_, _<_, _≤_}
 use native.Mathlib.Omega.{arith}
-use mathlib.Core.Path.{_≡_, refl, sym, ap, subst, _∙_}
+use mathlib.Core.Path.{_≡_, refl, sym, ap, _∙_}
 use mathlib.Core.Bool.{Bool, true, false, true≢false}
 use mathlib.Core.Logic.{_⊎_, inl, inr, ⊎-elim}
 use mathlib.Core.List.{List, [], _∷_, map}
 use lib.ListN.{length, getD, List·getD-eq-default}
 use lib.Dec.{eqb, ltb}
 use borrow.Author.Tests.{eqb-true, eqb-false, ltb-true, lt-ltb}
-use Rattle.seq.specs.Lists.{consIf, keep, elem, any, above, rises}
+use Rattle.seq.specs.Lists.{consIf, keep, elem, above, rises}
 use Rattle.seq.proofs.Laws.Tests.{both, both-true, below-or}
 use Rattle.seq.proofs.Laws.Decides as decides
 use Rattle.seq.proofs.Laws.Decides.{Decides, eqb-decides, or-decides, same-decides}
@@ -65,14 +65,6 @@ elem-decides n (x ∷ xs) =
     same-decides (or-decides (eqb-decides n x) (elem-decides n xs))
     (⊎-elim (λ (e : n ≡ x). in-here n x xs (sym e)) (in-later n x xs))
     (λ h. ⊎-elim (λ (e : x ≡ n). inl (sym e)) (λ (k : In n xs). inr k) (in-cons n x xs h))
-
-pub any-decides : (test : ℕ → Bool) (P : ℕ → Type 0) → ((n : ℕ) → Decides (test n) (P n)) → (xs : List ℕ) → Decides (any test xs) ((n : ℕ) × In n xs × P n)
-unfolding any
-any-decides test P d [] = record { yes = λ e. absurd (true≢false (sym e)); no = λ e w. in-none (w .0) (w .1) }
-any-decides test P d (x ∷ xs) =
-    same-decides (or-decides (d x) (any-decides test P d xs))
-    (⊎-elim (λ (p : P x). (x, in-here x x xs refl, p)) (λ w. (w .0, in-later (w .0) x xs (w .1), w .2)))
-    (λ w. ⊎-elim (λ (e : x ≡ w .0). inl (subst P (sym e) (w .2))) (λ k. inr (w .0, k, w .2)) (in-cons (w .0) x xs (w .1)))
 
 -- one posting in front, where the test of its document comes to b
 positions-cons : (d x : ℕ) (l : List ℕ) (b : Bool) → eqb (docOf x) d ≡ b → positionsIn d (x ∷ l) ≡ consIf b (posOf x) (positionsIn d l)

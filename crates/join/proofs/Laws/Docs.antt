@@ -12,7 +12,7 @@ use Prim.Native.Nat.{ℕ, zero, suc, _+_, _-_, _<_, _≤_, min, max}
 use native.Mathlib.Nat.{zero-add}
 use native.Mathlib.Omega.{arith}
 use mathlib.Core.Path.{_≡_, refl, sym, ap, ap₂, subst, _∙_}
-use mathlib.Core.Bool.{Bool, true, false, true≢false}
+use mathlib.Core.Bool.{true, false}
 use mathlib.Core.Logic.{_⊎_, inl, inr, ⊎-elim}
 use mathlib.Core.List.{List, [], _∷_, _++_, append-nil}
 use lib.ListN.{length, getD}
@@ -23,7 +23,7 @@ use Rattle.seq.specs.Numbers.{run}
 use Rattle.seq.proofs.Laws.Tests.{both, below-or}
 use Rattle.seq.proofs.Laws.Decides.{Decides, ltb-decides, leb-decides, and-decides, or-decides, same-decides, one-test}
 use Rattle.seq.proofs.Laws.Lists.{joined-append}
-use Rattle.seq.proofs.Laws.Members.{Has, has-index, index-has, has-joined, joined-has}
+use Rattle.seq.proofs.Laws.Members.{Has, any-decides, has-index, index-has, has-joined, joined-has}
 use Rattle.seq.proofs.Laws.Numbers.{length-run, run-snoc, getD-run}
 use Rattle.seq.proofs.Laws.Rising.{above-le}
 use Rattle.volume.specs.Posting.{docOf}
@@ -156,15 +156,6 @@ module _ (v : List ℕ) where
   unfolding listsOf
   firstPostings-all = refl
 
--- some element passes a test
-any-has : (test : ℕ → Bool) (P : ℕ → Type 0) → ((n : ℕ) → Decides (test n) (P n)) → (xs : List ℕ) → Decides (any test xs) ((n : ℕ) × Has n xs × P n)
-unfolding any
-any-has test P d [] = record { yes = λ e. absurd (true≢false (sym e)); no = λ e w. w .1 }
-any-has test P d (x ∷ xs) =
-    same-decides (or-decides (d x) (any-has test P d xs))
-    (⊎-elim (λ (p : P x). (x, inl refl, p)) (λ w. (w .0, inr (w .1), w .2)))
-    (λ w. ⊎-elim (λ (e : x ≡ w .0). inl (subst P (sym e) (w .2))) (λ (k : Has (w .0) xs). inr (w .0, k, w .2)) (w .1))
-
 -- some posting of the second has a document that, raised, passes 65,535, or is not above that of a posting of the first
 abbrev Wrong : ℕ → List ℕ → List ℕ → Type 0
 Wrong h ps qs = (q : ℕ) × Has q qs × ((65535 < docOf q + h) ⊎ ((p : ℕ) × Has p ps × (docOf q + h ≤ docOf p)))
@@ -172,8 +163,8 @@ Wrong h ps qs = (q : ℕ) × Has q qs × ((65535 < docOf q + h) ⊎ ((p : ℕ) �
 module _ (h : ℕ) (ps qs : List ℕ) where
   wrong-decides : Decides (any (raiseWrong h ps) qs) (Wrong h ps qs)
   wrong-decides =
-      any-has (raiseWrong h ps) (λ q. (65535 < docOf q + h) ⊎ ((p : ℕ) × Has p ps × (docOf q + h ≤ docOf p)))
-      (λ q. or-decides (ltb-decides 65535 (docOf q + h)) (any-has (λ p. leb (docOf q + h) (docOf p)) (λ p. docOf q + h ≤ docOf p) (λ p. leb-decides (docOf q + h) (docOf p)) ps))
+      any-decides (raiseWrong h ps) (λ q. (65535 < docOf q + h) ⊎ ((p : ℕ) × Has p ps × (docOf q + h ≤ docOf p)))
+      (λ q. or-decides (ltb-decides 65535 (docOf q + h)) (any-decides (λ p. leb (docOf q + h) (docOf p)) (λ p. docOf q + h ≤ docOf p) (λ p. leb-decides (docOf q + h) (docOf p)) ps))
       qs
 
   clash-decides : Decides (clash h (rangeOf ps) (rangeOf qs)) (Wrong h ps qs)

@@ -5,6 +5,7 @@
 --     has-left, has-right, has-append, has-map     an element of a list in two parts, of a mapped list
 --     has-joined, joined-has         an element of joined lists is one of some list
 --     has-index, index-has, every-index      elements by their index
+--     any-decides                    `any` decides that some element is so
 --     every-keep, keep-has, has-keep     those that pass a test
 --     first-has                      the first element is one
 --     every-take                     of the first elements
@@ -17,13 +18,14 @@ use Prim.Native.Nat.{ℕ, zero, suc, _*_, _<_}
 use native.Mathlib.Nat.{zero-mul, suc-mul}
 use native.Mathlib.Omega.{arith}
 use mathlib.Core.Path.{_≡_, refl, sym, ap, _∙_, subst}
-use mathlib.Core.Bool.{Bool, true, false}
+use mathlib.Core.Bool.{Bool, true, false, true≢false}
 use mathlib.Core.Logic.{_⊎_, inl, inr, ⊎-elim}
 use mathlib.Core.List.{List, [], _∷_, _++_, map}
 use mathlib.Core.Option.{some}
 use lib.ListN.{length, getD, take, length-append}
-use Rattle.seq.specs.Lists.{consIf, keep, joined, first}
+use Rattle.seq.specs.Lists.{consIf, keep, any, joined, first}
 use Rattle.seq.proofs.Laws.Tests.{true-or, contrary}
+use Rattle.seq.proofs.Laws.Decides.{Decides, or-decides, same-decides}
 use Rattle.seq.proofs.Laws.Lists.{Each}
 use Rattle.seq.proofs.Laws.Keep.{keep-pass, keep-fail}
 
@@ -77,6 +79,16 @@ module _ {A : Type 0} where
   index-has d [] i l = absurd (omega arith)
   index-has d (x ∷ xs) zero l = inl refl
   index-has d (x ∷ xs) (suc i) l = inr (index-has d xs i (omega arith))
+
+-- some element passes a test
+pub any-decides : {A : Type 0} (test : A → Bool) (P : A → Type 0) → ((x : A) → Decides (test x) (P x)) → (xs : List A)
+    → Decides (any test xs) ((x : A) × Has x xs × P x)
+unfolding any
+any-decides test P d [] = record { yes = λ e. absurd (true≢false (sym e)); no = λ e w. w .1 }
+any-decides test P d (x ∷ xs) =
+    same-decides (or-decides (d x) (any-decides test P d xs))
+    (⊎-elim (λ (p : P x). (x, inl refl, p)) (λ w. (w .0, inr (w .1), w .2)))
+    (λ w. ⊎-elim (λ (e : x ≡ w .0). inl (subst P (sym e) (w .2))) (λ (k : Has (w .0) xs). inr (w .0, k, w .2)) (w .1))
 
 module _ {A : Type 0} (P : A → Type 0) where
   pub has-every : (x : A) (xs : List A) → Every P xs → Has x xs → P x
