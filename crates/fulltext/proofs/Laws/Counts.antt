@@ -4,6 +4,8 @@
 --     count-add, count-run    a list's postings in two stretches, in all documents
 --     postings-none, postings-add          the same of all variables' lists
 --     work-even, work-wide, work-add, work-none     the same of a plan over a volume
+--     count-append            the postings of a list in two parts
+--     count-none, postings-zero            a list that has none in a stretch; lists that have none, and a plan's variables
 --     whole                   all postings of a plan's variables
 --     count-index             postings from document a up to b: the distance of the cursors that stand there
 -- Assumes nothing.
@@ -14,15 +16,17 @@ use mathlib.Core.Bool.{Bool, true, false, cond, _&&_, and-false}
 use mathlib.Core.Logic.{⊎-elim}
 use mathlib.Core.List.{List, [], _∷_, _++_, map, append-nil}
 use mathlib.Core.Option.{Option, none, some}
-use lib.ListN.{length, getD, length-map, length-replicate}
+use lib.ListN.{length, getD, length-append, length-map, length-replicate}
 use lib.Dec.{eqb, leb, ltb, eqb·suc-suc}
 use borrow.Author.Tests.{eqb-true, leb-true, leb-false, le-leb, lt-leb, lt-ltb, le-ltb}
 use Rattle.seq.specs.Lists.{keep, all, total, joined}
 use Rattle.seq.specs.Numbers.{firstFrom, run}
 use Rattle.seq.proofs.Laws.Tests.{both-true, below-or}
+use Rattle.seq.proofs.Laws.Decides.{fails, leb-decides, ltb-decides, and-decides}
 use Rattle.seq.proofs.Laws.Lists.{length-joined}
 use Rattle.seq.proofs.Laws.Totals.{total-add, total-ones, total-joined, total-map, total-same, total-ext}
 use Rattle.seq.proofs.Laws.Keep.{keep-append, keep-run-none, keep-run-all, length-keep, all-append, all-map, all-keep, all-first}
+use Rattle.seq.proofs.Laws.Members.{Has, every-of, keep-nothing}
 use Rattle.seq.proofs.Laws.Numbers.{first-le, first-ge, first-at, first-before, length-run}
 use Rattle.seq.proofs.Laws.Slices.{run-parts}
 use Rattle.block.specs.Bytes.{IsBytes}
@@ -142,6 +146,22 @@ count-run f k m small =
     ap length (keep-run-all (λ p. within 0 limit (docOf p)) f k m (λ j h l. let s = small j in in-within 0 limit (docOf (f j)) (omega arith) (omega arith)))
     ∙ length-run f k m
 
+pub count-append : (a b : ℕ) (ps qs : List ℕ) → countIn a b (ps ++ qs) ≡ countIn a b ps + countIn a b qs
+unfolding countIn
+count-append a b ps qs =
+    let test : ℕ → Bool = λ p. within a b (docOf p) in
+    ap length (keep-append test ps qs) ∙ length-append (keep test ps) (keep test qs)
+
+-- no posting of a list is of a document from a on and below b
+pub count-none : (a b : ℕ) (ps : List ℕ) → ((p : ℕ) → Has p ps → a ≤ docOf p → docOf p < b → ⊥) → countIn a b ps ≡ 0
+unfolding countIn
+count-none a b ps f =
+    let test : ℕ → Bool = λ p. within a b (docOf p) in
+    ap length
+    (keep-nothing test ps
+    (every-of (λ (p : ℕ). test p ≡ false) ps
+    (λ p m. fails (and-decides (leb-decides a (docOf p)) (ltb-decides (docOf p) b)) (λ i. f p m (i .0) (i .1)))))
+
 module _ (lists : List (List ℕ)) (rows : List Row) where
   postings-add : (a b c : ℕ) → a ≤ b → b ≤ c → postingsIn lists rows a b + postingsIn lists rows b c ≡ postingsIn lists rows a c
   unfolding postingsIn
@@ -169,6 +189,14 @@ module _ (v p : List ℕ) where
   pub work-none : (a : ℕ) → work v p .postings a a ≡ 0
   unfolding work
   work-none = postings-none (listsOf v) (rowsOf p)
+
+  -- no posting of any list, so none of a plan's
+  pub postings-zero : (a b : ℕ) → ((l : ℕ) → countIn a b (listOf (listsOf v) l) ≡ 0) → work v p .postings a b ≡ 0
+  unfolding work workOf postingsIn
+  postings-zero a b e =
+      let vars = varsOf (rowsOf p) in
+      let z = total-add (λ (l : ℕ). 0) (λ (l : ℕ). 0) vars in
+      total-ext (λ l. countIn a b (listOf (listsOf v) l)) (λ l. 0) vars e ∙ omega arith
 
   -- all postings of a list that is there
   all-postings : IsBytes v → (l : ℕ) → l < listCount v → countIn 0 limit (listOf (listsOf v) l) ≡ count v l

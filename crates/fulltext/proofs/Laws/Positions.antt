@@ -2,6 +2,7 @@
 --     in-none, in-here, in-later, in-cons     membership in a list, and in one with one more in front
 --     at-largest, smallest-at                 positions lie between the smallest and the largest
 --     elem-decides                            `elem` decides membership
+--     positions-append                        the positions of a list in two parts
 --     positions-hold, in-positions, positions-in     the positions of a document are those that its list holds there
 --     positions-rise                          they rise where the list does
 --     rises-least                             the first element of a list that rises is its least
@@ -12,7 +13,7 @@ use native.Mathlib.Omega.{arith}
 use mathlib.Core.Path.{_≡_, refl, sym, ap, _∙_}
 use mathlib.Core.Bool.{Bool, true, false, true≢false}
 use mathlib.Core.Logic.{_⊎_, inl, inr, ⊎-elim}
-use mathlib.Core.List.{List, [], _∷_, map}
+use mathlib.Core.List.{List, [], _∷_, _++_, map, map-append}
 use lib.ListN.{length, getD, List·getD-eq-default}
 use lib.Dec.{eqb, ltb}
 use borrow.Author.Tests.{eqb-true, eqb-false, ltb-true, lt-ltb}
@@ -20,6 +21,7 @@ use Rattle.seq.specs.Lists.{consIf, keep, elem, above, rises}
 use Rattle.seq.proofs.Laws.Tests.{both, both-true, below-or}
 use Rattle.seq.proofs.Laws.Decides as decides
 use Rattle.seq.proofs.Laws.Decides.{Decides, eqb-decides, or-decides, same-decides}
+use Rattle.seq.proofs.Laws.Keep.{keep-append}
 use Rattle.seq.proofs.Laws.Rising.{above-le, above-elem, rises-tail}
 use Rattle.volume.specs.Posting.{docOf, posOf}
 use Rattle.volume.specs.Layout.{listCount, listsOf}
@@ -65,6 +67,12 @@ elem-decides n (x ∷ xs) =
     same-decides (or-decides (eqb-decides n x) (elem-decides n xs))
     (⊎-elim (λ (e : n ≡ x). in-here n x xs (sym e)) (in-later n x xs))
     (λ h. ⊎-elim (λ (e : x ≡ n). inl (sym e)) (λ (k : In n xs). inr k) (in-cons n x xs h))
+
+pub positions-append : (d : ℕ) (ps qs : List ℕ) → positionsIn d (ps ++ qs) ≡ positionsIn d ps ++ positionsIn d qs
+unfolding positionsIn
+positions-append d ps qs =
+    ap (map (λ p. posOf p)) (keep-append (λ p. eqb (docOf p) d) ps qs)
+    ∙ map-append (λ p. posOf p) (keep (λ p. eqb (docOf p) d) ps) (keep (λ p. eqb (docOf p) d) qs)
 
 -- one posting in front, where the test of its document comes to b
 positions-cons : (d x : ℕ) (l : List ℕ) (b : Bool) → eqb (docOf x) d ≡ b → positionsIn d (x ∷ l) ≡ consIf b (posOf x) (positionsIn d l)

@@ -34,26 +34,19 @@ use Rattle.plan.specs.Patterns.{varsOf}
 use Rattle.plan.specs.Rows.{rowsOf}
 use Rattle.fulltext.specs.Positions.{limit, listOf, positionsIn, countIn}
 use Rattle.fulltext.specs.Documents.{rowIn, postingsIn, docsIn, rowsOfDocs, workOf, work}
+use Rattle.fulltext.proofs.Laws.Positions.{positions-append}
 use Rattle.fulltext.proofs.Laws.Skips.{positions-none, skip}
 use Rattle.fulltext.proofs.Laws.Same.{matching-same, patterns-same, rows-shift}
 use Rattle.fulltext.proofs.Laws.Docs.{docs-parts, docs-none, rows-append}
-use Rattle.fulltext.proofs.Laws.Counts.{work-add}
+use Rattle.fulltext.proofs.Laws.Counts.{work-add, count-append, postings-zero}
 use Rattle.search.specs.Search.{IsSearch, outcome}
 use Rattle.lihambozy.specs.declared.ListAnswer.{ListAnswer}
 use Rattle.lihambozy.specs.Flat.{flatPlan, flatJoin}
 use Rattle.lihambozy.specs.Search.{structs}
 use Rattle.lihambozy.specs.Evening.{raisedRow, raisedRows, rowsOfBoth, Evening}
 use Rattle.lihambozy.proofs.Laws.Search.{accepted, holds3}
-use Rattle.lihambozy.proofs.Laws.Raised.{raised-positions, raised-below, raised-count, positions-append, count-append, both-list}
+use Rattle.lihambozy.proofs.Laws.Raised.{raised-positions, raised-below, raised-count, both-list}
 use Rattle.lihambozy.proofs.Laws.Parted.{Parted, cut, parted}
-
--- no posting of any list, so none of a plan's
-postings-zero : (v p : List ℕ) (a b : ℕ) → ((l : ℕ) → countIn a b (listOf (listsOf v) l) ≡ 0) → work v p .postings a b ≡ 0
-unfolding work workOf postingsIn
-postings-zero v p a b e =
-    let vars = varsOf (rowsOf p) in
-    let z = total-add (λ (l : ℕ). 0) (λ (l : ℕ). 0) vars in
-    total-ext (λ l. countIn a b (listOf (listsOf v) l)) (λ l. 0) vars e ∙ omega arith
 
 -- u has the lists of both, parted by document c
 module _ (h c : ℕ) (v w u p : List ℕ) (part : Parted h (listsOf v) (listsOf w) c)

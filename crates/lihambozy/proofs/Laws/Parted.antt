@@ -3,16 +3,13 @@
 -- Assumes nothing.
 use Prim.Native.Nat.{ℕ, _+_, _-_, max, _≤_, _<_}
 use native.Mathlib.Omega.{arith}
-use mathlib.Core.Path.{_≡_, refl, ap}
-use mathlib.Core.Bool.{Bool, false, _&&_}
+use mathlib.Core.Path.{_≡_, refl}
+use mathlib.Core.Bool.{false}
 use mathlib.Core.Logic.{⊎-elim}
 use mathlib.Core.List.{List}
-use lib.ListN.{length}
-use lib.Dec.{leb, ltb}
 use Rattle.seq.specs.Lists.{joined}
 use Rattle.seq.proofs.Laws.Tests.{below-or}
-use Rattle.seq.proofs.Laws.Decides.{fails, leb-decides, ltb-decides, and-decides}
-use Rattle.seq.proofs.Laws.Members.{Has, has-joined, every-of, keep-nothing}
+use Rattle.seq.proofs.Laws.Members.{Has, has-joined}
 use Rattle.volume.specs.Posting.{docOf}
 use Rattle.volume.specs.Layout.{listsOf}
 use Rattle.join.specs.Join.{docsWrong}
@@ -20,15 +17,7 @@ use Rattle.join.specs.Refusals.{HasDoc}
 use Rattle.join.specs.Inner.Docs.{pastDoc}
 use Rattle.join.proofs.Laws.Docs.{pastDoc-lt, pastDoc-has, posting-doc, docs-passes, docs-above}
 use Rattle.fulltext.specs.Positions.{limit, listOf, countIn}
-
--- no posting of a list is of a document from a on and below b
-count-none : (a b : ℕ) (ps : List ℕ) → ((p : ℕ) → Has p ps → a ≤ docOf p → docOf p < b → ⊥) → countIn a b ps ≡ 0
-unfolding countIn
-count-none a b ps f =
-    let test : ℕ → Bool = λ p. leb a (docOf p) && ltb (docOf p) b in
-    ap length
-    (keep-nothing test ps
-    (every-of (λ (p : ℕ). test p ≡ false) ps (λ p m. fails (and-decides (leb-decides a (docOf p)) (ltb-decides (docOf p) b)) (λ i. f p m (i .0) (i .1)))))
+use Rattle.fulltext.proofs.Laws.Counts.{count-none}
 
 -- document c parts the postings of some lists from those of others, raised by h
 pub record Parted (h : ℕ) (first second : List (List ℕ)) (c : ℕ) : Type 0 where

@@ -2,7 +2,6 @@
 --     doc-raised, pos-raised                 the document and the position of a raised posting
 --     raised-positions, raised-below         the positions of a document among raised postings: h documents before, and none below h
 --     raised-count                           how many of them lie below a document
---     positions-append, count-append         the positions and the count of a list in two parts
 --     both-list                              list l of the joined lists
 -- Assumes nothing.
 use Prim.Native.Nat.{ℕ, _+_, _-_, _≤_, _<_}
@@ -11,15 +10,15 @@ use native.Mathlib.Omega.{arith}
 use mathlib.Core.Path.{_≡_, sym, ap, ap₂, _∙_, fun-ext}
 use mathlib.Core.Bool.{Bool, false, _&&_}
 use mathlib.Core.Logic.{⊎-elim}
-use mathlib.Core.List.{List, [], _++_, map, map-append, map-map}
-use lib.ListN.{length, length-map, length-append, List·getD-eq-default}
+use mathlib.Core.List.{List, [], _++_, map, map-map}
+use lib.ListN.{length, length-map, List·getD-eq-default}
 use lib.Dec.{eqb, leb, ltb}
 use borrow.Author.Tests.{ne-eqb, le-leb}
 use Rattle.seq.specs.Lists.{keep}
 use Rattle.seq.specs.Numbers.{run}
 use Rattle.seq.proofs.Laws.Tests.{below-or}
 use Rattle.seq.proofs.Laws.Decides.{eqb-decides, ltb-decides, same-decides, one-test}
-use Rattle.seq.proofs.Laws.Keep.{keep-ext, keep-append, keep-map}
+use Rattle.seq.proofs.Laws.Keep.{keep-ext, keep-map}
 use Rattle.seq.proofs.Laws.Members.{every-any, keep-nothing}
 use Rattle.seq.proofs.Laws.Numbers.{getD-run, length-run}
 use Rattle.volume.specs.Posting.{docOf, posOf}
@@ -74,18 +73,6 @@ module _ (h : ℕ) (ps : List ℕ) where
           ap₂ (λ (a b : Bool). a && b)
           (le-leb 0 (docOf (raised h p)) (omega arith) ∙ sym (le-leb 0 (docOf p) (omega arith)))
           (below p)
-
-pub positions-append : (d : ℕ) (ps qs : List ℕ) → positionsIn d (ps ++ qs) ≡ positionsIn d ps ++ positionsIn d qs
-unfolding positionsIn
-positions-append d ps qs =
-    ap (map (λ p. posOf p)) (keep-append (λ p. eqb (docOf p) d) ps qs)
-    ∙ map-append (λ p. posOf p) (keep (λ p. eqb (docOf p) d) ps) (keep (λ p. eqb (docOf p) d) qs)
-
-pub count-append : (a b : ℕ) (ps qs : List ℕ) → countIn a b (ps ++ qs) ≡ countIn a b ps + countIn a b qs
-unfolding countIn
-count-append a b ps qs =
-    let test : ℕ → Bool = λ p. leb a (docOf p) && ltb (docOf p) b in
-    ap length (keep-append test ps qs) ∙ length-append (keep test ps) (keep test qs)
 
 -- behind the last list both sides are empty
 pub both-list : (h : ℕ) (first second : List (List ℕ)) → length second ≡ length first → (l : ℕ) → listOf (joinedLists h first second) l ≡ joinedAt (raised h) first second l
