@@ -7,12 +7,12 @@ use Prim.Native.Nat.{ℕ, zero, suc, _+_, _-_, _<_, _≤_}
 use mathlib.Core.Path.{_≡_}
 use mathlib.Core.Logic.{_⊎_}
 use mathlib.Core.List.{List, [], _∷_, _++_}
-use lib.ListN.{length, getD}
+use lib.ListN.{length, getD, take, drop}
 use Rattle.volume.specs.Posting.{postingOf}
 use Rattle.plan.specs.declared.row.Predicate.{Predicate}
 use Rattle.plan.specs.declared.row.Predicate.the-variants as predicate
 use Rattle.plan.specs.declared.row.Operator.{Operator}
-use Rattle.plan.specs.declared.row.Operator.the-variants.{Both, Either, FirstNotSecond}
+use Rattle.plan.specs.declared.row.Operator.the-variants.{Both, Either, FirstNotSecond, AtLeast}
 use Rattle.plan.specs.declared.row.Kind.{Kind}
 use Rattle.plan.specs.declared.row.Kind.the-variants as kind
 use Rattle.plan.specs.declared.row.Row.{Row}
@@ -139,10 +139,18 @@ joinTwo op [] = []
 joinTwo op (second ∷ []) = []
 joinTwo op (second ∷ (first ∷ rest)) = op first second ∷ rest
 
+-- n or more of several formulas (02, N9), by the connectives above alone: none is asked for; or there is a first one, and it is true with
+-- one fewer of the others, or as many of the others are
+abbrev pub atLeast : ℕ → List Formula → Formula
+atLeast zero fs = truth
+atLeast (suc n) [] = neg truth
+atLeast (suc n) (f ∷ fs) = disj (conj f (atLeast n fs)) (atLeast (suc n) fs)
+
 abbrev pub join : Operator → List Formula → List Formula
 join Both fs = joinTwo (λ first second. conj first second) fs
 join Either fs = joinTwo (λ first second. disj first second) fs
 join FirstNotSecond fs = joinTwo (λ first second. conj first (neg second)) fs
+join (AtLeast least of) fs = atLeast least (take of fs) ∷ drop of fs
 
 -- the formulas behind a row, where f is open in front of it
 abbrev pub formulasAfter : Pattern → List Formula → Kind → List Formula

@@ -16,7 +16,7 @@ use Rattle.plan.specs.Check.{Accepted}
 use Rattle.plan.specs.Rows.{rowsOf, planOf}
 use Rattle.fulltext.specs.Documents.{docsIn, work}
 use Rattle.grammar.specs.Grammar.{before, both, Figure, Line, one, either, Part, alone, join, Item, figure, round, written, Fits}
-use Rattle.grammar.specs.Brackets.{depth, opens, Spare}
+use Rattle.grammar.specs.Brackets.{depth, parens, Spare}
 use Rattle.grammar.specs.Meaning.{lineRows, lineTrue}
 use Rattle.grammar.specs.Query.{planLine, planText}
 use Rattle.grammar.specs.Reading.{whole, reading}
@@ -48,7 +48,7 @@ pub record PlanLine (v p : List ℕ) : Type 0 where
   pub reads : reading (planText p) ≡ whole (planLine p)
   pub words : wordsOfLine (planText p) ≡ p
   -- no line with these rows has fewer round brackets, and no pair of them could be dropped
-  pub fewest : (l : Line) → lineRows l ≡ rowsOf p → opens (planText p) ≤ opens (written l)
+  pub fewest : (l : Line) → lineRows l ≡ rowsOf p → parens (planText p) ≤ parens (written l)
   pub none-spare : (t : List ℕ) → Spare (planLine p) t → ⊥
   -- any other line with these rows has a pair that could be dropped
   pub only : (l : Line) → Fits l → lineRows l ≡ rowsOf p → ((t : List ℕ) → Spare l t → ⊥) → l ≡ planLine p

@@ -1,13 +1,14 @@
--- The grammar of typed lines (02, N5): lines as data, and the text of each. Assumes nothing.
---     Line, Part, Item, Figure    what a line is made of
+-- The grammar of typed lines (02, N5 and N9): lines as data, and the text of each. Assumes nothing.
+--     Line, Part, Item, Lines, Figure    what a line is made of
 --     written                     the text of a line
 --     Fits                        its numbers are as many, and as small, as the grammar asks
 --     LineText, Begins            a text is a line of the grammar; some line begins with it
-use Prim.Native.Nat.{ℕ, _<_, _≤_}
+use Prim.Native.Nat.{ℕ, zero, suc, _<_, _≤_}
 use mathlib.Core.Path.{_≡_}
 use mathlib.Core.List.{List, [], _∷_, _++_, map}
 use lib.ListN.{length, getD}
 use Rattle.seq.specs.Lists.{joined}
+use Rattle.seq.specs.Decimal.{digit}
 pub use Rattle.grammar.specs.declared.tokens.Word.{Word}
 pub use Rattle.grammar.specs.declared.tokens.Word.the-variants.{Near as near, Before as before, Same as same, Span as span}
 pub use Rattle.grammar.specs.declared.tokens.Word.the-variants.{Apart as apart}
@@ -57,7 +58,7 @@ jointByte both = 38
 jointByte without = 33
 
 -- a line is parts joined by `|`, a part is items joined by `&` or `!`, both from left to right;
--- an item is a figure, or a line in round brackets
+-- an item is a figure, a line in round brackets, or `<`, a number, lines and `>`: so many of the lines at least
 mutual
   pub data Line : Type 0 where
     one : Part → Line
@@ -70,6 +71,12 @@ mutual
   pub data Item : Type 0 where
     figure : Figure → Item
     round : Line → Item
+    atLeast : ℕ → Lines → Item
+
+  -- lines, one behind the other
+  pub data Lines : Type 0 where
+    nil : Lines
+    snoc : Lines → Line → Lines
 
 -- `;`, the letter, and a space in front of each number
 abbrev pub conditionText : Condition → List ℕ
@@ -85,7 +92,17 @@ unfoldable pub figureText : Figure → List ℕ
 unfolding openText
 figureText f = openText f ++ (93 ∷ [])
 
--- the text of a line, of a part, of an item
+-- how many lines there are
+unfoldable pub lineCount : Lines → ℕ
+lineCount nil = zero
+lineCount (snoc ls l) = suc (lineCount ls)
+
+-- the byte in front of the line that follows: `:` in front of the first, `,` in front of the others
+abbrev pub separator : Lines → ℕ
+separator nil = 58
+separator (snoc ls l) = 44
+
+-- the text of a line, of a part, of an item, of lines with the byte in front of each
 unfoldable mutual
   unfolding figureText
 
@@ -100,6 +117,11 @@ unfoldable mutual
   pub itemText : Item → List ℕ
   itemText (figure f) = figureText f
   itemText (round l) = 40 ∷ (written l ++ (41 ∷ []))
+  itemText (atLeast n ls) = 60 ∷ digit n ∷ (linesText ls ++ (62 ∷ []))
+
+  pub linesText : Lines → List ℕ
+  linesText nil = []
+  linesText (snoc ls l) = linesText ls ++ (separator ls ∷ written l)
 
 -- numbers within limits
 abbrev pub Within : (ℕ → ℕ) → List ℕ → Type 0
@@ -120,8 +142,24 @@ pub record FigureFits (f : Figure) : Type 0 where
   pub within : Within (λ i. 65536) (f .lists)
   pub conditions : (i : ℕ) → i < length (f .conditions) → ConditionFits (getD (f .conditions) i noCondition)
 
--- every figure of a line
+-- the fewest and the most lines between `<` and `>`
+abbrev pub fewestLines : ℕ
+fewestLines = 2
+
+abbrev pub mostLines : ℕ
+mostLines = 8
+
+-- the lines between `<` and `>` are two to eight, and the number is from 1 to theirs
+pub record Several (n count : ℕ) : Type 0 where
+  pub some : 1 ≤ n
+  pub enough : n ≤ count
+  pub fewest : fewestLines ≤ count
+  pub most : count ≤ mostLines
+
+-- every figure of a line, and every number of lines
 unfoldable mutual
+  unfolding lineCount
+
   pub Fits : Line → Type 0
   Fits (one p) = PartFits p
   Fits (either l p) = Fits l × PartFits p
@@ -133,6 +171,11 @@ unfoldable mutual
   pub ItemFits : Item → Type 0
   ItemFits (figure f) = FigureFits f
   ItemFits (round l) = Fits l
+  ItemFits (atLeast n ls) = Several n (lineCount ls) × LinesFit ls
+
+  pub LinesFit : Lines → Type 0
+  LinesFit nil = Unit
+  LinesFit (snoc ls l) = LinesFit ls × Fits l
 
 -- a text is a line of the grammar
 pub record LineText (s : List ℕ) : Type 0 where

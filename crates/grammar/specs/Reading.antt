@@ -3,17 +3,19 @@
 --     stepIn, step                one more byte of a figure, of the text
 --     outcome, reading            how the reading of a text ends
 --     shown                       the text of what has been read
-use Prim.Native.Nat.{ℕ, suc, _+_, _-_, _*_}
+use Prim.Native.Nat.{ℕ, suc, _+_, _-_, _*_, max}
 use mathlib.Core.Bool.{Bool, true, cond, _&&_}
 use mathlib.Core.List.{List, [], _∷_, _++_}
 use mathlib.Core.Option.{Option, none, some}
 use lib.Dec.{eqb, leb, ltb}
 use lib.ListN.{length}
+use Rattle.seq.specs.Decimal.{digit}
 pub use Rattle.grammar.specs.declared.tokens.Number.{Number}
 pub use Rattle.grammar.specs.declared.tokens.Number.the-variants.{Fresh as fresh, Digits as digits}
 use Rattle.grammar.specs.Text.{lead, gapAfter}
 use Rattle.grammar.specs.Grammar.{Word, near, before, same, span, apart, letterOf, arity, mostOf, Figure, Joint, both, without}
-use Rattle.grammar.specs.Grammar.{jointByte, Line, one, either, Part, alone, join, Item, figure, round, openText, written, partText}
+use Rattle.grammar.specs.Grammar.{jointByte, Line, one, either, Part, alone, join, Item, figure, round, atLeast, Lines, nil, snoc}
+use Rattle.grammar.specs.Grammar.{lineCount, separator, openText, written, partText, linesText, fewestLines, mostLines}
 
 -- the value of a number so far
 abbrev pub valueOf : Number → ℕ
@@ -94,12 +96,19 @@ pub data Context : Type 0 where
   first : Front → Context
   next : Front → Part → Joint → Context
 
--- all that has been read: an item is to come; in a figure; behind an item.
--- Each with the contexts of the brackets that are open, the last one first
+-- an open bracket, with what stands in front of it: `(`; or `<`, its number, and the whole lines behind that
+pub data Bracket : Type 0 where
+  rounded : Context → Bracket
+  among : ℕ → Lines → Context → Bracket
+
+-- all that has been read: an item is to come; in a figure; behind an item; behind `<`; behind its number.
+-- Each with the brackets that are open, the last one first
 pub data Config : Type 0 where
-  ready : Context → List Context → Config
-  inside : Partial → Context → List Context → Config
-  after : Front → Part → List Context → Config
+  ready : Context → List Bracket → Config
+  inside : Partial → Context → List Bracket → Config
+  after : Front → Part → List Bracket → Config
+  opened : Context → List Bracket → Config
+  numbered : ℕ → Context → List Bracket → Config
 
 -- nothing has been read
 abbrev pub start : Config
@@ -111,35 +120,55 @@ lineOf bare p = one p
 lineOf (eithers l) p = either l p
 
 -- an item in its context
-abbrev pub filled : Context → Item → List Context → Config
+abbrev pub filled : Context → Item → List Bracket → Config
 filled (first f) i ps = after f (alone i) ps
 filled (next f p j) i ps = after f (join j p i) ps
 
 -- a round bracket is closed
-abbrev pub shut : Line → List Context → Option Config
+abbrev pub shut : Line → List Bracket → Option Config
 shut l [] = none
-shut l (p ∷ ps) = some (filled p (round l) ps)
+shut l (rounded p ∷ ps) = some (filled p (round l) ps)
+shut l (among n ls p ∷ ps) = none
+
+-- a comma behind a line: there may be eight
+abbrev pub parted : Line → List Bracket → Option Config
+parted l [] = none
+parted l (rounded p ∷ ps) = none
+parted l (among n ls p ∷ ps) = cond (ltb (lineCount (snoc ls l)) mostLines) (some (ready (first bare) (among n (snoc ls l) p ∷ ps))) none
+
+-- `>` behind the last line: there are two at least, and as many as are asked for
+abbrev pub ended : Line → List Bracket → Option Config
+ended l [] = none
+ended l (rounded p ∷ ps) = none
+ended l (among n ls p ∷ ps) = cond (leb (max fewestLines n) (lineCount (snoc ls l))) (some (filled p (atLeast n (snoc ls l)) ps)) none
 
 -- what the next byte of a figure makes of all that has been read
-abbrev pub within : Next → Context → List Context → Option Config
+abbrev pub within : Next → Context → List Bracket → Option Config
 within (goes f) p ps = some (inside f p ps)
 within (closes f) p ps = some (filled p (figure f) ps)
 within stuck p ps = none
 
 -- one more byte; none where no line of the grammar has it there
 unfoldable pub step : Config → ℕ → Option Config
-unfolding stepIn
-step (ready p ps) b = cond (eqb b 40) (some (ready (first bare) (p ∷ ps))) (cond (eqb b 91) (some (inside (listing [] fresh) p ps)) none)
+unfolding stepIn lineCount
+step (ready p ps) b =
+    cond (eqb b 40) (some (ready (first bare) (rounded p ∷ ps)))
+    (cond (eqb b 91) (some (inside (listing [] fresh) p ps)) (cond (eqb b 60) (some (opened p ps)) none))
 step (inside f p ps) b = within (stepIn f b) p ps
 step (after f p ps) b =
     cond (eqb b 124) (some (ready (first (eithers (lineOf f p))) ps)) (cond (eqb b 38) (some (ready (next f p both) ps))
-    (cond (eqb b 33) (some (ready (next f p without) ps)) (cond (eqb b 41) (shut (lineOf f p) ps) none)))
+    (cond (eqb b 33) (some (ready (next f p without) ps)) (cond (eqb b 41) (shut (lineOf f p) ps)
+    (cond (eqb b 44) (parted (lineOf f p) ps) (cond (eqb b 62) (ended (lineOf f p) ps) none)))))
+step (opened p ps) b = cond (leb (digit 1) b && leb b (digit mostLines)) (some (numbered (b - 48) p ps)) none
+step (numbered n p ps) b = cond (eqb b 58) (some (ready (first bare) (among n nil p ∷ ps))) none
 
--- the brackets that are open
-abbrev pub openIn : Config → List Context
-openIn (ready p ps) = ps
-openIn (inside f p ps) = ps
-openIn (after f p ps) = ps
+-- how many brackets are open
+abbrev pub openIn : Config → ℕ
+openIn (ready p ps) = length ps
+openIn (inside f p ps) = length ps
+openIn (after f p ps) = length ps
+openIn (opened p ps) = suc (length ps)
+openIn (numbered n p ps) = suc (length ps)
 
 -- how the reading of a text ends: a line; or 21 or 22 at a byte
 pub data Outcome : Type 0 where
@@ -148,21 +177,23 @@ pub data Outcome : Type 0 where
   deep : ℕ → Outcome
 
 -- at the end of the text
-abbrev pub ended : Config → ℕ → Outcome
-ended (ready p ps) q = broken q
-ended (inside f p ps) q = broken q
-ended (after f p []) q = whole (lineOf f p)
-ended (after f p (x ∷ ps)) q = broken q
+abbrev pub finished : Config → ℕ → Outcome
+finished (ready p ps) q = broken q
+finished (inside f p ps) q = broken q
+finished (after f p []) q = whole (lineOf f p)
+finished (after f p (x ∷ ps)) q = broken q
+finished (opened p ps) q = broken q
+finished (numbered n p ps) q = broken q
 
 -- no byte fits; or it opens a bracket inside eight; or the reading goes on
 abbrev pub continued : Option Config → ℕ → (Config → Outcome) → Outcome
 continued none q go = broken q
-continued (some c) q go = cond (ltb 8 (length (openIn c))) (deep q) (go c)
+continued (some c) q go = cond (ltb 8 (openIn c)) (deep q) (go c)
 
 -- what comes of a text from byte q on, where c has been read
 unfoldable pub outcome : Config → ℕ → List ℕ → Outcome
 unfolding step
-outcome c q [] = ended c q
+outcome c q [] = finished c q
 outcome c q (b ∷ s) = continued (step c b) q (λ x. outcome x (suc q) s)
 
 -- the reading of a text
@@ -192,11 +223,16 @@ abbrev pub contextText : Context → List ℕ
 contextText (first f) = frontText f
 contextText (next f p j) = frontText f ++ (partText p ++ (jointByte j ∷ []))
 
--- the text of all that stands in front of open brackets
-unfoldable pub openedText : List Context → List ℕ
+-- the text of an open bracket, with what stands in front of it and what it has
+abbrev pub bracketText : Bracket → List ℕ
+bracketText (rounded p) = contextText p ++ (40 ∷ [])
+bracketText (among n ls p) = contextText p ++ (60 ∷ digit n ∷ (linesText ls ++ (separator ls ∷ [])))
+
+-- the text of all open brackets
+unfoldable pub openedText : List Bracket → List ℕ
 unfolding written
 openedText [] = []
-openedText (p ∷ ps) = openedText ps ++ (contextText p ++ (40 ∷ []))
+openedText (x ∷ ps) = openedText ps ++ bracketText x
 
 -- the text of all that has been read
 unfoldable pub shown : Config → List ℕ
@@ -204,3 +240,5 @@ unfolding openedText partialText
 shown (ready p ps) = openedText ps ++ contextText p
 shown (inside f p ps) = openedText ps ++ (contextText p ++ partialText f)
 shown (after f p ps) = openedText ps ++ (frontText f ++ partText p)
+shown (opened p ps) = openedText ps ++ (contextText p ++ (60 ∷ []))
+shown (numbered n p ps) = openedText ps ++ (contextText p ++ (60 ∷ digit n ∷ []))

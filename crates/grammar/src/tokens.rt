@@ -1,4 +1,4 @@
-// What the conditions of a typed line are made of.
+// What the conditions of a typed line are made of, and what joins its answers.
 
 // What a condition begins with: one letter for each kind of condition.
 pub enum Word {
@@ -18,4 +18,14 @@ pub enum Word {
 pub enum Number {
     Fresh,
     Digits(u32),
+}
+
+// What joins two answers: one byte for each.
+pub enum Connective {
+    // `&`: BOTH
+    And,
+    // `|`: EITHER
+    Or,
+    // `!`: FIRST NOT SECOND
+    AndNot,
 }

@@ -5,7 +5,7 @@ pub enum Read {
     Words(u32),
     // No line of the grammar has this byte there, or none ends there; or the text is too long.
     Broken(u32),
-    // A round bracket is opened here inside eight open ones.
+    // A round bracket or a `<` is opened here inside eight open ones.
     Deep(u32),
     // The line has more rows than a plan may have.
     TooMany,

@@ -14,6 +14,7 @@
 --     ShownFirst           a part is empty exactly if a refusal applies; the parts and the plan
 --     Accepted             what acceptance gives
 --     Outline              the rows and the variables of each pattern
+--     Operators            what AT LEAST answers
 --     Stack                the answers as bits, row by row
 --     Answers              an answer is known from its number and values
 pub mod Kinds
@@ -34,5 +35,6 @@ pub mod Stages
 pub mod ShownFirst
 pub mod Accepted
 pub mod Outline
+pub mod Operators
 pub mod Stack
 pub mod Answers

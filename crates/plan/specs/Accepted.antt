@@ -41,7 +41,7 @@ pub record Given (v p : List ℕ) : Type 0 where
   pub some-patterns : 1 ≤ sizes p .patterns
   pub most-patterns : sizes p .patterns ≤ mostPatterns
   pub well-made : (k : ℕ) → k < sizes p .patterns → WellMade (listCount v) (patternAt p k)
-  -- at most 51 variables, and at most 110 words in a row of a listing
+  -- at most 56 variables, and at most 120 words in a row of a listing
   pub some-vars : 1 ≤ sizes p .vars
   pub most-vars : sizes p .vars ≤ mostVars
   pub width : rowWords (sizes p .patterns) (sizes p .vars) ≤ mostRowWords

@@ -3,19 +3,23 @@
 --     ReadsRows                     four words are read as exactly the row that they state
 --     Gives                         what acceptance gives
 --     Parts                         the rows of a pattern are those it was read from; with the operators between them they are the plan
+--     AtLeastIs                     what AT LEAST answers
 --     OneToOne                      no two answers are told alike
 use Prim.Native.Nat.{ℕ, _<_, _≤_}
 use mathlib.Core.Path.{_≡_}
-use mathlib.Core.Bool.{true, false}
+use mathlib.Core.Bool.{Bool, true, false}
 use mathlib.Core.Logic.{_↔_}
 use mathlib.Core.List.{List, [], _∷_, _++_}
+use lib.ListN.{getD, drop}
 use Rattle.seq.specs.Lists.{all, joined}
 use Rattle.seq.specs.Numbers.{run}
 use Rattle.seq.specs.Refusals.{stageIn, FirstRefusal}
 use Rattle.plan.specs.declared.answers.Refusal.{Refusal}
 use Rattle.plan.specs.declared.answers.Checked.{Checked}
+use Rattle.plan.specs.declared.row.Operator.the-variants.{Both, Either, AtLeast}
 use Rattle.plan.specs.declared.row.Row.{Row}
 use Rattle.plan.specs.Rows.{rowOf, rowsOf, formWrong, wordsOf, planOf, InRange, isOperator}
+use Rattle.plan.specs.Patterns.{operate}
 use Rattle.plan.specs.Answers.{Sizes, saidRefusal, saidChecked}
 use Rattle.plan.specs.Check.{sizes, verdict, Accepted}
 use Rattle.plan.specs.Parts.{partOf, gap, patternRows}
@@ -30,7 +34,7 @@ CheckRefuses = (v p : List ℕ) → FirstRefusal (stageIn planStages) (PlanAppli
 unfoldable pub PartRefuses : Type 0
 PartRefuses = (v p : List ℕ) (k : ℕ) → (partOf v p k ≡ []) ↔ ((n : ℕ) × (q : ℕ) × PartApplies v p k n q)
 
--- four words have the right form and are read as a row exactly if its limits are in range and they are its words
+-- four words have the right form and are read as a row exactly if its numbers are in range and they are its words
 unfoldable pub ReadsRows : Type 0
 ReadsRows =
     (k a b c : ℕ) (r : Row)
@@ -50,6 +54,23 @@ pub record Parted (v p : List ℕ) : Type 0 where
 
 unfoldable pub Parts : Type 0
 Parts = (v p : List ℕ) → Accepted v p → Parted v p
+
+-- AT LEAST (02, N9) over any answers
+pub record AtLeasts (of : ℕ) (answers : List Bool) : Type 0 where
+  -- it leaves the answers below those that it takes, and on them its own
+  pub leaves : (least : ℕ) → drop 1 (operate (AtLeast least of) answers) ≡ drop of answers
+  -- 1 of them: one is yes; all of them: none is no
+  pub one : (getD (operate (AtLeast 1 of) answers) 0 false ≡ true) ↔ ((i : ℕ) × (i < of) × (getD answers i false ≡ true))
+  pub all : (getD (operate (AtLeast of of) answers) 0 false ≡ true) ↔ ((i : ℕ) → i < of → getD answers i false ≡ true)
+  -- asking for fewer never turns a yes into a no
+  pub fewer :
+      (m n : ℕ) → m ≤ n → getD (operate (AtLeast n of) answers) 0 false ≡ true → getD (operate (AtLeast m of) answers) 0 false ≡ true
+  -- with two more answers on top: 1 of two is EITHER, 2 of two are BOTH
+  pub either : (first second : Bool) → operate (AtLeast 1 2) (second ∷ (first ∷ answers)) ≡ operate Either (second ∷ (first ∷ answers))
+  pub both : (first second : Bool) → operate (AtLeast 2 2) (second ∷ (first ∷ answers)) ≡ operate Both (second ∷ (first ∷ answers))
+
+unfoldable pub AtLeastIs : Type 0
+AtLeastIs = (of : ℕ) (answers : List Bool) → AtLeasts of answers
 
 -- no two answers have document 01's number and values in common
 pub record OneToOne : Type 0 where

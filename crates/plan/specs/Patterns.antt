@@ -2,11 +2,12 @@
 use Prim.Native.Nat.{ℕ}
 use mathlib.Core.Bool.{Bool, false, not, _&&_, _||_}
 use mathlib.Core.List.{List, [], _∷_, _++_, map}
-use lib.ListN.{getD}
-use Rattle.seq.specs.Lists.{joined}
+use lib.ListN.{length, getD, take, drop}
+use lib.Dec.{leb}
+use Rattle.seq.specs.Lists.{keep, joined}
 use Rattle.plan.specs.declared.row.Predicate.{Predicate}
 use Rattle.plan.specs.declared.row.Operator.{Operator}
-use Rattle.plan.specs.declared.row.Operator.the-variants.{Both, Either, FirstNotSecond}
+use Rattle.plan.specs.declared.row.Operator.the-variants.{Both, Either, FirstNotSecond, AtLeast}
 use Rattle.plan.specs.declared.row.Kind.{Kind}
 use Rattle.plan.specs.declared.row.Kind.the-variants as kind
 use Rattle.plan.specs.declared.row.Row.{Row}
@@ -54,11 +55,17 @@ two f [] = []
 two f (second ∷ []) = []
 two f (second ∷ (first ∷ answers)) = f first second ∷ answers
 
--- an operator takes answers from the top and stacks one
+-- how many of some answers are yes
+unfoldable pub yeses : List Bool → ℕ
+unfolding keep
+yeses answers = length (keep (λ (t : Bool). t) answers)
+
+-- an operator takes answers from the top and stacks one; AT LEAST counts those that are yes among the top ones (02, N9)
 abbrev pub operate : Operator → List Bool → List Bool
 operate Both answers = two (λ first second. first && second) answers
 operate Either answers = two (λ first second. first || second) answers
 operate FirstNotSecond answers = two (λ first second. first && not second) answers
+operate (AtLeast least of) answers = leb least (yeses (take of answers)) ∷ drop of answers
 
 -- the answers behind a row, where f is open in front of it; `found` answers for a pattern
 abbrev pub answersAfter : (Pattern → Bool) → Pattern → List Bool → Kind → List Bool

@@ -12,10 +12,11 @@ use Rattle.volume.specs.Refusals.{VolumeApplies, volumeStages}
 use Rattle.plan.specs.declared.kinds.Uses.{Uses}
 use Rattle.plan.specs.declared.row.Predicate.{Predicate}
 use Rattle.plan.specs.declared.row.Predicate.the-variants.{Distance, Ordered, Samepara, Window, Proximity}
+use Rattle.plan.specs.declared.row.Operator.the-variants.{Both, Either, FirstNotSecond, AtLeast}
 use Rattle.plan.specs.declared.row.Kind.{Kind}
 use Rattle.plan.specs.declared.row.Kind.the-variants as kind
 use Rattle.plan.specs.declared.state.State.{State}
-use Rattle.plan.specs.Limits.{lastKind, mostWords, mostPatterns, mostPatternVars}
+use Rattle.plan.specs.Limits.{lastKind, leastTaken, mostTaken, mostWords, mostPatterns, mostPatternVars}
 use Rattle.plan.specs.Rows.{rowCount, kindAt, aAt, bAt, cAt, kindOf, rowAt, rowsBefore, rowsOf, usesOf}
 use Rattle.plan.specs.State.{takes}
 use Rattle.plan.specs.Counts.{counted}
@@ -33,7 +34,8 @@ Stray used word = (used ≡ false) × (word ≢ 0)
 abbrev pub Misused : Uses → ℕ → ℕ → ℕ → Type 0
 Misused u a b c = Stray (u .a) a ⊎ (Stray (u .b) b ⊎ (Stray (u .c) c ⊎ ((c < u .least) ⊎ (u .most < c))))
 
--- the limits that a row carries do not fit each other: the least of APART exceeds its most (02, N2)
+-- the numbers that a row carries do not fit each other: the least of APART exceeds its most (02, N2); AT LEAST asks for none, for more
+-- than it takes, or takes fewer than two or more than eight (02, N9)
 abbrev pub WrongPair : Kind → Type 0
 WrongPair (kind.Voice list) = ⊥
 WrongPair (kind.Condition (Distance a b limit)) = ⊥
@@ -42,9 +44,12 @@ WrongPair (kind.Condition (Samepara a b)) = ⊥
 WrongPair (kind.Condition (Window limit)) = ⊥
 WrongPair (kind.Condition (Proximity a b least most)) = most < least
 WrongPair kind.End = ⊥
-WrongPair (kind.Operator o) = ⊥
+WrongPair (kind.Operator Both) = ⊥
+WrongPair (kind.Operator Either) = ⊥
+WrongPair (kind.Operator FirstNotSecond) = ⊥
+WrongPair (kind.Operator (AtLeast least of)) = (least < 1) ⊎ ((of < least) ⊎ ((of < leastTaken) ⊎ (mostTaken < of)))
 
--- an unknown kind, an unused word that is not 0, c out of range, or limits that do not fit each other
+-- an unknown kind, an unused word that is not 0, c out of range, or numbers that do not fit each other
 abbrev pub WrongForm : ℕ → ℕ → ℕ → ℕ → Type 0
 WrongForm k a b c = (k < 1) ⊎ ((lastKind < k) ⊎ (Misused (usesOf (kindOf k a b c)) a b c ⊎ WrongPair (kindOf k a b c)))
 
@@ -88,14 +93,14 @@ pub data PlanApplies (v p : List ℕ) : ℕ → ℕ → Type 0 where
   ofVolume : (n q : ℕ) → VolumeApplies v n q → PlanApplies v p n q
   -- 9: length 0, not a multiple of four words, or over 256 words
   wrongLength : WrongLength p → PlanApplies v p 9 0
-  -- 10: unknown kind, unused word not 0, c out of range, or a least above its most; place: row
+  -- 10: unknown kind, unused word not 0, c out of range, a least above its most, or an AT LEAST out of range; place: row
   wrongForm : (i : ℕ) → i < rowCount p → WrongForm (kindAt p i) (aAt p i) (bAt p i) (cAt p i) → PlanApplies v p 10 i
   -- 11: list 0, or a list not below T; place: row
   wrongList : (i : ℕ) → i < rowCount p → WrongList (listCount v) (rowAt p i .kind) → PlanApplies v p 11 i
   -- 12: a ninth voice, or a VOICE that would open a ninth figure; place: row
   ninth : (i : ℕ) → i < rowCount p → Ninth (counted (rowsBefore p i)) (rowAt p i .kind) → PlanApplies v p 12 i
   -- 13: VOICE after a condition; a condition with no figure open or naming a voice not there; END with no figure open;
-  -- 7 to 9 with a figure open or fewer than two answers; place: row
+  -- 7 to 9 and 11 with a figure open or fewer answers than they take; place: row
   wrongOrder : (i : ℕ) → i < rowCount p → WrongOrder (counted (rowsBefore p i)) (rowAt p i .kind) → PlanApplies v p 13 i
   -- 14: figure open, or not one answer, at the end
   unfinished : Unfinished (counted (rowsOf p)) → PlanApplies v p 14 0

@@ -10,11 +10,11 @@ use Rattle.seq.specs.Numbers.{run}
 use Rattle.plan.specs.declared.kinds.Uses.{Uses}
 use Rattle.plan.specs.declared.row.Predicate.the-variants.{Distance, Ordered, Samepara, Window, Proximity}
 use Rattle.plan.specs.declared.row.Operator.{Operator}
-use Rattle.plan.specs.declared.row.Operator.the-variants.{Both, Either, FirstNotSecond}
+use Rattle.plan.specs.declared.row.Operator.the-variants.{Both, Either, FirstNotSecond, AtLeast}
 use Rattle.plan.specs.declared.row.Kind.{Kind}
 use Rattle.plan.specs.declared.row.Kind.the-variants as kind
 use Rattle.plan.specs.declared.row.Row.{Row}
-use Rattle.plan.specs.Limits.{lastKind, leastUnit}
+use Rattle.plan.specs.Limits.{lastKind, leastUnit, leastTaken, mostTaken}
 
 -- the number of rows
 abbrev pub rowCount : List ℕ → ℕ
@@ -47,6 +47,7 @@ kindOf k a b c =
     ∷ kind.Operator Either
     ∷ kind.Operator FirstNotSecond
     ∷ kind.Condition (Proximity a b (c / leastUnit) (c % leastUnit))
+    ∷ kind.Operator (AtLeast a b)
     ∷ [])
     (k - 1)
     kind.End
@@ -104,7 +105,10 @@ usesOf (kind.Condition (Samepara a b)) = uses true true false 0 0
 usesOf (kind.Condition (Window limit)) = uses false false true 1 65536
 usesOf (kind.Condition (Proximity a b least most)) = uses true true true 0 4294967295
 usesOf kind.End = uses false false false 0 0
-usesOf (kind.Operator o) = uses false false false 0 0
+usesOf (kind.Operator Both) = uses false false false 0 0
+usesOf (kind.Operator Either) = uses false false false 0 0
+usesOf (kind.Operator FirstNotSecond) = uses false false false 0 0
+usesOf (kind.Operator (AtLeast least of)) = uses true true false 0 0
 
 -- a word that is not used is not 0
 abbrev pub stray : Bool → ℕ → Bool
@@ -114,7 +118,8 @@ stray used word = not used && not (eqb word 0)
 unfoldable pub misused : Uses → ℕ → ℕ → ℕ → Bool
 misused u a b c = stray (u .a) a || (stray (u .b) b || (stray (u .c) c || (ltb c (u .least) || ltb (u .most) c)))
 
--- the limits that a row carries do not fit each other: the least of APART exceeds its most (02, N2)
+-- the numbers that a row carries do not fit each other: the least of APART exceeds its most (02, N2); AT LEAST asks for none, for more
+-- than it takes, or takes fewer than two or more than eight (02, N9)
 abbrev pub pairWrong : Kind → Bool
 pairWrong (kind.Voice list) = false
 pairWrong (kind.Condition (Distance a b limit)) = false
@@ -123,9 +128,12 @@ pairWrong (kind.Condition (Samepara a b)) = false
 pairWrong (kind.Condition (Window limit)) = false
 pairWrong (kind.Condition (Proximity a b least most)) = ltb most least
 pairWrong kind.End = false
-pairWrong (kind.Operator o) = false
+pairWrong (kind.Operator Both) = false
+pairWrong (kind.Operator Either) = false
+pairWrong (kind.Operator FirstNotSecond) = false
+pairWrong (kind.Operator (AtLeast least of)) = ltb least 1 || (ltb of least || (ltb of leastTaken || ltb mostTaken of))
 
--- 10: unknown kind, unused word not 0, c out of range, or limits that do not fit each other
+-- 10: unknown kind, unused word not 0, c out of range, or numbers that do not fit each other
 unfoldable pub formWrong : ℕ → ℕ → ℕ → ℕ → Bool
 formWrong k a b c = ltb k 1 || (ltb lastKind k || (misused (usesOf (kindOf k a b c)) a b c || pairWrong (kindOf k a b c)))
 
@@ -144,12 +152,13 @@ wordsOf kind.End = 6 ∷ 0 ∷ 0 ∷ 0 ∷ []
 wordsOf (kind.Operator Both) = 7 ∷ 0 ∷ 0 ∷ 0 ∷ []
 wordsOf (kind.Operator Either) = 8 ∷ 0 ∷ 0 ∷ 0 ∷ []
 wordsOf (kind.Operator FirstNotSecond) = 9 ∷ 0 ∷ 0 ∷ 0 ∷ []
+wordsOf (kind.Operator (AtLeast least of)) = 11 ∷ least ∷ of ∷ 0 ∷ []
 
 -- the plan of rows: their words, joined
 abbrev pub planOf : List Row → List ℕ
 planOf rows = joined (map (λ (r : Row). wordsOf (r .kind)) rows)
 
--- the limits of a condition are in their range
+-- the numbers of a row are in their range
 abbrev pub InRange : Kind → Type 0
 InRange (kind.Voice list) = Unit
 InRange (kind.Condition (Distance a b limit)) = limit ≤ 65535
@@ -158,4 +167,7 @@ InRange (kind.Condition (Samepara a b)) = Unit
 InRange (kind.Condition (Window limit)) = (1 ≤ limit) × (limit ≤ 65536)
 InRange (kind.Condition (Proximity a b least most)) = (least ≤ most) × (most ≤ 65535)
 InRange kind.End = Unit
-InRange (kind.Operator o) = Unit
+InRange (kind.Operator Both) = Unit
+InRange (kind.Operator Either) = Unit
+InRange (kind.Operator FirstNotSecond) = Unit
+InRange (kind.Operator (AtLeast least of)) = ((1 ≤ least) × (least ≤ of)) × ((leastTaken ≤ of) × (of ≤ mostTaken))

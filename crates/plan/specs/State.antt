@@ -13,7 +13,7 @@ use Rattle.plan.specs.declared.answers.Fault.the-variants as fault
 use Rattle.plan.specs.declared.row.Predicate.{Predicate}
 use Rattle.plan.specs.declared.row.Predicate.the-variants.{Distance, Ordered, Samepara, Window, Proximity}
 use Rattle.plan.specs.declared.row.Operator.{Operator}
-use Rattle.plan.specs.declared.row.Operator.the-variants.{Both, Either, FirstNotSecond}
+use Rattle.plan.specs.declared.row.Operator.the-variants.{Both, Either, FirstNotSecond, AtLeast}
 use Rattle.plan.specs.declared.row.Kind.{Kind}
 use Rattle.plan.specs.declared.row.Kind.the-variants as kind
 use Rattle.plan.specs.declared.row.Row.{Row}
@@ -32,6 +32,7 @@ abbrev pub takes : Operator → ℕ
 takes Both = 2
 takes Either = 2
 takes FirstNotSecond = 2
+takes (AtLeast least of) = of
 
 -- behind a row: a variable is added; conditions have begun; the pattern is closed and its answer stacked; the top answers become one
 abbrev pub after : State → Kind → State

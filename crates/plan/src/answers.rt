@@ -3,7 +3,8 @@ use volume::Refusal as VolumeRefusal;
 
 // Why a row is refused.
 pub enum Fault {
-    // Its kind is unknown, a word that it does not use is not 0, or c is out of its range.
+    // Its kind is unknown, a word that it does not use is not 0, c is out of its range, or its
+    // numbers do not fit each other.
     Form,
     // It names list 0, or a list that the volume does not have.
     List,

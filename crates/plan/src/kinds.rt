@@ -5,7 +5,10 @@ ghost use Rattle.plan.specs.Limits.{lastKind};
 ghost use Rattle.plan.specs.Rows.{kindOf, usesOf, pairWrong, formWrong};
 ghost use Rattle.plan.specs.Rows as rows;
 use super::limits::LAST_KIND;
+use super::limits::LEAST_TAKEN;
+use super::limits::MOST_TAKEN;
 use super::row::Kind;
+use super::row::Operator;
 use super::row::Predicate;
 use super::row::row_of;
 
@@ -100,6 +103,14 @@ const KINDS: [Uses; LAST_KIND as usize] = [
         least: 0,
         most: 4294967295,
     },
+    // 11 AT LEAST: a, b
+    Uses {
+        a: true,
+        b: true,
+        c: false,
+        least: 0,
+        most: 0,
+    },
 ];
 
 // What rows of a kind use.
@@ -121,7 +132,8 @@ fn stray(used: bool, word: u32) -> bool
     word != 0
 }
 
-// Whether the limits that a row carries do not fit each other: the least of APART exceeds its most.
+// Whether the numbers that a row carries do not fit each other: the least of APART exceeds its most,
+// or AT LEAST asks for none, for more than it takes, or takes fewer than two or more than eight.
 fn pair_wrong(kind: Kind) -> bool
     ensures { λ r. ⌜ r ≡ pairWrong kind ⌝ }
 {
@@ -144,12 +156,19 @@ fn pair_wrong(kind: Kind) -> bool
             } => most < least,
         },
         Kind::End => false,
-        Kind::Operator(_) => false,
+        Kind::Operator(operator) => match operator {
+            Operator::Both => false,
+            Operator::Either => false,
+            Operator::FirstNotSecond => false,
+            Operator::AtLeast { least, of } => {
+                least < 1 || of < least || of < LEAST_TAKEN || MOST_TAKEN < of
+            }
+        },
     }
 }
 
 // Whether four words are no row: the kind is unknown, a word that it does not use is not 0, c is out
-// of its range, or limits do not fit each other.
+// of its range, or its numbers do not fit each other.
 pub fn form_wrong(kind: u32, a: u32, b: u32, c: u32) -> bool
     ensures { λ r. ⌜ r ≡ formWrong kind a b c ⌝ }
 {

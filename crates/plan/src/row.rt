@@ -43,6 +43,8 @@ pub enum Operator {
     Both,
     Either,
     FirstNotSecond,
+    // AT LEAST: `least` or more of the top `of` answers.
+    AtLeast { least: u32, of: u32 },
 }
 
 pub enum Kind {
@@ -90,13 +92,16 @@ pub fn row_of(kind: u32, a: u32, b: u32, c: u32) -> Row
         9 => Row {
             kind: Kind::Operator(Operator::FirstNotSecond),
         },
-        _ => Row {
+        10 => Row {
             kind: Kind::Condition(Predicate::Proximity {
                 a,
                 b,
                 least: (c / LEAST_UNIT) as u16,
                 most: (c % LEAST_UNIT) as u16,
             }),
+        },
+        _ => Row {
+            kind: Kind::Operator(Operator::AtLeast { least: a, of: b }),
         },
     }
 }

@@ -4,32 +4,42 @@ ghost use mathlib.Core.Bool.{Bool};
 ghost use mathlib.Core.List.{List};
 ghost use Prim.Native.Nat.{ℕ, _+_, _<_, _≤_};
 ghost use lib.ListN.{length, set};
-ghost use Rattle.plan.specs.Rows.{rowsOf};
+ghost use Rattle.plan.specs.declared.row.Kind.the-variants as kind;
+ghost use Rattle.plan.specs.Rows.{rowsOf, InRange};
+ghost use Rattle.plan.specs.State as state;
 ghost use Rattle.plan.specs.Patterns as patterns;
 ghost use Rattle.plan.specs.Patterns.{Pattern, answer};
 ghost use Rattle.plan.specs.Check.{Accepted};
-ghost use Rattle.plan.specs.Inner.Stack.{flagOf, bitsOf, foundBits, joinsTwo, Remembers};
+ghost use Rattle.plan.specs.Inner.Stack as bits;
+ghost use Rattle.plan.specs.Inner.Stack.{flagOf, bitsOf, foundBits, Remembers};
 use super::row::Kind;
 use super::row::Operator;
 use super::row::row_at;
+use super::state::takes;
 
-// Whether an operator answers yes to the two bits of its answers, the second answer the lower one.
-fn joins_two(operator: Operator, two: u32) -> bool
-    ensures { λ r. ⌜ r ≡ joinsTwo operator two ⌝ }
+// Whether an operator answers yes to the bits of the answers that it takes, the top one the lowest.
+fn joins(operator: Operator, taken: u32) -> bool
+    ensures { λ r. ⌜ r ≡ bits.joins operator taken ⌝ }
 {
     match operator {
-        Operator::Both => two == 3,
-        Operator::Either => two != 0,
-        Operator::FirstNotSecond => two == 2,
+        Operator::Both => taken == 3,
+        Operator::Either => taken != 0,
+        Operator::FirstNotSecond => taken == 2,
+        Operator::AtLeast { least, of: _ } => least <= u32::count_ones(taken),
     }
 }
 
-// The bits of some answers, the top one the lowest, behind an operator.
+// The bits of some answers, the top one the lowest, behind an operator: those that it takes are
+// masked, and its own answer stands in for them.
 fn operate(operator: Operator, stack: u32) -> u32
-    ensures { λ r. ⌜ ((ts : List Bool) → 2 ≤ length ts → stack ≡ bitsOf ts → r ≡ bitsOf (patterns.operate operator ts)) ⌝ }
+    requires { ⌜ InRange (kind.Operator operator) ⌝ }
+    ensures { λ r. ⌜ ((ts : List Bool) → state.takes operator ≤ length ts → stack ≡ bitsOf ts
+        → r ≡ bitsOf (patterns.operate operator ts)) ⌝ }
 {
-    let rest = stack / 4 * 2;
-    if joins_two(operator, stack % 4) {
+    let count = takes(operator);
+    let taken = stack & ((1 << count) - 1);
+    let rest = (stack >> count) * 2;
+    if joins(operator, taken) {
         return rest + 1;
     }
     rest

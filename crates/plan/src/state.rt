@@ -69,13 +69,14 @@ fn names_below(predicate: Predicate, n: u32) -> bool
 }
 
 // How many answers an operator takes.
-fn takes(operator: Operator) -> u32
+pub fn takes(operator: Operator) -> u32
     ensures { λ r. ⌜ r ≡ state.takes operator ⌝ }
 {
     match operator {
         Operator::Both => 2,
         Operator::Either => 2,
         Operator::FirstNotSecond => 2,
+        Operator::AtLeast { least: _, of } => of,
     }
 }
 

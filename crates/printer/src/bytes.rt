@@ -32,7 +32,7 @@ pub fn put_byte_if(wanted: bool, byte: u8, out: &mut [u8], end: usize) -> usize
 }
 
 // A digit.
-fn digit_of(d: u32) -> u8
+pub fn digit_of(d: u32) -> u8
     requires { ⌜ d < 10 ⌝ }
     ensures { λ r. ⌜ r ≡ 48 + d ⌝ }
 {

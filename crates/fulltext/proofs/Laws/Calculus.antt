@@ -13,11 +13,13 @@ use native.Mathlib.Nat.{add-zero, zero-add}
 use native.Mathlib.Omega.{arith}
 use mathlib.Core.Path.{_≡_, refl, ap}
 use mathlib.Core.Bool.{Bool, true, false, not, _&&_, _||_, true≢false}
-use mathlib.Core.Logic.{⊎-elim, _↔_}
+use mathlib.Core.Logic.{inl, inr, ⊎-elim, _↔_}
 use mathlib.Core.List.{List, [], _∷_, _++_, append-nil, append-assoc}
-use lib.ListN.{length, getD, List·getD-eq-default}
-use Rattle.seq.specs.Lists.{all, rises}
-use Rattle.seq.proofs.Laws.Tests.{both, both-true, below-or}
+use lib.ListN.{length, getD, take, drop, List·getD-eq-default}
+use lib.Dec.{leb}
+use borrow.Author.Tests.{leb-true, leb-false, le-leb, lt-leb}
+use Rattle.seq.specs.Lists.{keep, all, rises}
+use Rattle.seq.proofs.Laws.Tests.{both, both-true, below-or, contrary}
 use Rattle.seq.proofs.Laws.Decides as decides
 use Rattle.seq.proofs.Laws.Decides.{Decides, and-decides, or-decides, not-decides, same-decides, iff-decides}
 use Rattle.seq.proofs.Laws.Lists.{Each}
@@ -25,17 +27,17 @@ use Rattle.volume.specs.Layout.{listsOf}
 use Rattle.plan.specs.declared.row.Predicate.{Predicate}
 use Rattle.plan.specs.declared.row.Predicate.the-variants.{Distance, Ordered, Samepara, Window, Proximity}
 use Rattle.plan.specs.declared.row.Operator.{Operator}
-use Rattle.plan.specs.declared.row.Operator.the-variants.{Both, Either, FirstNotSecond}
+use Rattle.plan.specs.declared.row.Operator.the-variants.{Both, Either, FirstNotSecond, AtLeast}
 use Rattle.plan.specs.declared.row.Kind.{Kind}
 use Rattle.plan.specs.declared.row.Kind.the-variants as kind
 use Rattle.plan.specs.declared.row.Row.{Row}
 use Rattle.plan.specs.Rows.{rowsOf}
-use Rattle.plan.specs.Patterns.{Pattern, noRow, openAfter, closed, patternsFrom, patternsOf, two, operate, answersAfter, answersFrom}
+use Rattle.plan.specs.Patterns.{Pattern, noRow, openAfter, closed, patternsFrom, patternsOf, two, yeses, operate, answersAfter, answersFrom}
 use Rattle.plan.specs.Check as plan
 use Rattle.plan.specs.Accepted.{patternAt}
 use Rattle.plan.proofs.Laws.Accepted.{given}
 use Rattle.fulltext.specs.Positions.{listOf}
-use Rattle.fulltext.specs.Calculus.{Formula, truth, conj, disj, neg, at, In, Holds, HasPos, Starts, InPara, OnePara, True, each, tokens, predicateOf, predicatesOf, openFormula, bound, patternFormula, joinTwo, join, formulasAfter, formulasFrom, planFormula}
+use Rattle.fulltext.specs.Calculus.{Formula, truth, conj, disj, neg, at, In, Holds, HasPos, Starts, InPara, OnePara, True, each, tokens, predicateOf, predicatesOf, openFormula, bound, patternFormula, joinTwo, atLeast, join, formulasAfter, formulasFrom, planFormula}
 use Rattle.fulltext.specs.Matches.{holds, allHold, fits, startsIn, varsIn, matchesAt}
 use Rattle.fulltext.specs.Documents.{found, matching}
 use Rattle.fulltext.specs.Demands.{Agrees}
@@ -181,10 +183,49 @@ module _ (lists : List (List ℕ)) (d : ℕ) where
   two-tell g op keeps (b ∷ (a ∷ bs)) (f ∷ []) t = absurd (t .1)
   two-tell g op keeps (b ∷ (a ∷ bs)) (f ∷ (e ∷ fs)) t = (keeps a b e f (t .1 .0) (t .0), t .1 .1)
 
+  -- the first ones of both, and the others
+  take-tell : (n : ℕ) (bs : List Bool) (fs : List Formula) → Tells bs fs → Tells (take n bs) (take n fs)
+  take-tell zero bs fs t = tt
+  take-tell (suc n) [] [] t = tt
+  take-tell (suc n) [] (f ∷ fs) t = absurd t
+  take-tell (suc n) (b ∷ bs) [] t = absurd t
+  take-tell (suc n) (b ∷ bs) (f ∷ fs) t = (t .0, take-tell n bs fs (t .1))
+
+  drop-tell : (n : ℕ) (bs : List Bool) (fs : List Formula) → Tells bs fs → Tells (drop n bs) (drop n fs)
+  drop-tell zero bs fs t = t
+  drop-tell (suc n) [] [] t = tt
+  drop-tell (suc n) [] (f ∷ fs) t = absurd t
+  drop-tell (suc n) (b ∷ bs) [] t = absurd t
+  drop-tell (suc n) (b ∷ bs) (f ∷ fs) t = drop-tell n bs fs (t .1)
+
+  -- n or more answers are yes exactly if n or more formulas are true
+  count-decides : (n : ℕ) (bs : List Bool) (fs : List Formula) → Tells bs fs → Decides (leb n (yeses bs)) (True lists d (atLeast n fs) [])
+  unfolding yeses keep
+  count-decides zero bs fs t = record { yes = λ e. tt; no = λ e x. contrary (le-leb 0 (yeses bs) (omega arith)) e }
+  count-decides (suc n) [] [] t = record {
+    yes = λ e. absurd (let l = leb-true (suc n) 0 e in let z : ⊥ = omega arith in z);
+    no = λ e x. x tt;
+  }
+  count-decides (suc n) [] (f ∷ fs) t = absurd t
+  count-decides (suc n) (b ∷ bs) [] t = absurd t
+  count-decides (suc n) (true ∷ bs) (f ∷ fs) t =
+      let fewer = count-decides n bs fs (t .1) in
+      let same = count-decides (suc n) bs fs (t .1) in
+      record {
+        yes = λ e. inl (t .0 .yes refl, fewer .yes (le-leb n (yeses bs) (let l = leb-true (suc n) (suc (yeses bs)) e in omega arith)));
+        no = λ e.
+            let l = leb-false (suc n) (suc (yeses bs)) e in
+            ⊎-elim (λ x. fewer .no (lt-leb n (yeses bs) (omega arith)) (x .1)) (λ x. same .no (lt-leb (suc n) (yeses bs) (omega arith)) x);
+      }
+  count-decides (suc n) (false ∷ bs) (f ∷ fs) t =
+      let same = count-decides (suc n) bs fs (t .1) in
+      record { yes = λ e. inr (same .yes e); no = λ e. ⊎-elim (λ x. t .0 .no refl (x .0)) (λ x. same .no e x) }
+
   operate-tell : (o : Operator) (bs : List Bool) (fs : List Formula) → Tells bs fs → Tells (operate o bs) (join o fs)
   operate-tell Both bs fs t = two-tell (λ first second. first && second) (λ first second. conj first second) (λ a b e f x y. and-decides x y) bs fs t
   operate-tell Either bs fs t = two-tell (λ first second. first || second) (λ first second. disj first second) (λ a b e f x y. or-decides x y) bs fs t
   operate-tell FirstNotSecond bs fs t = two-tell (λ first second. first && not second) (λ first second. conj first (neg second)) (λ a b e f x y. and-decides x (not-decides y)) bs fs t
+  operate-tell (AtLeast least of) bs fs t = (count-decides least (take of bs) (take of fs) (take-tell of bs fs t), drop-tell of bs fs t)
 
   -- one row in front of rows that close these patterns
   row-tells : (f : Pattern) (k : Kind) (rest : List Pattern) → Each Sound noRow (closed f k ++ rest) → (bs : List Bool) (fs : List Formula) → Tells bs fs

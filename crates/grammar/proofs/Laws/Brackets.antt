@@ -1,6 +1,6 @@
 -- The round brackets of a line are those of its text. No contract cites this file.
---     opens-append, opens-open, opens-close    how many a text opens, piece by piece
---     line-opens                               as many as the line has
+--     parens-append, parens-open, parens-close    how many a text opens, piece by piece
+--     line-parens                                 as many as the line has
 -- Assumes nothing.
 use Prim.Native.Nat.{ℕ, zero, suc, _+_, _/_, _%_, _<_, _≤_}
 use native.Mathlib.Omega.{arith}
@@ -17,57 +17,57 @@ use Rattle.seq.proofs.Laws.Keep.{keep-append}
 use Rattle.seq.specs.Decimal.{digit, decimalF, decimal}
 use Rattle.grammar.specs.Text.{lead}
 use Rattle.grammar.specs.Grammar as g
-use Rattle.grammar.specs.Grammar.{Word, Condition, Figure, Joint, Line, Part, Item, letterOf, jointByte, conditionText, openText}
-use Rattle.grammar.specs.Grammar.{figureText, written, partText, itemText}
-use Rattle.grammar.specs.Brackets.{opens, rounds, partRounds, itemRounds}
+use Rattle.grammar.specs.Grammar.{Word, Condition, Figure, Joint, Line, Part, Item, Lines, letterOf, jointByte, conditionText}
+use Rattle.grammar.specs.Grammar.{openText, figureText, separator, written, partText, itemText, linesText}
+use Rattle.grammar.specs.Brackets.{parens, rounds, partRounds, itemRounds, linesRounds}
 use Rattle.grammar.proofs.Laws.Balance.{one, keep-cons}
 use Rattle.seq.proofs.Laws.Decimal.{decimal-one, decimal-more}
 
-opens-cons : (b : ℕ) (s : List ℕ) → opens (b ∷ s) ≡ one (eqb b 40) + opens s
-opens-cons b s = keep-cons (λ x. eqb x 40) b s
+parens-cons : (b : ℕ) (s : List ℕ) → parens (b ∷ s) ≡ one (eqb b 40) + parens s
+parens-cons b s = keep-cons (λ x. eqb x 40) b s
 
 -- two texts, one behind the other
-pub opens-append : (s r : List ℕ) → opens (s ++ r) ≡ opens s + opens r
-opens-append s r =
+pub parens-append : (s r : List ℕ) → parens (s ++ r) ≡ parens s + parens r
+parens-append s r =
     ap length (keep-append (λ b. eqb b 40) s r) ∙ length-append (keep (λ b. eqb b 40) s) (keep (λ b. eqb b 40) r)
 
-other : (b : ℕ) (s : List ℕ) → (b ≡ 40 → ⊥) → opens (b ∷ s) ≡ opens s
-other b s h = opens-cons b s ∙ ap (λ (t : Bool). one t + opens s) (ne-eqb b 40 h) ∙ (let z : 0 + opens s ≡ opens s = omega arith in z)
+other : (b : ℕ) (s : List ℕ) → (b ≡ 40 → ⊥) → parens (b ∷ s) ≡ parens s
+other b s h = parens-cons b s ∙ ap (λ (t : Bool). one t + parens s) (ne-eqb b 40 h) ∙ (let z : 0 + parens s ≡ parens s = omega arith in z)
 
 -- `(` opens one
-pub opens-open : (s : List ℕ) → opens (40 ∷ s) ≡ suc (opens s)
-opens-open s = opens-cons 40 s ∙ (let z : 1 + opens s ≡ suc (opens s) = omega arith in z)
+pub parens-open : (s : List ℕ) → parens (40 ∷ s) ≡ suc (parens s)
+parens-open s = parens-cons 40 s ∙ (let z : 1 + parens s ≡ suc (parens s) = omega arith in z)
 
 -- `)` opens none
-pub opens-close : (s : List ℕ) → opens (41 ∷ s) ≡ opens s
-opens-close s = other 41 s (λ e. omega arith)
+pub parens-close : (s : List ℕ) → parens (41 ∷ s) ≡ parens s
+parens-close s = other 41 s (λ e. omega arith)
 
-nothing : opens [] ≡ 0
+nothing : parens [] ≡ 0
 unfolding keep
 nothing = refl
 
-decimal-none : (f n : ℕ) → opens (decimalF f n) ≡ 0
+decimal-none : (f n : ℕ) → parens (decimalF f n) ≡ 0
 unfolding decimalF keep
 decimal-none zero n = refl
 decimal-none (suc f) n =
     ⊎-elim
-    (λ (l : n < 10). ap opens (decimal-one f n l) ∙ other (digit n) [] (λ e. omega arith))
-    (λ (l : 10 ≤ n). ap opens (decimal-more f n l)
-    ∙ opens-append (decimalF f (n / 10)) (digit (n % 10) ∷ [])
+    (λ (l : n < 10). ap parens (decimal-one f n l) ∙ other (digit n) [] (λ e. omega arith))
+    (λ (l : 10 ≤ n). ap parens (decimal-more f n l)
+    ∙ parens-append (decimalF f (n / 10)) (digit (n % 10) ∷ [])
     ∙ ap₂ (λ (x y : ℕ). x + y) (decimal-none f (n / 10)) (other (digit (n % 10)) [] (λ e. omega arith)))
     (below-or n 10)
 
-lead-none : (b : ℕ) (ns : List ℕ) → (b ≡ 40 → ⊥) → opens (lead b ns) ≡ 0
+lead-none : (b : ℕ) (ns : List ℕ) → (b ≡ 40 → ⊥) → parens (lead b ns) ≡ 0
 unfolding lead decimal keep
 lead-none b [] h = refl
 lead-none b (n ∷ ns) h =
-    let x = opens-append (b ∷ decimal n) (lead 32 ns) in
+    let x = parens-append (b ∷ decimal n) (lead 32 ns) in
     let y = other b (decimal n) h in
     let z = decimal-none (suc n) n in
     let r = lead-none 32 ns (λ e. omega arith) in
     omega arith
 
-condition-none : (c : Condition) → opens (conditionText c) ≡ 0
+condition-none : (c : Condition) → parens (conditionText c) ≡ 0
 condition-none c =
     other 59 (letterOf (c .word) ∷ lead 32 (c .numbers)) (λ e. omega arith)
     ∙ other (letterOf (c .word)) (lead 32 (c .numbers)) (letter (c .word))
@@ -80,19 +80,19 @@ condition-none c =
     letter g.span e = omega arith
     letter g.apart e = omega arith
 
-conditions-none : (cs : List Condition) → opens (joined (map conditionText cs)) ≡ 0
+conditions-none : (cs : List Condition) → parens (joined (map conditionText cs)) ≡ 0
 unfolding joined keep
 conditions-none [] = refl
 conditions-none (c ∷ cs) =
-    opens-append (conditionText c) (joined (map conditionText cs)) ∙ ap₂ (λ (x y : ℕ). x + y) (condition-none c) (conditions-none cs)
+    parens-append (conditionText c) (joined (map conditionText cs)) ∙ ap₂ (λ (x y : ℕ). x + y) (condition-none c) (conditions-none cs)
 
-figure-none : (f : Figure) → opens (figureText f) ≡ 0
+figure-none : (f : Figure) → parens (figureText f) ≡ 0
 unfolding figureText openText
 figure-none f =
     let a = lead-none 91 (f .lists) (λ e. omega arith) in
     let b = conditions-none (f .conditions) in
-    let x = opens-append (lead 91 (f .lists)) (joined (map conditionText (f .conditions))) in
-    let y = opens-append (lead 91 (f .lists) ++ joined (map conditionText (f .conditions))) (93 ∷ []) in
+    let x = parens-append (lead 91 (f .lists)) (joined (map conditionText (f .conditions))) in
+    let y = parens-append (lead 91 (f .lists) ++ joined (map conditionText (f .conditions))) (93 ∷ []) in
     let z = other 93 [] (λ e. omega arith) ∙ nothing in
     omega arith
 
@@ -100,34 +100,54 @@ joint-other : (j : Joint) → jointByte j ≡ 40 → ⊥
 joint-other g.both e = omega arith
 joint-other g.without e = omega arith
 
+separator-other : (ls : Lines) → separator ls ≡ 40 → ⊥
+separator-other g.nil e = omega arith
+separator-other (g.snoc ls l) e = omega arith
+
 -- as many as the text opens
 mutual
   unfolding written rounds
 
   -- the text of a line opens as many as the line has
-  pub line-opens : (l : Line) → opens (written l) ≡ rounds l
-  line-opens (g.one p) = part-opens p
-  line-opens (g.either l p) =
-      let a = line-opens l in
-      let b = part-opens p in
-      let x = opens-append (written l) (124 ∷ partText p) in
+  pub line-parens : (l : Line) → parens (written l) ≡ rounds l
+  line-parens (g.one p) = part-parens p
+  line-parens (g.either l p) =
+      let a = line-parens l in
+      let b = part-parens p in
+      let x = parens-append (written l) (124 ∷ partText p) in
       let y = other 124 (partText p) (λ e. omega arith) in
       omega arith
 
-  pub part-opens : (p : Part) → opens (partText p) ≡ partRounds p
-  part-opens (g.alone i) = item-opens i
-  part-opens (g.join j p i) =
-      let a = part-opens p in
-      let b = item-opens i in
-      let x = opens-append (partText p) (jointByte j ∷ itemText i) in
+  pub part-parens : (p : Part) → parens (partText p) ≡ partRounds p
+  part-parens (g.alone i) = item-parens i
+  part-parens (g.join j p i) =
+      let a = part-parens p in
+      let b = item-parens i in
+      let x = parens-append (partText p) (jointByte j ∷ itemText i) in
       let y = other (jointByte j) (itemText i) (joint-other j) in
       omega arith
 
-  pub item-opens : (i : Item) → opens (itemText i) ≡ itemRounds i
-  item-opens (g.figure f) = figure-none f
-  item-opens (g.round l) =
-      let a = line-opens l in
-      let x = opens-append (written l) (41 ∷ []) in
+  pub item-parens : (i : Item) → parens (itemText i) ≡ itemRounds i
+  item-parens (g.figure f) = figure-none f
+  item-parens (g.round l) =
+      let a = line-parens l in
+      let x = parens-append (written l) (41 ∷ []) in
       let y = other 41 [] (λ e. omega arith) ∙ nothing in
-      let z = opens-cons 40 (written l ++ (41 ∷ [])) in
+      let z = parens-cons 40 (written l ++ (41 ∷ [])) in
+      omega arith
+  item-parens (g.atLeast n ls) =
+      let a = lines-parens ls in
+      let x = parens-append (linesText ls) (62 ∷ []) in
+      let y = other 62 [] (λ e. omega arith) ∙ nothing in
+      let z = other (digit n) (linesText ls ++ (62 ∷ [])) (λ e. omega arith) in
+      let w = other 60 (digit n ∷ (linesText ls ++ (62 ∷ []))) (λ e. omega arith) in
+      omega arith
+
+  pub lines-parens : (ls : Lines) → parens (linesText ls) ≡ linesRounds ls
+  lines-parens g.nil = nothing
+  lines-parens (g.snoc ls l) =
+      let a = lines-parens ls in
+      let b = line-parens l in
+      let x = parens-append (linesText ls) (separator ls ∷ written l) in
+      let y = other (separator ls) (written l) (separator-other ls) in
       omega arith

@@ -131,3 +131,81 @@ apart-at-limit = refl
 apart-over-limit : told (reading (91 ∷ 49 ∷ 32 ∷ 50 ∷ 59 ∷ 97 ∷ 32 ∷ 48 ∷ 32 ∷ 49 ∷ 32 ∷ 54 ∷ 53 ∷ 53 ∷ 51 ∷ 54 ∷ [])) ≡ 21 ∷ 15 ∷ []
 unfolding outcome
 apart-over-limit = refl
+
+-- `<2:[1],[2],[3]>`: two of three lines at least
+at-least : told (reading (60 ∷ 50 ∷ 58 ∷ 91 ∷ 49 ∷ 93 ∷ 44 ∷ 91 ∷ 50 ∷ 93 ∷ 44 ∷ 91 ∷ 51 ∷ 93 ∷ 62 ∷ [])) ≡ 0 ∷ []
+unfolding outcome
+at-least = refl
+
+-- `<8:[1],[1],[1],[1],[1],[1],[1],[1]>`: eight lines
+eight-lines : told (reading (60 ∷ 56 ∷ 58 ∷ 91 ∷ 49 ∷ 93 ∷ 44 ∷ 91 ∷ 49 ∷ 93 ∷ 44 ∷ 91 ∷ 49 ∷ 93 ∷ 44 ∷ 91 ∷ 49 ∷ 93 ∷ 44 ∷ 91 ∷ 49
+    ∷ 93 ∷ 44 ∷ 91 ∷ 49 ∷ 93 ∷ 44 ∷ 91 ∷ 49 ∷ 93 ∷ 44 ∷ 91 ∷ 49 ∷ 93 ∷ 62 ∷ [])) ≡ 0 ∷ []
+unfolding outcome
+eight-lines = refl
+
+-- `<2:[1]>`: two lines are asked for
+line-missing : told (reading (60 ∷ 50 ∷ 58 ∷ 91 ∷ 49 ∷ 93 ∷ 62 ∷ [])) ≡ 21 ∷ 6 ∷ []
+unfolding outcome
+line-missing = refl
+
+-- `<3:[1],[2]>`: three lines are asked for
+line-missing-of-three : told (reading (60 ∷ 51 ∷ 58 ∷ 91 ∷ 49 ∷ 93 ∷ 44 ∷ 91 ∷ 50 ∷ 93 ∷ 62 ∷ [])) ≡ 21 ∷ 10 ∷ []
+unfolding outcome
+line-missing-of-three = refl
+
+-- `<1:[1]>`: two lines at least
+one-line : told (reading (60 ∷ 49 ∷ 58 ∷ 91 ∷ 49 ∷ 93 ∷ 62 ∷ [])) ≡ 21 ∷ 6 ∷ []
+unfolding outcome
+one-line = refl
+
+-- `<0:`: the number is 1 at least
+none-asked : told (reading (60 ∷ 48 ∷ 58 ∷ [])) ≡ 21 ∷ 1 ∷ []
+unfolding outcome
+none-asked = refl
+
+-- `<9:`: and 8 at most
+nine-asked : told (reading (60 ∷ 57 ∷ 58 ∷ [])) ≡ 21 ∷ 1 ∷ []
+unfolding outcome
+nine-asked = refl
+
+-- `<12:`: one digit
+number-of-two-digits : told (reading (60 ∷ 49 ∷ 50 ∷ 58 ∷ [])) ≡ 21 ∷ 2 ∷ []
+unfolding outcome
+number-of-two-digits = refl
+
+-- `<1:[1],[1],[1],[1],[1],[1],[1],[1],`: no line follows the eighth
+ninth-line : told (reading (60 ∷ 49 ∷ 58 ∷ 91 ∷ 49 ∷ 93 ∷ 44 ∷ 91 ∷ 49 ∷ 93 ∷ 44 ∷ 91 ∷ 49 ∷ 93 ∷ 44 ∷ 91 ∷ 49 ∷ 93 ∷ 44 ∷ 91 ∷ 49
+    ∷ 93 ∷ 44 ∷ 91 ∷ 49 ∷ 93 ∷ 44 ∷ 91 ∷ 49 ∷ 93 ∷ 44 ∷ 91 ∷ 49 ∷ 93 ∷ 44 ∷ [])) ≡ 21 ∷ 34 ∷ []
+unfolding outcome
+ninth-line = refl
+
+-- `[1],[2]`: a comma outside `<` and `>`
+comma-outside : told (reading (91 ∷ 49 ∷ 93 ∷ 44 ∷ 91 ∷ 50 ∷ 93 ∷ [])) ≡ 21 ∷ 3 ∷ []
+unfolding outcome
+comma-outside = refl
+
+-- `([1],[2])`: a comma in a round bracket
+comma-in-round : told (reading (40 ∷ 91 ∷ 49 ∷ 93 ∷ 44 ∷ 91 ∷ 50 ∷ 93 ∷ 41 ∷ [])) ≡ 21 ∷ 4 ∷ []
+unfolding outcome
+comma-in-round = refl
+
+-- `<2:[1],[2])`: `<` is not closed by `)`
+round-for-angle : told (reading (60 ∷ 50 ∷ 58 ∷ 91 ∷ 49 ∷ 93 ∷ 44 ∷ 91 ∷ 50 ∷ 93 ∷ 41 ∷ [])) ≡ 21 ∷ 10 ∷ []
+unfolding outcome
+round-for-angle = refl
+
+-- `([1]>`: `(` is not closed by `>`
+angle-for-round : told (reading (40 ∷ 91 ∷ 49 ∷ 93 ∷ 62 ∷ [])) ≡ 21 ∷ 4 ∷ []
+unfolding outcome
+angle-for-round = refl
+
+-- `(<1:(<1:(<1:(<1:<`: `<` inside eight brackets
+angle-inside-eight : told (reading (40 ∷ 60 ∷ 49 ∷ 58 ∷ 40 ∷ 60 ∷ 49 ∷ 58 ∷ 40 ∷ 60 ∷ 49 ∷ 58 ∷ 40 ∷ 60 ∷ 49 ∷ 58 ∷ 60 ∷ [])) ≡ 22 ∷ 16 ∷ []
+unfolding outcome
+angle-inside-eight = refl
+
+-- `<1:<1:<1:<1:<1:<1:<1:<1:(`: `(` inside eight brackets
+round-inside-eight : told (reading (60 ∷ 49 ∷ 58 ∷ 60 ∷ 49 ∷ 58 ∷ 60 ∷ 49 ∷ 58 ∷ 60 ∷ 49 ∷ 58 ∷ 60 ∷ 49 ∷ 58 ∷ 60 ∷ 49 ∷ 58 ∷ 60
+    ∷ 49 ∷ 58 ∷ 60 ∷ 49 ∷ 58 ∷ 40 ∷ [])) ≡ 22 ∷ 24 ∷ []
+unfolding outcome
+round-inside-eight = refl

@@ -16,9 +16,9 @@ use lib.ListN.{length}
 use borrow.Author.Tests.{ltb-true, ltb-false}
 use Rattle.grammar.specs.Grammar.{Line, Part, Fits, written, LineText, Begins}
 use Rattle.grammar.specs.Brackets.{depth}
-use Rattle.grammar.specs.Reading.{Front, Config, ready, inside, after, start, lineOf, step, openIn, Outcome, whole, broken, deep}
-use Rattle.grammar.specs.Reading.{ended, continued, outcome, shown}
-use Rattle.grammar.proofs.Laws.Reading.{split, Sound, StepTold, step-told, ContextsFit}
+use Rattle.grammar.specs.Reading.{Front, Config, ready, inside, after, opened, numbered, start, lineOf, step, openIn, Outcome, whole}
+use Rattle.grammar.specs.Reading.{broken, deep, finished, continued, outcome, shown}
+use Rattle.grammar.proofs.Laws.Reading.{split, Sound, StepTold, step-told, BracketsFit}
 use Rattle.grammar.proofs.Laws.Viable.{begins-shown}
 use Rattle.grammar.proofs.Laws.Steps.{Steps, line-steps, frontOf, lastOf, line-again}
 
@@ -46,9 +46,9 @@ steps-same m n c (b ∷ a) d e p q =
     steps-same m n (q .0) a d e (subst (λ (z : Config). Steps m z a d) s (p .3)) (q .3)
 
 -- never more than n brackets are open
-pub steps-open : (n : ℕ) (c : Config) (a : List ℕ) (d : Config) → length (openIn c) ≤ n → Steps n c a d → length (openIn d) ≤ n
+pub steps-open : (n : ℕ) (c : Config) (a : List ℕ) (d : Config) → openIn c ≤ n → Steps n c a d → openIn d ≤ n
 unfolding Steps
-steps-open n c [] d h p = subst (λ (x : Config). length (openIn x) ≤ n) p h
+steps-open n c [] d h p = subst (λ (x : Config). openIn x ≤ n) p h
 steps-open n c (b ∷ a) d h p = steps-open n (p .0) a d (p .2) (p .3)
 
 -- behind a whole line
@@ -57,6 +57,8 @@ Final (ready p ps) = ⊥
 Final (inside f p ps) = ⊥
 Final (after f p []) = Unit
 Final (after f p (x ∷ ps)) = ⊥
+Final (opened p ps) = ⊥
+Final (numbered n p ps) = ⊥
 
 -- nothing of the text can be read, and it is no end
 abbrev pub Stops : Config → List ℕ → Type 0
@@ -84,7 +86,7 @@ pub record Opened (c : Config) (q : ℕ) (s : List ℕ) (e : ℕ) : Type 0 where
   pub then : Config
   pub steps : Steps 8 c read there
   pub goes : step there byte ≡ some then
-  pub ninth : 8 < length (openIn then)
+  pub ninth : 8 < openIn then
 
 -- it comes to the end of line l
 pub record Wholly (c : Config) (s : List ℕ) (l : Line) : Type 0 where
@@ -100,7 +102,7 @@ OutcomeTold c q s (broken e) = Stopped c q s e
 OutcomeTold c q s (deep e) = Opened c q s e
 
 -- the same with one byte in front
-later : (c : Config) (q b : ℕ) (s : List ℕ) (x : Config) (o : Outcome) → step c b ≡ some x → length (openIn x) ≤ 8
+later : (c : Config) (q b : ℕ) (s : List ℕ) (x : Config) (o : Outcome) → step c b ≡ some x → openIn x ≤ 8
     → OutcomeTold x (suc q) s o → OutcomeTold c q (b ∷ s) o
 unfolding Steps
 later c q b s x (whole l) e h r = record { front = r .front; part = r .part; line = r .line; steps = (x, e, h, r .steps) }
@@ -126,7 +128,7 @@ later c q b s x (deep k) e h r = record {
   ninth = r .ninth;
 }
 
-at-end : (c : Config) (q : ℕ) → OutcomeTold c q [] (ended c q)
+at-end : (c : Config) (q : ℕ) → OutcomeTold c q [] (finished c q)
 unfolding Steps
 at-end (ready p ps) q = record { read = []; rest = []; text = refl; at = omega arith; there = ready p ps; steps = refl; stops = λ z. z }
 at-end (inside f p ps) q = record {
@@ -148,6 +150,16 @@ at-end (after f p (x ∷ ps)) q = record {
   steps = refl;
   stops = λ z. z;
 }
+at-end (opened p ps) q = record { read = []; rest = []; text = refl; at = omega arith; there = opened p ps; steps = refl; stops = λ z. z }
+at-end (numbered n p ps) q = record {
+  read = [];
+  rest = [];
+  text = refl;
+  at = omega arith;
+  there = numbered n p ps;
+  steps = refl;
+  stops = λ z. z;
+}
 
 -- and so the reading ends
 pub outcome-told : (s : List ℕ) (c : Config) (q : ℕ) → OutcomeTold c q s (outcome c q s)
@@ -159,7 +171,7 @@ outcome-told (b ∷ s) c q = go (step c b) refl (λ x. outcome-told s x (suc q))
         → OutcomeTold c q (b ∷ s) (continued o q (λ x. outcome x (suc q) s))
     go none e r = record { read = []; rest = b ∷ s; text = refl; at = omega arith; there = c; steps = refl; stops = e }
     go (some x) e r =
-        split (OutcomeTold c q (b ∷ s)) (ltb 8 (length (openIn x))) (deep q) (outcome x (suc q) s)
+        split (OutcomeTold c q (b ∷ s)) (ltb 8 (openIn x)) (deep q) (outcome x (suc q) s)
         (λ t. record {
           read = [];
           byte = b;
@@ -170,13 +182,13 @@ outcome-told (b ∷ s) c q = go (step c b) refl (λ x. outcome-told s x (suc q))
           then = x;
           steps = refl;
           goes = e;
-          ninth = ltb-true 8 (length (openIn x)) t;
+          ninth = ltb-true 8 (openIn x) t;
         })
-        (λ t. later c q b s x (outcome x (suc q) s) e (ltb-false 8 (length (openIn x)) t) (r x))
+        (λ t. later c q b s x (outcome x (suc q) s) e (ltb-false 8 (openIn x) t) (r x))
 
 -- where nothing has been read
 start-sound : Sound start
-unfolding ContextsFit
+unfolding BracketsFit
 start-sound = (tt, tt)
 
 start-text : shown start ≡ []

@@ -2,10 +2,11 @@
 --     split                    a statement on a choice, by its test
 --     Grows, grows-tells       a number grows by a digit
 --     PartialFits, NextTold, stepIn-told     one more byte of a figure
+--     FrontFits, ContextFits, BracketsFit    what stands in front, and the open brackets
 --     Sound, StepTold, step-told             one more byte of a line
 --     line-text, line-fits     a line whose last part is taken apart
 -- Assumes nothing.
-use Prim.Native.Nat.{ℕ, zero, suc, _+_, _-_, _<_, _≤_}
+use Prim.Native.Nat.{ℕ, zero, suc, _+_, _-_, _<_, _≤_, max}
 use native.Mathlib.Omega.{arith}
 use mathlib.Core.Path.{_≡_, refl, sym, ap, _∙_}
 use mathlib.Core.Bool.{Bool, true, false, cond, _&&_}
@@ -20,13 +21,15 @@ use Rattle.seq.proofs.Laws.Lists.{joined-append, each-snoc, length-snoc}
 use Rattle.seq.specs.Decimal.{digit, decimal}
 use Rattle.grammar.specs.Text.{lead, gapAfter}
 use Rattle.grammar.specs.Grammar as g
-use Rattle.grammar.specs.Grammar.{Word, Condition, Figure, Joint, Part, Item, letterOf, arity, mostOf, conditionText, openText}
-use Rattle.grammar.specs.Grammar.{figureText, written, partText, itemText, Within, ConditionFits, FigureFits, Fits, PartFits}
-use Rattle.grammar.specs.Grammar.{ItemFits, noCondition, jointByte}
+use Rattle.grammar.specs.Grammar.{Word, Condition, Figure, Joint, Line, Part, Item, Lines, letterOf, arity, mostOf, conditionText}
+use Rattle.grammar.specs.Grammar.{openText, figureText, lineCount, separator, written, partText, itemText, linesText, Within}
+use Rattle.grammar.specs.Grammar.{ConditionFits, FigureFits, fewestLines, mostLines, Several, Fits, PartFits, ItemFits, LinesFit}
+use Rattle.grammar.specs.Grammar.{noCondition, jointByte}
 use Rattle.grammar.specs.Reading.{Number, fresh, digits, mayGrow, isDigit, grown, grows, Partial, listing, semicolon, lettered}
 use Rattle.grammar.specs.Reading.{counting, Next, goes, closes, stuck, firstLists, withCondition, behind, ending, stepIn, Front, bare}
-use Rattle.grammar.specs.Reading.{eithers, Context, first, next, Config, ready, inside, after, lineOf, filled, shut, within, step}
-use Rattle.grammar.specs.Reading.{numberText, partialText, frontText, contextText, openedText, shown}
+use Rattle.grammar.specs.Reading.{eithers, Context, first, next, Bracket, rounded, among, Config, ready, inside, after, opened}
+use Rattle.grammar.specs.Reading.{numbered, lineOf, filled, shut, parted, ended, within, step, numberText, partialText, frontText}
+use Rattle.grammar.specs.Reading.{contextText, openedText, shown}
 use Rattle.seq.proofs.Laws.Decimal.{decimal-digit, decimal-grow}
 use Rattle.grammar.proofs.Laws.Text.{gap-32, lead-behind}
 use Rattle.grammar.proofs.Laws.Limits.{some-arity}
@@ -243,16 +246,34 @@ abbrev pub ContextFits : Context → Type 0
 ContextFits (first f) = FrontFits f
 ContextFits (next f p j) = FrontFits f × PartFits p
 
--- and so do the contexts of open brackets
-unfoldable pub ContextsFit : List Context → Type 0
-ContextsFit [] = Unit
-ContextsFit (p ∷ ps) = ContextFits p × ContextsFit ps
+-- the number behind `<` is from 1 to 8
+pub record NumberTaken (n : ℕ) : Type 0 where
+  pub some : 1 ≤ n
+  pub few : n ≤ mostLines
+
+-- and the lines behind it are fewer than eight: one more is to come
+pub record AmongFits (n : ℕ) (ls : Lines) : Type 0 where
+  pub number : NumberTaken n
+  pub room : lineCount ls < mostLines
+  pub lines : LinesFit ls
+
+-- an open bracket keeps to the limits
+abbrev pub BracketFits : Bracket → Type 0
+BracketFits (rounded p) = ContextFits p
+BracketFits (among n ls p) = AmongFits n ls × ContextFits p
+
+-- and so do all open brackets
+unfoldable pub BracketsFit : List Bracket → Type 0
+BracketsFit [] = Unit
+BracketsFit (x ∷ ps) = BracketFits x × BracketsFit ps
 
 -- all that has been read keeps to the limits
 abbrev pub Sound : Config → Type 0
-Sound (ready p ps) = ContextFits p × ContextsFit ps
-Sound (inside f p ps) = PartialFits f × ContextFits p × ContextsFit ps
-Sound (after f p ps) = FrontFits f × PartFits p × ContextsFit ps
+Sound (ready p ps) = ContextFits p × BracketsFit ps
+Sound (inside f p ps) = PartialFits f × ContextFits p × BracketsFit ps
+Sound (after f p ps) = FrontFits f × PartFits p × BracketsFit ps
+Sound (opened p ps) = ContextFits p × BracketsFit ps
+Sound (numbered n p ps) = NumberTaken n × ContextFits p × BracketsFit ps
 
 -- what one more byte makes: its text, and the limits
 abbrev pub StepTold : List ℕ → Option Config → Type 0
@@ -271,7 +292,7 @@ unfolding Fits
 line-fits bare p h k = k
 line-fits (eithers l) p h k = (h, k)
 
-filled-text : (p : Context) (i : Item) (ps : List Context) → shown (filled p i ps) ≡ openedText ps ++ (contextText p ++ itemText i)
+filled-text : (p : Context) (i : Item) (ps : List Bracket) → shown (filled p i ps) ≡ openedText ps ++ (contextText p ++ itemText i)
 unfolding shown written
 filled-text (first f) i ps = refl
 filled-text (next f q j) i ps =
@@ -279,7 +300,7 @@ filled-text (next f q j) i ps =
     (ap (λ (l : List ℕ). frontText f ++ l) (sym (append-assoc (partText q) (jointByte j ∷ []) (itemText i)))
     ∙ sym (append-assoc (frontText f) (partText q ++ (jointByte j ∷ [])) (itemText i)))
 
-filled-sound : (p : Context) (i : Item) (ps : List Context) → ContextFits p → ItemFits i → ContextsFit ps → Sound (filled p i ps)
+filled-sound : (p : Context) (i : Item) (ps : List Bracket) → ContextFits p → ItemFits i → BracketsFit ps → Sound (filled p i ps)
 unfolding Fits
 filled-sound (first f) i ps h k m = (h, k, m)
 filled-sound (next f q j) i ps h k m = (h .0, (h .1, k), m)
@@ -288,7 +309,8 @@ filled-sound (next f q j) i ps h k m = (h .0, (h .1, k), m)
 snoc-last : (a c : List ℕ) (b : ℕ) → a ++ (c ++ (b ∷ [])) ≡ (a ++ c) ++ (b ∷ [])
 snoc-last a c b = sym (append-assoc a c (b ∷ []))
 
-inside-told : (f : Next) (p : Context) (ps : List Context) (s : List ℕ) (b : ℕ) → NextTold (s ++ (b ∷ [])) f → ContextFits p → ContextsFit ps
+inside-told : (f : Next) (p : Context) (ps : List Bracket) (s : List ℕ) (b : ℕ) → NextTold (s ++ (b ∷ [])) f → ContextFits p
+    → BracketsFit ps
     → StepTold ((openedText ps ++ (contextText p ++ s)) ++ (b ∷ [])) (within f p ps)
 unfolding shown written Fits
 inside-told (goes f) p ps s b h k m = (
@@ -306,11 +328,12 @@ inside-told (closes f) p ps s b h k m = (
 )
 inside-told stuck p ps s b h k m = tt
 
-shut-told : (f : Front) (q : Part) (ps : List Context) (b : ℕ) → b ≡ 41 → FrontFits f → PartFits q → ContextsFit ps
+shut-told : (f : Front) (q : Part) (ps : List Bracket) (b : ℕ) → b ≡ 41 → FrontFits f → PartFits q → BracketsFit ps
     → StepTold (shown (after f q ps) ++ (b ∷ [])) (shut (lineOf f q) ps)
-unfolding shown written Fits ContextsFit
+unfolding shown written Fits BracketsFit
 shut-told f q [] b e h k m = tt
-shut-told f q (p ∷ ps) b e h k m = (
+shut-told f q (among n ls p ∷ ps) b e h k m = tt
+shut-told f q (rounded p ∷ ps) b e h k m = (
   filled-text p (g.round (lineOf f q)) ps
       ∙ ap (λ (l : List ℕ). openedText ps ++ (contextText p ++ (40 ∷ (l ++ (41 ∷ []))))) (line-text f q)
       ∙ ap (λ (x : ℕ). openedText ps ++ (contextText p ++ (40 ∷ ((frontText f ++ partText q) ++ (x ∷ []))))) (sym e)
@@ -318,9 +341,73 @@ shut-told f q (p ∷ ps) b e h k m = (
   filled-sound p (g.round (lineOf f q)) ps (m .0) (line-fits f q h k) (m .1),
 )
 
+-- lines with one more, and a byte behind them
+lines-text : (ls : Lines) (f : Front) (q : Part) (b : ℕ)
+    → linesText (g.snoc ls (lineOf f q)) ++ (b ∷ []) ≡ (linesText ls ++ (separator ls ∷ [])) ++ ((frontText f ++ partText q) ++ (b ∷ []))
+unfolding written
+lines-text ls f q b = rw (line-text f q) (simp append-assoc)
+
+parted-told : (f : Front) (q : Part) (ps : List Bracket) (b : ℕ) → b ≡ 44 → FrontFits f → PartFits q → BracketsFit ps
+    → StepTold (shown (after f q ps) ++ (b ∷ [])) (parted (lineOf f q) ps)
+unfolding shown BracketsFit Fits lineCount
+parted-told f q [] b e h k m = tt
+parted-told f q (rounded p ∷ ps) b e h k m = tt
+parted-told f q (among n ls p ∷ ps) b e h k m =
+    split (StepTold (shown (after f q (among n ls p ∷ ps)) ++ (b ∷ []))) (ltb (lineCount (g.snoc ls (lineOf f q))) mostLines) _ _
+    (λ t. (
+      append-nil (openedText ps ++ (contextText p ++ (60 ∷ digit n ∷ (linesText (g.snoc ls (lineOf f q)) ++ (44 ∷ [])))))
+          ∙ ap (λ (x : ℕ). openedText ps ++ (contextText p ++ (60 ∷ digit n ∷ (linesText (g.snoc ls (lineOf f q)) ++ (x ∷ []))))) (sym e)
+          ∙ ap (λ (l : List ℕ). openedText ps ++ (contextText p ++ (60 ∷ digit n ∷ l))) (lines-text ls f q b)
+          ∙ simp append-assoc,
+      (tt, ((more t, m .0 .1), m .1)),
+    ))
+    (λ t. tt)
+  where
+    more : ltb (lineCount (g.snoc ls (lineOf f q))) mostLines ≡ true → AmongFits n (g.snoc ls (lineOf f q))
+    more t = record {
+      number = m .0 .0 .number;
+      room = ltb-true (lineCount (g.snoc ls (lineOf f q))) mostLines t;
+      lines = (m .0 .0 .lines, line-fits f q h k);
+    }
+
+-- lines that are enough
+enough-lines : (n : ℕ) (ls : Lines) (l : Line) → AmongFits n ls → leb (max fewestLines n) (lineCount (g.snoc ls l)) ≡ true
+    → Several n (lineCount (g.snoc ls l))
+unfolding lineCount
+enough-lines n ls l h t =
+    let e = leb-true (max fewestLines n) (lineCount (g.snoc ls l)) t in
+    let r = h .room in
+    record { some = h .number .some; enough = omega arith; fewest = omega arith; most = omega arith }
+
+ended-told : (f : Front) (q : Part) (ps : List Bracket) (b : ℕ) → b ≡ 62 → FrontFits f → PartFits q → BracketsFit ps
+    → StepTold (shown (after f q ps) ++ (b ∷ [])) (ended (lineOf f q) ps)
+unfolding shown written Fits BracketsFit
+ended-told f q [] b e h k m = tt
+ended-told f q (rounded p ∷ ps) b e h k m = tt
+ended-told f q (among n ls p ∷ ps) b e h k m =
+    let l = lineOf f q in
+    split (StepTold (shown (after f q (among n ls p ∷ ps)) ++ (b ∷ []))) (leb (max fewestLines n) (lineCount (g.snoc ls l))) _ _
+    (λ t. (
+      filled-text p (g.atLeast n (g.snoc ls l)) ps
+          ∙ ap (λ (x : ℕ). openedText ps ++ (contextText p ++ (60 ∷ digit n ∷ (linesText (g.snoc ls l) ++ (x ∷ []))))) (sym e)
+          ∙ ap (λ (s : List ℕ). openedText ps ++ (contextText p ++ (60 ∷ digit n ∷ s))) (lines-text ls f q b)
+          ∙ simp append-assoc,
+      filled-sound p (g.atLeast n (g.snoc ls l)) ps (m .0 .1)
+          (enough-lines n ls l (m .0 .0) t, (m .0 .0 .lines, line-fits f q h k)) (m .1),
+    ))
+    (λ t. tt)
+
+-- a byte from `1` to `8`
+number-taken : (b : ℕ) → (leb (digit 1) b && leb b (digit mostLines)) ≡ true → NumberTaken (b - 48) × (digit (b - 48) ≡ b)
+number-taken b t =
+    let r = both (leb (digit 1) b) (leb b (digit mostLines)) t in
+    let l = leb-true (digit 1) b (r .0) in
+    let h = leb-true b (digit mostLines) (r .1) in
+    (record { some = omega arith; few = omega arith }, omega arith)
+
 -- one more byte: what has been read is the text with that byte behind it, and keeps to the limits
 pub step-told : (c : Config) (b : ℕ) → Sound c → StepTold (shown c ++ (b ∷ [])) (step c b)
-unfolding step shown partialText ContextsFit Fits written
+unfolding step shown partialText BracketsFit Fits written
 step-told (ready p ps) b h =
     split (StepTold ((openedText ps ++ contextText p) ++ (b ∷ []))) (eqb b 40) _ _
     (λ e. (
@@ -334,7 +421,12 @@ step-told (ready p ps) b h =
       ap (λ (x : ℕ). openedText ps ++ (contextText p ++ (x ∷ []))) (sym (eqb-true b 91 e)) ∙ snoc-last (openedText ps) (contextText p) b,
       (record { numbers = λ i l. absurd (let z : ⊥ = omega arith in z); last = tt }, h .0, h .1),
     ))
-    (λ _. tt))
+    (λ _. split (StepTold ((openedText ps ++ contextText p) ++ (b ∷ []))) (eqb b 60) _ _
+    (λ e. (
+      ap (λ (x : ℕ). openedText ps ++ (contextText p ++ (x ∷ []))) (sym (eqb-true b 60 e)) ∙ snoc-last (openedText ps) (contextText p) b,
+      h,
+    ))
+    (λ _. tt)))
 step-told (inside f p ps) b h = inside-told (stepIn f b) p ps (partialText f) b (stepIn-told f b (h .0)) (h .1) (h .2)
 step-told (after f q ps) b h =
     split (StepTold ((openedText ps ++ (frontText f ++ partText q)) ++ (b ∷ []))) (eqb b 124) _ _
@@ -350,7 +442,11 @@ step-told (after f q ps) b h =
     (λ e. (joint-text g.without e, ((h .0, h .1), h .2)))
     (λ _. split (StepTold ((openedText ps ++ (frontText f ++ partText q)) ++ (b ∷ []))) (eqb b 41) _ _
     (λ e. shut-told f q ps b (eqb-true b 41 e) (h .0) (h .1) (h .2))
-    (λ _. tt))))
+    (λ _. split (StepTold ((openedText ps ++ (frontText f ++ partText q)) ++ (b ∷ []))) (eqb b 44) _ _
+    (λ e. parted-told f q ps b (eqb-true b 44 e) (h .0) (h .1) (h .2))
+    (λ _. split (StepTold ((openedText ps ++ (frontText f ++ partText q)) ++ (b ∷ []))) (eqb b 62) _ _
+    (λ e. ended-told f q ps b (eqb-true b 62 e) (h .0) (h .1) (h .2))
+    (λ _. tt))))))
   where
     joint-text : (j : Joint) → eqb b (jointByte j) ≡ true
         → openedText ps ++ (frontText f ++ (partText q ++ (jointByte j ∷ []))) ≡ (openedText ps ++ (frontText f ++ partText q)) ++ (b ∷ [])
@@ -358,3 +454,18 @@ step-told (after f q ps) b h =
         ap (λ (x : ℕ). openedText ps ++ (frontText f ++ (partText q ++ (x ∷ [])))) (sym (eqb-true b (jointByte j) e))
         ∙ ap (λ (l : List ℕ). openedText ps ++ l) (snoc-last (frontText f) (partText q) b)
         ∙ snoc-last (openedText ps) (frontText f ++ partText q) b
+step-told (opened p ps) b h =
+    split (StepTold ((openedText ps ++ (contextText p ++ (60 ∷ []))) ++ (b ∷ []))) (leb (digit 1) b && leb b (digit mostLines)) _ _
+    (λ t.
+    let w = number-taken b t in
+    (ap (λ (x : ℕ). openedText ps ++ (contextText p ++ (60 ∷ x ∷ []))) (w .1) ∙ simp append-assoc, (w .0, h .0, h .1)))
+    (λ _. tt)
+step-told (numbered n p ps) b h =
+    split (StepTold ((openedText ps ++ (contextText p ++ (60 ∷ digit n ∷ []))) ++ (b ∷ []))) (eqb b 58) _ _
+    (λ e. (
+      append-nil (openedText ps ++ (contextText p ++ (60 ∷ digit n ∷ 58 ∷ [])))
+          ∙ ap (λ (x : ℕ). openedText ps ++ (contextText p ++ (60 ∷ digit n ∷ x ∷ []))) (sym (eqb-true b 58 e))
+          ∙ simp append-assoc,
+      (tt, ((record { number = h .0; room = omega arith; lines = tt }, h .1), h .2)),
+    ))
+    (λ _. tt)

@@ -1,7 +1,7 @@
 -- Dropping a pair of round brackets: a line has none to drop exactly if it is the line of its tree. No contract cites this file.
 --     dropped-inside     a pair dropped inside a longer text
---     dropped-opens      a text without a pair opens one bracket less
---     tight-or-less      a line is that of its tree, or has a pair that could be dropped
+--     dropped-parens     a text without a pair opens one bracket less
+--     line-tight, tight  a line is that of its tree, or has a pair that could be dropped
 --     comes-back         a line's rows are written as the line itself exactly if none could be dropped
 -- Assumes nothing.
 use Prim.Native.Nat.{ℕ, suc, _<_, _≤_}
@@ -10,19 +10,22 @@ use mathlib.Core.Path.{_≡_, refl, sym, ap, ap₂, _∙_, subst}
 use mathlib.Core.Logic.{_⊎_, inl, inr, ⊎-elim, _↔_}
 use mathlib.Core.List.{List, [], _∷_, _++_, map, append-assoc, append-nil}
 use lib.ListN.{length, getD}
-use Rattle.plan.specs.declared.row.Operator.the-variants.{Both, Either, FirstNotSecond}
 use Rattle.plan.specs.Patterns.{noRow}
 use Rattle.plan.specs.Rows.{planOf}
+use Rattle.seq.specs.Decimal.{digit}
 use Rattle.grammar.specs.Grammar as g
-use Rattle.grammar.specs.Grammar.{Word, Condition, Figure, Joint, Line, Part, Item, arity, jointByte, written, partText, itemText}
-use Rattle.grammar.specs.Grammar.{ConditionFits, FigureFits, Fits, PartFits, ItemFits, noCondition}
-use Rattle.grammar.specs.Brackets.{opens, rounds, Dropped, Spare}
-use Rattle.grammar.specs.Meaning.{predicateBy, predicateOf, patternOf, operatorOf, lineRows}
-use Rattle.grammar.specs.Query.{Query, leaf, node, queryRows, queriesFrom, queryOf, lineQuery, partQuery, itemQuery, conditionOf}
-use Rattle.grammar.specs.Query.{figureOf, typed, planLine, planText}
-use Rattle.grammar.proofs.Laws.Query.{line-rows, query-alone, rows-tree, line-fewest}
+use Rattle.grammar.specs.Grammar.{Word, Condition, Figure, Joint, Line, Part, Item, Lines, arity, jointByte, lineCount, separator}
+use Rattle.grammar.specs.Grammar.{written, partText, itemText, linesText, ConditionFits, FigureFits, Several, Fits, PartFits}
+use Rattle.grammar.specs.Grammar.{ItemFits, LinesFit, noCondition}
+use Rattle.grammar.specs.Brackets.{parens, rounds, Dropped, Spare}
+use Rattle.grammar.specs.Meaning.{predicateBy, predicateOf, patternOf, lineRows}
+use Rattle.grammar.specs.declared.tokens.Connective.the-variants as c
+use Rattle.grammar.specs.Query.{Query, leaf, node, threshold, Queries, push, queryCount, queryRows, queriesFrom, queryOf}
+use Rattle.grammar.specs.Query.{connectiveOf, lineQuery, partQuery, itemQuery, linesQueries, conditionOf, figureOf, typed, typedLines}
+use Rattle.grammar.specs.Query.{planLine, planText}
+use Rattle.grammar.proofs.Laws.Query.{lines-count, line-rows, query-alone, rows-tree, line-fewest}
 use Rattle.grammar.proofs.Laws.Words.{line-back}
-use Rattle.grammar.proofs.Laws.Brackets.{opens-append, opens-open, opens-close, line-opens}
+use Rattle.grammar.proofs.Laws.Brackets.{parens-append, parens-open, parens-close, line-parens}
 
 -- a pair dropped inside a longer text
 dropped-inside : (a s t b : List ℕ) → Dropped s t → Dropped (a ++ (s ++ b)) (a ++ (t ++ b))
@@ -47,16 +50,16 @@ dropped-round : (s : List ℕ) → Dropped (40 ∷ (s ++ (41 ∷ []))) s
 dropped-round s = record { front = []; between = s; rest = []; with-pair = refl; without = sym (append-nil s) }
 
 -- a text without a pair opens one bracket less
-pub dropped-opens : (s t : List ℕ) → Dropped s t → opens s ≡ suc (opens t)
-dropped-opens s t d =
-    let a = opens-append (d .front) (40 ∷ (d .between ++ (41 ∷ d .rest))) in
-    let b = opens-open (d .between ++ (41 ∷ d .rest)) in
-    let c = opens-append (d .between) (41 ∷ d .rest) in
-    let e = opens-close (d .rest) in
-    let f = opens-append (d .front) (d .between ++ d .rest) in
-    let h = opens-append (d .between) (d .rest) in
-    let x = ap opens (d .with-pair) in
-    let y = ap opens (d .without) in
+pub dropped-parens : (s t : List ℕ) → Dropped s t → parens s ≡ suc (parens t)
+dropped-parens s t d =
+    let a = parens-append (d .front) (40 ∷ (d .between ++ (41 ∷ d .rest))) in
+    let b = parens-open (d .between ++ (41 ∷ d .rest)) in
+    let c = parens-append (d .between) (41 ∷ d .rest) in
+    let e = parens-close (d .rest) in
+    let f = parens-append (d .front) (d .between ++ d .rest) in
+    let h = parens-append (d .between) (d .rest) in
+    let x = ap parens (d .with-pair) in
+    let y = ap parens (d .without) in
     omega arith
 
 -- a condition of the grammar is typed as it was
@@ -96,7 +99,7 @@ figure-again : (f : Figure) → FigureFits f → figureOf (patternOf f) ≡ f
 figure-again f h =
     ap (λ (cs : List Condition). record { lists = f .lists; conditions = cs }) (conditions-again (f .conditions) (h .conditions))
 
--- a pair that could be dropped, of a line, a part, an item: what is left has the same tree
+-- a pair that could be dropped, of a line, a part, an item, of lines: what is left has the same tree
 record LessLine (l : Line) : Type 0 where
   less : Line
   fits : Fits less
@@ -115,29 +118,38 @@ record LessItem (i : Item) : Type 0 where
   tree : itemQuery less ≡ itemQuery i
   dropped : Dropped (itemText i) (itemText less)
 
+record LessLines (ls : Lines) : Type 0 where
+  less : Lines
+  fits : LinesFit less
+  tree : linesQueries less ≡ linesQueries ls
+  dropped : Dropped (linesText ls) (linesText less)
+
 -- of the three forms of a tree each is the next without brackets, or in them
 line-or : (q : Query) → (typed q .line ≡ g.one (typed q .part)) ⊎ (typed q .part ≡ g.alone (g.round (typed q .line)))
 unfolding typed
 line-or (leaf f) = inl refl
-line-or (node Both a b) = inl refl
-line-or (node Either a b) = inr refl
-line-or (node FirstNotSecond a b) = inl refl
+line-or (node c.And a b) = inl refl
+line-or (node c.Or a b) = inr refl
+line-or (node c.AndNot a b) = inl refl
+line-or (threshold n qs) = inl refl
 
 part-or : (q : Query) → (typed q .part ≡ g.alone (typed q .item)) ⊎ (typed q .item ≡ g.round (g.one (typed q .part)))
 unfolding typed
 part-or (leaf f) = inl refl
-part-or (node Both a b) = inr refl
-part-or (node Either a b) = inl refl
-part-or (node FirstNotSecond a b) = inr refl
+part-or (node c.And a b) = inr refl
+part-or (node c.Or a b) = inl refl
+part-or (node c.AndNot a b) = inr refl
+part-or (threshold n qs) = inl refl
 
 item-or : (q : Query) → (typed q .item ≡ g.round (typed q .line)) ⊎ (typed q .line ≡ g.one (g.alone (typed q .item)))
 unfolding typed
 item-or (leaf f) = inr refl
-item-or (node Both a b) = inl refl
-item-or (node Either a b) = inl refl
-item-or (node FirstNotSecond a b) = inl refl
+item-or (node c.And a b) = inl refl
+item-or (node c.Or a b) = inl refl
+item-or (node c.AndNot a b) = inl refl
+item-or (threshold n qs) = inr refl
 
-join-typed : (j : Joint) (a b : Query) → typed (node (operatorOf j) a b) .part ≡ g.join j (typed a .part) (typed b .item)
+join-typed : (j : Joint) (a b : Query) → typed (node (connectiveOf j) a b) .part ≡ g.join j (typed a .part) (typed b .item)
 unfolding typed
 join-typed g.both a b = refl
 join-typed g.without a b = refl
@@ -181,7 +193,7 @@ unfolding written Fits lineQuery
 less-either-line l p h w = record {
   less = g.either (w .less) p;
   fits = (w .fits, h);
-  tree = ap (λ (q : Query). node Either q (partQuery p)) (w .tree);
+  tree = ap (λ (q : Query). node c.Or q (partQuery p)) (w .tree);
   dropped = dropped-inside [] (written l) (written (w .less)) (124 ∷ partText p) (w .dropped);
 }
 
@@ -200,7 +212,7 @@ unfolding written Fits lineQuery
 less-either-part l p h w = record {
   less = g.either l (w .less);
   fits = (h, w .fits);
-  tree = ap (λ (q : Query). node Either (lineQuery l) q) (w .tree);
+  tree = ap (λ (q : Query). node c.Or (lineQuery l) q) (w .tree);
   dropped = dropped-after (written l) 124 (partText p) (partText (w .less)) (w .dropped);
 }
 
@@ -213,7 +225,7 @@ unfolding written Fits lineQuery
 less-join-part j p i h w = record {
   less = g.join j (w .less) i;
   fits = (w .fits, h);
-  tree = ap (λ (q : Query). node (operatorOf j) q (itemQuery i)) (w .tree);
+  tree = ap (λ (q : Query). node (connectiveOf j) q (itemQuery i)) (w .tree);
   dropped = dropped-inside [] (partText p) (partText (w .less)) (jointByte j ∷ itemText i) (w .dropped);
 }
 
@@ -222,7 +234,7 @@ unfolding written Fits lineQuery
 less-join-item j p i h w = record {
   less = g.join j p (w .less);
   fits = (h, w .fits);
-  tree = ap (λ (q : Query). node (operatorOf j) (partQuery p) q) (w .tree);
+  tree = ap (λ (q : Query). node (connectiveOf j) (partQuery p) q) (w .tree);
   dropped = dropped-after (partText p) (jointByte j) (itemText i) (itemText (w .less)) (w .dropped);
 }
 
@@ -233,6 +245,47 @@ less-round l w = record {
   fits = w .fits;
   tree = w .tree;
   dropped = dropped-inside (40 ∷ []) (written l) (written (w .less)) (41 ∷ []) (w .dropped);
+}
+
+-- as many lines are left, so the same byte stands in front of the next one
+less-count : (ls : Lines) → (w : LessLines ls) → lineCount (w .less) ≡ lineCount ls
+less-count ls w = lines-count (w .less) ∙ ap queryCount (w .tree) ∙ sym (lines-count ls)
+
+separator-same : (a b : Lines) → lineCount a ≡ lineCount b → separator a ≡ separator b
+unfolding lineCount
+separator-same g.nil g.nil e = refl
+separator-same g.nil (g.snoc b m) e = absurd (let z : ⊥ = omega arith in z)
+separator-same (g.snoc a l) g.nil e = absurd (let z : ⊥ = omega arith in z)
+separator-same (g.snoc a l) (g.snoc b m) e = refl
+
+less-snoc-lines : (ls : Lines) (l : Line) → Fits l → LessLines ls → LessLines (g.snoc ls l)
+unfolding written Fits lineQuery
+less-snoc-lines ls l h w = record {
+  less = g.snoc (w .less) l;
+  fits = (w .fits, h);
+  tree = ap (λ (qs : Queries). push qs (lineQuery l)) (w .tree);
+  dropped =
+      subst (λ (b : ℕ). Dropped (linesText ls ++ (separator ls ∷ written l)) (linesText (w .less) ++ (b ∷ written l)))
+      (sym (separator-same (w .less) ls (less-count ls w)))
+      (dropped-inside [] (linesText ls) (linesText (w .less)) (separator ls ∷ written l) (w .dropped));
+}
+
+less-snoc-line : (ls : Lines) (l : Line) → LinesFit ls → LessLine l → LessLines (g.snoc ls l)
+unfolding written Fits lineQuery
+less-snoc-line ls l h w = record {
+  less = g.snoc ls (w .less);
+  fits = (h, w .fits);
+  tree = ap (λ (q : Query). push (linesQueries ls) q) (w .tree);
+  dropped = dropped-after (linesText ls) (separator ls) (written l) (written (w .less)) (w .dropped);
+}
+
+less-at-least : (n : ℕ) (ls : Lines) → Several n (lineCount ls) → LessLines ls → LessItem (g.atLeast n ls)
+unfolding written Fits lineQuery
+less-at-least n ls h w = record {
+  less = g.atLeast n (w .less);
+  fits = (subst (Several n) (sym (less-count ls w)) h, w .fits);
+  tree = ap (threshold n) (w .tree);
+  dropped = dropped-inside (60 ∷ digit n ∷ []) (linesText ls) (linesText (w .less)) (62 ∷ []) (w .dropped);
 }
 
 -- tight forms put together
@@ -266,9 +319,21 @@ round-tight l h e =
     (item-round (typed (lineQuery l) .item) (unround-item (typed (lineQuery l) .item) (subst Fits y h)))))
     (item-or (lineQuery l))
 
-either-typed : (a b : Query) → typed (node Either a b) .line ≡ g.either (typed a .line) (typed b .part)
+either-typed : (a b : Query) → typed (node c.Or a b) .line ≡ g.either (typed a .line) (typed b .part)
 unfolding typed
 either-typed a b = refl
+
+at-least-typed : (n : ℕ) (qs : Queries) → typed (threshold n qs) .item ≡ g.atLeast n (typedLines qs)
+unfolding typed
+at-least-typed n qs = refl
+
+nil-typed : g.nil ≡ typedLines (linesQueries g.nil)
+unfolding typed lineQuery
+nil-typed = refl
+
+snoc-typed : (qs : Queries) (q : Query) → typedLines (push qs q) ≡ g.snoc (typedLines qs) (typed q .line)
+unfolding typed
+snoc-typed qs q = refl
 
 leaf-typed : (f : Figure) → FigureFits f → g.figure f ≡ typed (leaf (patternOf f)) .item
 unfolding typed
@@ -300,6 +365,21 @@ mutual
   item-tight : (i : Item) → ItemFits i → (i ≡ typed (itemQuery i) .item) ⊎ LessItem i
   item-tight (g.figure f) h = inl (leaf-typed f h)
   item-tight (g.round l) h = ⊎-elim (round-tight l h) (λ (w : LessLine l). inr (less-round l w)) (line-tight l h)
+  item-tight (g.atLeast n ls) h =
+      ⊎-elim
+      (λ (e : ls ≡ typedLines (linesQueries ls)). inl (ap (g.atLeast n) e ∙ sym (at-least-typed n (linesQueries ls))))
+      (λ (w : LessLines ls). inr (less-at-least n ls (h .0) w))
+      (lines-tight ls (h .1))
+
+  lines-tight : (ls : Lines) → LinesFit ls → (ls ≡ typedLines (linesQueries ls)) ⊎ LessLines ls
+  lines-tight g.nil h = inl nil-typed
+  lines-tight (g.snoc ls l) h =
+      ⊎-elim
+      (λ (x : ls ≡ typedLines (linesQueries ls)). ⊎-elim
+      (λ (y : l ≡ typed (lineQuery l) .line). inl (ap₂ g.snoc x y ∙ sym (snoc-typed (linesQueries ls) (lineQuery l))))
+      (λ (w : LessLine l). inr (less-snoc-line ls l (h .0) w)) (line-tight l (h .1)))
+      (λ (w : LessLines ls). inr (less-snoc-lines ls l (h .1) w))
+      (lines-tight ls (h .0))
 
 -- a line is that of its tree, or has a pair to spare
 less-spare : (l : Line) → (w : LessLine l) → Spare l (written (w .less))
@@ -322,10 +402,10 @@ none-spare q t s e =
     let rows = sym (line-rows l) ∙ s .rows ∙ line-rows (typed q .line) in
     let same : lineQuery l ≡ q = rows-tree (lineQuery l) (lineQuery (typed q .line)) rows ∙ e in
     let few : rounds (typed q .line) ≤ rounds l = subst (λ (x : Query). rounds (typed x .line) ≤ rounds l) same (line-fewest l) in
-    let a = line-opens (typed q .line) in
-    let b = line-opens (s .line) in
-    let c = ap opens (s .text) in
-    let d = dropped-opens (written (typed q .line)) t (s .dropped) in
+    let a = line-parens (typed q .line) in
+    let b = line-parens (s .line) in
+    let c = ap parens (s .text) in
+    let d = dropped-parens (written (typed q .line)) t (s .dropped) in
     omega arith
 
 -- the tree of a line's rows is the line's
@@ -347,9 +427,9 @@ comes-back l h = (there, λ none. ap written (plan-of-line l h ∙ sym (tight l 
     there e t s =
         let same = rows-tree (lineQuery (s .line)) (lineQuery l) (sym (line-rows (s .line)) ∙ s .rows ∙ line-rows l) in
         let few = subst (λ (x : Query). rounds (typed x .line) ≤ rounds (s .line)) same (line-fewest (s .line)) in
-        let a = line-opens (typed (lineQuery l) .line) in
-        let b = line-opens (s .line) in
-        let c = ap opens (s .text) in
-        let d = dropped-opens (written l) t (s .dropped) in
-        let f = ap opens (ap written (sym (plan-of-line l h)) ∙ e) in
+        let a = line-parens (typed (lineQuery l) .line) in
+        let b = line-parens (s .line) in
+        let c = ap parens (s .text) in
+        let d = dropped-parens (written l) t (s .dropped) in
+        let f = ap parens (ap written (sym (plan-of-line l h)) ∙ e) in
         omega arith

@@ -2,16 +2,17 @@
 --     Steps, stay, hop, steps-append     a text leads from one configuration to another, with few brackets open
 --     more-numbers, lists-led, condition-led, figure-steps     through numbers, and through a figure
 --     frontOf, lastOf, line-again        a line, taken apart at its last part
---     line-steps, part-steps, item-steps     through lines, parts and items
+--     linesRead                          behind `<`, its number and lines
+--     line-steps, part-steps, item-steps, lines-steps     through lines, parts and items
 -- Assumes nothing.
-use Prim.Native.Nat.{ℕ, zero, suc, _+_, _/_, _%_, _<_, _≤_}
+use Prim.Native.Nat.{ℕ, zero, suc, _+_, _-_, _/_, _%_, _<_, _≤_, max}
 use native.Mathlib.Omega.{arith}
 use mathlib.Core.Path.{_≡_, refl, sym, ap, _∙_, subst}
-use mathlib.Core.Bool.{true}
+use mathlib.Core.Bool.{true, cond}
 use mathlib.Core.Logic.{⊎-elim}
 use mathlib.Core.List.{List, [], _∷_, _++_, map, append-assoc, append-nil}
-use mathlib.Core.Option.{some}
-use lib.Dec.{leb}
+use mathlib.Core.Option.{none, some}
+use lib.Dec.{leb, ltb}
 use lib.ListN.{length, getD}
 use borrow.Author.Tests.{lt-ltb, le-ltb, le-leb}
 use Rattle.seq.specs.Lists.{joined}
@@ -20,20 +21,22 @@ use Rattle.seq.proofs.Laws.Lists.{length-snoc}
 use Rattle.seq.specs.Decimal.{digit, decimalF, decimal}
 use Rattle.grammar.specs.Text.{lead}
 use Rattle.grammar.specs.Grammar as g
-use Rattle.grammar.specs.Grammar.{Word, Condition, Figure, Joint, Line, Part, Item, arity, mostOf, letterOf, jointByte, conditionText}
-use Rattle.grammar.specs.Grammar.{openText, figureText, written, partText, itemText, Within, ConditionFits, FigureFits, PartFits}
-use Rattle.grammar.specs.Grammar.{ItemFits, Fits, noCondition}
-use Rattle.grammar.specs.Brackets.{depth, partDepth, itemDepth}
+use Rattle.grammar.specs.Grammar.{Word, Condition, Figure, Joint, Line, Part, Item, Lines, arity, mostOf, letterOf, jointByte}
+use Rattle.grammar.specs.Grammar.{conditionText, openText, figureText, lineCount, separator, written, partText, itemText, linesText}
+use Rattle.grammar.specs.Grammar.{Within, ConditionFits, FigureFits, fewestLines, mostLines, Several, PartFits, ItemFits, LinesFit}
+use Rattle.grammar.specs.Grammar.{Fits, noCondition}
+use Rattle.grammar.specs.Brackets.{depth, partDepth, itemDepth, linesDepth}
 use Rattle.grammar.specs.Reading.{Number, fresh, digits, grown, grows, mayGrow, isDigit, Partial, listing, semicolon, lettered}
 use Rattle.grammar.specs.Reading.{counting, Next, goes, closes, firstLists, withCondition, behind, stepIn, Front, bare, eithers}
-use Rattle.grammar.specs.Reading.{Context, first, next, Config, ready, inside, after, lineOf, filled, within, step, openIn}
+use Rattle.grammar.specs.Reading.{Context, first, next, Bracket, rounded, among, Config, ready, inside, after, opened, numbered}
+use Rattle.grammar.specs.Reading.{lineOf, filled, within, step, openIn}
 use Rattle.seq.proofs.Laws.Decimal.{decimal-one, decimal-more}
 use Rattle.grammar.proofs.Laws.Limits.{some-arity}
 
 -- from c the text s leads to d, with never more than n brackets open
 unfoldable pub Steps : ℕ → Config → List ℕ → Config → Type 0
 Steps n c [] d = c ≡ d
-Steps n c (b ∷ s) d = (x : Config) × (step c b ≡ some x) × (length (openIn x) ≤ n) × Steps n x s d
+Steps n c (b ∷ s) d = (x : Config) × (step c b ≡ some x) × (openIn x ≤ n) × Steps n x s d
 
 -- no byte
 pub stay : (n : ℕ) (c : Config) → Steps n c [] c
@@ -41,7 +44,7 @@ unfolding Steps
 stay n c = refl
 
 -- one byte
-pub hop : (n : ℕ) (c : Config) (b : ℕ) (d : Config) → step c b ≡ some d → length (openIn d) ≤ n → Steps n c (b ∷ []) d
+pub hop : (n : ℕ) (c : Config) (b : ℕ) (d : Config) → step c b ≡ some d → openIn d ≤ n → Steps n c (b ∷ []) d
 unfolding Steps
 hop n c b d e h = (d, e, h, refl)
 
@@ -53,12 +56,12 @@ steps-append n c [] d r e p q = subst (λ (x : Config). Steps n x r e) (sym p) q
 steps-append n c (b ∷ s) d r e p q = (p .0, p .1, p .2, steps-append n (p .0) s d r e (p .3) q)
 
 -- an item in its context leaves the open brackets as they are
-pub filled-open : (p : Context) (i : Item) (ps : List Context) → openIn (filled p i ps) ≡ ps
+pub filled-open : (p : Context) (i : Item) (ps : List Bracket) → openIn (filled p i ps) ≡ length ps
 filled-open (first f) i ps = refl
 filled-open (next f q j) i ps = refl
 
 -- in a figure
-module _ (n : ℕ) (p : Context) (ps : List Context) (room : length ps ≤ n) where
+module _ (n : ℕ) (p : Context) (ps : List Bracket) (room : length ps ≤ n) where
   In : Partial → List ℕ → Partial → Type 0
   In f s h = Steps n (inside f p ps) s (inside h p ps)
 
@@ -74,7 +77,7 @@ grows-true most x b l h m s =
     (both-true (mayGrow x) _ m (le-leb (grown x b) most s))
 
 -- numbers, one behind the other: H holds those before and the one that is read
-module _ (n : ℕ) (p : Context) (ps : List Context) (room : length ps ≤ n) (H : List ℕ → Number → Partial) (most : ℕ → ℕ) (total : ℕ)
+module _ (n : ℕ) (p : Context) (ps : List Bracket) (room : length ps ≤ n) (H : List ℕ → Number → Partial) (most : ℕ → ℕ) (total : ℕ)
     (grow : (ns : List ℕ) (x : Number) (b : ℕ) → grows (most (length ns)) x b ≡ true → stepIn (H ns x) b ≡ goes (H ns (digits (grown x b))))
     (gap : (ns : List ℕ) (k : ℕ) → length ns + 1 < total → stepIn (H ns (digits k)) 32 ≡ goes (H (behind ns k) fresh)) where
   -- through the digits of a number
@@ -153,7 +156,7 @@ record Whole (x : Partial) (f : Figure) : Type 0 where
   end : stepIn x 93 ≡ closes f
 
 -- a text leads to where a figure may end
-record Led (n : ℕ) (c : Config) (s : List ℕ) (p : Context) (ps : List Context) (f : Figure) : Type 0 where
+record Led (n : ℕ) (c : Config) (s : List ℕ) (p : Context) (ps : List Bracket) (f : Figure) : Type 0 where
   at : Partial
   whole : Whole at f
   steps : Steps n c s (inside at p ps)
@@ -201,7 +204,7 @@ lettered-goes : (f : Figure) (w : Word) → stepIn (lettered f w) 32 ≡ goes (c
 unfolding stepIn
 lettered-goes f w = refl
 
-module _ (n : ℕ) (p : Context) (ps : List Context) (room : length ps ≤ n) where
+module _ (n : ℕ) (p : Context) (ps : List Bracket) (room : length ps ≤ n) where
   -- the list numbers of a figure
   lists-led : (ns : List ℕ) → 1 ≤ length ns → Within (λ i. 65536) ns → Led n (ready p ps) (lead 91 ns) p ps (firstLists ns)
   unfolding lead step
@@ -316,30 +319,68 @@ pub line-again : (l : Line) → lineOf (frontOf l) (lastOf l) ≡ l
 line-again (g.one q) = refl
 line-again (g.either l q) = refl
 
-joint-step : (f : Front) (q : Part) (j : Joint) (ps : List Context) → step (after f q ps) (jointByte j) ≡ some (ready (next f q j) ps)
+joint-step : (f : Front) (q : Part) (j : Joint) (ps : List Bracket) → step (after f q ps) (jointByte j) ≡ some (ready (next f q j) ps)
 unfolding step
 joint-step f q g.both ps = refl
 joint-step f q g.without ps = refl
 
-shut-step : (l : Line) (p : Context) (ps : List Context) → step (after (frontOf l) (lastOf l) (p ∷ ps)) 41 ≡ some (filled p (g.round l) ps)
+shut-step : (l : Line) (p : Context) (ps : List Bracket)
+    → step (after (frontOf l) (lastOf l) (rounded p ∷ ps)) 41 ≡ some (filled p (g.round l) ps)
 unfolding step
 shut-step (g.one q) p ps = refl
 shut-step (g.either l q) p ps = refl
 
-either-step : (l : Line) (ps : List Context) → step (after (frontOf l) (lastOf l) ps) 124 ≡ some (ready (first (eithers l)) ps)
+either-step : (l : Line) (ps : List Bracket) → step (after (frontOf l) (lastOf l) ps) 124 ≡ some (ready (first (eithers l)) ps)
 unfolding step
 either-step (g.one q) ps = refl
 either-step (g.either l q) ps = refl
 
-open-step : (p : Context) (ps : List Context) → step (ready p ps) 40 ≡ some (ready (first bare) (p ∷ ps))
+open-step : (p : Context) (ps : List Bracket) → step (ready p ps) 40 ≡ some (ready (first bare) (rounded p ∷ ps))
 unfolding step
 open-step p ps = refl
 
+angle-step : (p : Context) (ps : List Bracket) → step (ready p ps) 60 ≡ some (opened p ps)
+unfolding step
+angle-step p ps = refl
+
+number-step : (n : ℕ) (p : Context) (ps : List Bracket) → 1 ≤ n → n ≤ mostLines → step (opened p ps) (digit n) ≡ some (numbered n p ps)
+unfolding step
+number-step n p ps l h =
+    let e : digit n - 48 ≡ n = omega arith in
+    rw (le-leb (digit 1) (digit n) (omega arith), le-leb (digit n) (digit mostLines) (omega arith), e)
+
+-- behind `<`, its number and lines
+abbrev pub linesRead : ℕ → Context → List Bracket → Lines → Config
+linesRead n p ps g.nil = numbered n p ps
+linesRead n p ps (g.snoc ls l) = after (frontOf l) (lastOf l) (among n ls p ∷ ps)
+
+-- another line may follow
+separator-step : (ls : Lines) (n : ℕ) (p : Context) (ps : List Bracket) → lineCount ls < mostLines
+    → step (linesRead n p ps ls) (separator ls) ≡ some (ready (first bare) (among n ls p ∷ ps))
+unfolding step
+separator-step g.nil n p ps h = refl
+separator-step (g.snoc ls l) n p ps h =
+    ap (λ (m : Line). cond (ltb (lineCount (g.snoc ls l)) mostLines) (some (ready (first bare) (among n (g.snoc ls m) p ∷ ps))) none)
+    (line-again l)
+    ∙ rw (lt-ltb (lineCount (g.snoc ls l)) mostLines h)
+
+-- `>` may follow
+end-step : (ls : Lines) (n : ℕ) (p : Context) (ps : List Bracket) → Several n (lineCount ls)
+    → step (linesRead n p ps ls) 62 ≡ some (filled p (g.atLeast n ls) ps)
+unfolding step lineCount
+end-step g.nil n p ps h = absurd (let f = h .fewest in let z : ⊥ = omega arith in z)
+end-step (g.snoc ls l) n p ps h =
+    let e = h .enough in
+    let f = h .fewest in
+    ap (λ (m : Line). cond (leb (max fewestLines n) (lineCount (g.snoc ls l))) (some (filled p (g.atLeast n (g.snoc ls m)) ps)) none)
+    (line-again l)
+    ∙ rw (le-leb (max fewestLines n) (lineCount (g.snoc ls l)) (omega arith))
+
 -- through lines, parts and items
 mutual
-  unfolding written Fits depth
+  unfolding written Fits depth lineCount
 
-  pub line-steps : (l : Line) (n : ℕ) (ps : List Context) → Fits l → length ps + depth l ≤ n
+  pub line-steps : (l : Line) (n : ℕ) (ps : List Bracket) → Fits l → length ps + depth l ≤ n
       → Steps n (ready (first bare) ps) (written l) (after (frontOf l) (lastOf l) ps)
   line-steps (g.one q) n ps h r = part-steps q n bare ps h r
   line-steps (g.either l q) n ps h r =
@@ -349,7 +390,7 @@ mutual
       (hop n (after (frontOf l) (lastOf l) ps) 124 (ready (first (eithers l)) ps) (either-step l ps) (omega arith))
       (part-steps q n (eithers l) ps (h .1) (omega arith)))
 
-  pub part-steps : (q : Part) (n : ℕ) (f : Front) (ps : List Context) → PartFits q → length ps + partDepth q ≤ n
+  pub part-steps : (q : Part) (n : ℕ) (f : Front) (ps : List Bracket) → PartFits q → length ps + partDepth q ≤ n
       → Steps n (ready (first f) ps) (partText q) (after f q ps)
   part-steps (g.alone i) n f ps h r = item-steps i n (first f) ps h r
   part-steps (g.join j q i) n f ps h r =
@@ -359,13 +400,39 @@ mutual
       (hop n (after f q ps) (jointByte j) (ready (next f q j) ps) (joint-step f q j ps) (omega arith))
       (item-steps i n (next f q j) ps (h .1) (omega arith)))
 
-  pub item-steps : (i : Item) (n : ℕ) (p : Context) (ps : List Context) → ItemFits i → length ps + itemDepth i ≤ n
+  pub item-steps : (i : Item) (n : ℕ) (p : Context) (ps : List Bracket) → ItemFits i → length ps + itemDepth i ≤ n
       → Steps n (ready p ps) (itemText i) (filled p i ps)
   item-steps (g.figure f) n p ps h r = figure-steps n p ps (omega arith) f h
   item-steps (g.round l) n p ps h r =
-      steps-append n (ready p ps) (40 ∷ []) (ready (first bare) (p ∷ ps)) (written l ++ (41 ∷ [])) (filled p (g.round l) ps)
-      (hop n (ready p ps) 40 (ready (first bare) (p ∷ ps)) (open-step p ps) (omega arith))
-      (steps-append n (ready (first bare) (p ∷ ps)) (written l) (after (frontOf l) (lastOf l) (p ∷ ps)) (41 ∷ []) (filled p (g.round l) ps)
-      (line-steps l n (p ∷ ps) h (omega arith))
-      (hop n (after (frontOf l) (lastOf l) (p ∷ ps)) 41 (filled p (g.round l) ps) (shut-step l p ps)
+      steps-append n (ready p ps) (40 ∷ []) (ready (first bare) (rounded p ∷ ps)) (written l ++ (41 ∷ [])) (filled p (g.round l) ps)
+      (hop n (ready p ps) 40 (ready (first bare) (rounded p ∷ ps)) (open-step p ps) (omega arith))
+      (steps-append n (ready (first bare) (rounded p ∷ ps)) (written l) (after (frontOf l) (lastOf l) (rounded p ∷ ps)) (41 ∷ [])
+      (filled p (g.round l) ps)
+      (line-steps l n (rounded p ∷ ps) h (omega arith))
+      (hop n (after (frontOf l) (lastOf l) (rounded p ∷ ps)) 41 (filled p (g.round l) ps) (shut-step l p ps)
       (rw (filled-open p (g.round l) ps) (omega arith))))
+  item-steps (g.atLeast k ls) n p ps h r =
+      let e = h .0 .enough in
+      let m = h .0 .most in
+      steps-append n (ready p ps) (60 ∷ []) (opened p ps) (digit k ∷ (linesText ls ++ (62 ∷ []))) (filled p (g.atLeast k ls) ps)
+      (hop n (ready p ps) 60 (opened p ps) (angle-step p ps) (omega arith))
+      (steps-append n (opened p ps) (digit k ∷ []) (numbered k p ps) (linesText ls ++ (62 ∷ [])) (filled p (g.atLeast k ls) ps)
+      (hop n (opened p ps) (digit k) (numbered k p ps) (number-step k p ps (h .0 .some) (omega arith)) (omega arith))
+      (steps-append n (numbered k p ps) (linesText ls) (linesRead k p ps ls) (62 ∷ []) (filled p (g.atLeast k ls) ps)
+      (lines-steps ls n k p ps (h .1) m (omega arith))
+      (hop n (linesRead k p ps ls) 62 (filled p (g.atLeast k ls) ps) (end-step ls k p ps (h .0))
+      (rw (filled-open p (g.atLeast k ls) ps) (omega arith)))))
+
+  pub lines-steps : (ls : Lines) (n k : ℕ) (p : Context) (ps : List Bracket) → LinesFit ls → lineCount ls ≤ mostLines
+      → length ps + suc (linesDepth ls) ≤ n
+      → Steps n (numbered k p ps) (linesText ls) (linesRead k p ps ls)
+  lines-steps g.nil n k p ps h m r = stay n (numbered k p ps)
+  lines-steps (g.snoc ls l) n k p ps h m r =
+      steps-append n (numbered k p ps) (linesText ls) (linesRead k p ps ls) (separator ls ∷ written l)
+      (after (frontOf l) (lastOf l) (among k ls p ∷ ps))
+      (lines-steps ls n k p ps (h .0) (omega arith) (omega arith))
+      (steps-append n (linesRead k p ps ls) (separator ls ∷ []) (ready (first bare) (among k ls p ∷ ps)) (written l)
+      (after (frontOf l) (lastOf l) (among k ls p ∷ ps))
+      (hop n (linesRead k p ps ls) (separator ls) (ready (first bare) (among k ls p ∷ ps)) (separator-step ls k p ps (omega arith))
+      (omega arith))
+      (line-steps l n (among k ls p ∷ ps) (h .1) (omega arith)))

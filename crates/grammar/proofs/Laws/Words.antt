@@ -19,18 +19,18 @@ use Rattle.plan.specs.declared.row.Kind.{Kind}
 use Rattle.plan.specs.declared.row.Kind.the-variants as kind
 use Rattle.plan.specs.declared.row.Predicate.the-variants.{Distance, Ordered, Samepara, Window, Proximity}
 use Rattle.plan.specs.declared.row.Operator.{Operator}
-use Rattle.plan.specs.declared.row.Operator.the-variants.{Both, Either, FirstNotSecond}
+use Rattle.plan.specs.declared.row.Operator.the-variants.{Both, Either, FirstNotSecond, AtLeast}
 use Rattle.plan.specs.declared.row.Row.{Row}
 use Rattle.plan.specs.Limits.{leastUnit}
 use Rattle.plan.specs.Parts.{patternRows}
 use Rattle.plan.specs.Rows.{rowAt, rowOf, rowsOf, kindOf, wordsOf, planOf}
 use Rattle.fulltext.specs.Documents.{workOf, work, matching, docsIn}
 use Rattle.grammar.specs.Grammar as g
-use Rattle.grammar.specs.Grammar.{Word, Condition, Figure, Line, Part, Item, arity, ConditionFits, FigureFits, Fits, PartFits}
-use Rattle.grammar.specs.Grammar.{ItemFits, noCondition}
+use Rattle.grammar.specs.Grammar.{Word, Condition, Figure, Line, Part, Item, Lines, arity, lineCount, ConditionFits, FigureFits}
+use Rattle.grammar.specs.Grammar.{Fits, PartFits, ItemFits, LinesFit, noCondition}
 use Rattle.grammar.specs.Demands.{Meant}
 use Rattle.grammar.specs.Meaning.{predicateBy, predicateOf, patternOf, operatorOf, operatorRow, lineRows, partRows, itemRows}
-use Rattle.grammar.specs.Meaning.{lineTrue}
+use Rattle.grammar.specs.Meaning.{linesRows, lineTrue}
 use Rattle.grammar.proofs.Laws.Query.{voice, condition, end, meaning}
 
 -- four words of a row
@@ -45,6 +45,7 @@ words-four kind.End = refl
 words-four (kind.Operator Both) = refl
 words-four (kind.Operator Either) = refl
 words-four (kind.Operator FirstNotSecond) = refl
+words-four (kind.Operator (AtLeast least of)) = refl
 
 -- rows have four words each
 pub plan-length : (rs : List Row) → length (planOf rs) ≡ 4 * length rs
@@ -71,6 +72,10 @@ unfoldable AllPacked : List Row → Type 0
 AllPacked [] = Unit
 AllPacked (r ∷ rs) = Packed (r .kind) × AllPacked rs
 
+packed-none : AllPacked []
+unfolding AllPacked
+packed-none = tt
+
 packed-append : (rs ss : List Row) → AllPacked rs → AllPacked ss → AllPacked (rs ++ ss)
 unfolding AllPacked
 packed-append [] ss h k = k
@@ -94,6 +99,7 @@ kind-back kind.End h = refl
 kind-back (kind.Operator Both) h = refl
 kind-back (kind.Operator Either) h = refl
 kind-back (kind.Operator FirstNotSecond) h = refl
+kind-back (kind.Operator (AtLeast least of)) h = refl
 
 here : (k : Kind) (q : List ℕ) → Packed k → rowAt (wordsOf k ++ q) 0 ≡ record { kind = k }
 unfolding rowAt
@@ -184,6 +190,13 @@ mutual
   item-packed : (i : Item) → ItemFits i → AllPacked (itemRows i)
   item-packed (g.figure f) h = figure-packed f h
   item-packed (g.round l) h = line-packed l h
+  item-packed (g.atLeast n ls) h =
+      let o = AtLeast n (lineCount ls) in
+      packed-append (linesRows ls) (operatorRow o) (lines-packed ls (h .1)) (operator-packed o)
+
+  lines-packed : (ls : Lines) → LinesFit ls → AllPacked (linesRows ls)
+  lines-packed g.nil h = packed-none
+  lines-packed (g.snoc ls l) h = packed-append (linesRows ls) (lineRows l) (lines-packed ls (h .0)) (line-packed l (h .1))
 
 -- the words of a line's rows are read as these rows
 pub line-back : (l : Line) → Fits l → rowsOf (planOf (lineRows l)) ≡ lineRows l

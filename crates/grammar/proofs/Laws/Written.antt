@@ -4,13 +4,15 @@
 -- Assumes nothing.
 use Prim.Native.Nat.{ℕ, _+_, _≤_}
 use native.Mathlib.Omega.{arith}
-use mathlib.Core.Path.{_≡_, refl, sym, ap, _∙_}
+use mathlib.Core.Path.{_≡_, refl, sym, ap, ap₂, _∙_}
 use mathlib.Core.Bool.{false, true≢false}
 use mathlib.Core.List.{List, [], _∷_, _++_, map, append-assoc, append-nil, map-append}
-use lib.ListN.{length, getD}
+use lib.ListN.{length, getD, take, drop, length-drop}
+use lib.Seq.{length-take-le}
 use Rattle.seq.proofs.Laws.Lists.{length-snoc}
 use Rattle.plan.specs.declared.row.Predicate.{Predicate}
 use Rattle.plan.specs.declared.row.Operator.{Operator}
+use Rattle.plan.specs.declared.row.Operator.the-variants.{Both, Either, FirstNotSecond, AtLeast}
 use Rattle.plan.specs.declared.row.Kind.{Kind}
 use Rattle.plan.specs.declared.row.Kind.the-variants as kind
 use Rattle.plan.specs.declared.row.Row.{Row}
@@ -19,13 +21,15 @@ use Rattle.plan.specs.Rows.{rowsOf}
 use Rattle.plan.specs.State.{initial, after, afterAll, stateAt, takes}
 use Rattle.plan.specs.Patterns.{Pattern, noRow, openAfter}
 use Rattle.plan.specs.Parts.{patternRows}
-use Rattle.plan.proofs.Laws.State.{condition-stands, operator-stands, takes-two}
+use Rattle.plan.proofs.Laws.State.{condition-stands, operator-stands}
 use Rattle.plan.proofs.Laws.Patterns.{Passes, PassAll}
 use Rattle.plan.proofs.Laws.Passed.{Passed}
 use Rattle.plan.proofs.Laws.Given.{all-pass}
 use Rattle.grammar.specs.Meaning.{operatorRow}
-use Rattle.grammar.specs.Query.{Query, leaf, queryRows, stackRows, topTwo, queriesAfter, queriesFrom, queryOf}
-use Rattle.grammar.proofs.Laws.Query.{voice, condition, end}
+use Rattle.grammar.specs.declared.tokens.Connective.the-variants as c
+use Rattle.grammar.specs.Query.{Connective, Query, leaf, operatorFor, queryRows, queriesRows, stackRows, gathered}
+use Rattle.grammar.specs.Query.{queriesAfter, queriesFrom, queryOf}
+use Rattle.grammar.proofs.Laws.Query.{voice, condition, end, topped-two, count-gathered, stack-gathered}
 
 -- the rows of a pattern without END
 abbrev openRows : Pattern → List Row
@@ -48,25 +52,59 @@ record Row-stacked (s : State) (f : Pattern) (qs : List Query) (k : Kind) : Type
   next : Stacked (after s k) (openAfter f k) (queriesAfter f qs k)
   rows : stackRows (queriesAfter f qs k) ++ openRows (openAfter f k) ≡ (stackRows qs ++ openRows f) ++ (record { kind = k } ∷ [])
 
-operator-stacked : (o : Operator) (s : State) (f : Pattern) (qs : List Query) → s .vars ≡ 0 → 2 ≤ length qs → Stacked s f qs
-    → Row-stacked s f qs (kind.Operator o)
+takes-two : (k : Connective) → takes (operatorFor k) ≡ 2
+takes-two c.And = refl
+takes-two c.Or = refl
+takes-two c.AndNot = refl
+
+connective-stacked : (k : Connective) (s : State) (f : Pattern) (qs : List Query) → s .vars ≡ 0 → 2 ≤ length qs → Stacked s f qs
+    → Row-stacked s f qs (kind.Operator (operatorFor k))
 unfolding stackRows queryRows
-operator-stacked o s f [] z l h = absurd (let x : ⊥ = omega arith in x)
-operator-stacked o s f (b ∷ []) z l h = absurd (let x : ⊥ = omega arith in x)
-operator-stacked o s f (b ∷ (a ∷ qs)) z l h =
+connective-stacked k s f [] z l h = absurd (let x : ⊥ = omega arith in x)
+connective-stacked k s f (b ∷ []) z l h = absurd (let x : ⊥ = omega arith in x)
+connective-stacked k s f (b ∷ (a ∷ qs)) z l h =
     let e = h .idle z in
-    let t = takes-two o in
+    let row = operatorRow (operatorFor k) in
+    let t = takes-two k in
+    let m = ap length (topped-two k a b qs) in
     let n = h .stack in
     record {
       next = record { count = h .count; idle = h .idle; unbegun = h .unbegun; stack = omega arith };
       rows =
-          ap (λ (x : Pattern). stackRows (topTwo o (b ∷ (a ∷ qs))) ++ openRows x) e
-          ∙ append-nil (stackRows qs ++ (queryRows a ++ (queryRows b ++ operatorRow o)))
-          ∙ sym (append-assoc (stackRows qs) (queryRows a) (queryRows b ++ operatorRow o))
-          ∙ sym (append-assoc (stackRows qs ++ queryRows a) (queryRows b) (operatorRow o))
-          ∙ ap (λ (x : List Row). x ++ operatorRow o) (sym (append-nil ((stackRows qs ++ queryRows a) ++ queryRows b)))
-          ∙ ap (λ (x : Pattern). (stackRows (b ∷ (a ∷ qs)) ++ openRows x) ++ operatorRow o) (sym e);
+          ap₂ (λ (x : List Query) (y : Pattern). stackRows x ++ openRows y) (topped-two k a b qs) e
+          ∙ append-nil (stackRows qs ++ (queryRows a ++ (queryRows b ++ row)))
+          ∙ sym (append-assoc (stackRows qs) (queryRows a) (queryRows b ++ row))
+          ∙ sym (append-assoc (stackRows qs ++ queryRows a) (queryRows b) row)
+          ∙ ap (λ (x : List Row). x ++ row) (sym (append-nil ((stackRows qs ++ queryRows a) ++ queryRows b)))
+          ∙ ap (λ (x : Pattern). (stackRows (b ∷ (a ∷ qs)) ++ openRows x) ++ row) (sym e);
     }
+
+threshold-stacked : (least of : ℕ) (s : State) (f : Pattern) (qs : List Query) → s .vars ≡ 0 → of ≤ length qs → Stacked s f qs
+    → Row-stacked s f qs (kind.Operator (AtLeast least of))
+unfolding stackRows queryRows
+threshold-stacked least of s f qs z l h =
+    let e = h .idle z in
+    let n = h .stack in
+    let d = length-drop of qs in
+    let xs = queriesRows (gathered (take of qs)) in
+    record {
+      next = record { count = h .count; idle = h .idle; unbegun = h .unbegun; stack = omega arith };
+      rows =
+          ap₂ (λ (k : ℕ) (y : Pattern). (stackRows (drop of qs) ++ (xs ++ operatorRow (AtLeast least k))) ++ openRows y)
+          (count-gathered (take of qs) ∙ length-take-le of qs l) e
+          ∙ append-nil (stackRows (drop of qs) ++ (xs ++ operatorRow (AtLeast least of)))
+          ∙ sym (append-assoc (stackRows (drop of qs)) xs (operatorRow (AtLeast least of)))
+          ∙ ap (λ (x : List Row). x ++ operatorRow (AtLeast least of)) (stack-gathered of qs ∙ sym (append-nil (stackRows qs)))
+          ∙ ap (λ (y : Pattern). (stackRows qs ++ openRows y) ++ operatorRow (AtLeast least of)) (sym e);
+    }
+
+-- an operator stands behind as many trees as it takes
+operator-stacked : (o : Operator) (s : State) (f : Pattern) (qs : List Query) → s .vars ≡ 0 → takes o ≤ length qs → Stacked s f qs
+    → Row-stacked s f qs (kind.Operator o)
+operator-stacked Both s f qs z l h = connective-stacked c.And s f qs z l h
+operator-stacked Either s f qs z l h = connective-stacked c.Or s f qs z l h
+operator-stacked FirstNotSecond s f qs z l h = connective-stacked c.AndNot s f qs z l h
+operator-stacked (AtLeast least of) s f qs z l h = threshold-stacked least of s f qs z l h
 
 row-stacked : (t : ℕ) (s : State) (f : Pattern) (qs : List Query) (k : Kind) → Passes t s k → Stacked s f qs → Row-stacked s f qs k
 unfolding stackRows queryRows
@@ -105,7 +143,6 @@ row-stacked t s f qs (kind.Operator o) p h =
     let w = operator-stands s o (p .ordered) in
     let m : takes o ≤ s .answers = w .1 in
     let n = h .stack in
-    let e = takes-two o in
     operator-stacked o s f qs (w .0) (omega arith) h
 
 -- all rows of a plan

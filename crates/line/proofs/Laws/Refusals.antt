@@ -8,8 +8,8 @@ use Prim.Native.Nat.{ℕ, _+_, _<_, _≤_}
 use native.Mathlib.Numerals.{add-one}
 use native.Mathlib.Omega.{arith}
 use mathlib.Core.Path.{_≡_, sym, ap, _∙_, subst}
-use mathlib.Core.Bool.{true, false}
-use mathlib.Core.Logic.{⊎-elim}
+use mathlib.Core.Bool.{false}
+use mathlib.Core.Logic.{⊎-elim, _⊎_, inl, inr}
 use mathlib.Core.List.{List, [], _∷_, _++_, append-assoc, append-nil}
 use mathlib.Core.Option.{none, some, Option·none-ne-some}
 use lib.Dec.{eqb}
@@ -17,14 +17,14 @@ use lib.ListN.{length, getD, take, drop, length-append, take-append-drop}
 use lib.Seq.{take-at, getD-at, take-suc, take-take}
 use borrow.Author.Tests.{eqb-true}
 use Rattle.seq.proofs.Laws.Lists.{keep-snoc, length-snoc}
-use Rattle.seq.proofs.Laws.Tests.{true-or}
+use Rattle.seq.proofs.Laws.Tests.{true-or, either}
 use Rattle.grammar.specs.Grammar.{Line, Fits, written, LineText, Begins}
 use Rattle.grammar.specs.Brackets.{depth}
 use Rattle.line.specs.Refusals.{Breaks, Deep}
 use Rattle.grammar.specs.Reading.{Config, after, start, step, openIn, whole, shown}
 use Rattle.grammar.proofs.Laws.Reading.{line-text, line-fits}
 use Rattle.grammar.proofs.Laws.Steps.{Steps, hop, steps-append, frontOf, lastOf}
-use Rattle.grammar.proofs.Laws.Balance.{one, Balanced, step-balanced, steps-balanced}
+use Rattle.grammar.proofs.Laws.Balance.{opening, closing, one, Balanced, step-balanced, steps-balanced}
 use Rattle.grammar.proofs.Laws.Outcome.{Stopped, Opened, Wholly, Final, Stops, steps-prefix, steps-same, steps-open, from-start, text-steps}
 use Rattle.grammar.proofs.Laws.Outcome.{read-begins, begins-read}
 
@@ -62,12 +62,20 @@ no-end n s d p f t =
 line-begins : (s a r : List ℕ) → a ++ r ≡ s → LineText s → Begins a
 line-begins s a r e t = record { rest = r; whole = subst LineText (sym e) t }
 
--- a byte behind which more brackets are open is `(`
-opens-byte : (c d : Config) (b : ℕ) → Balanced c b (some d) → length (openIn c) < length (openIn d) → eqb b 40 ≡ true
-opens-byte c d b h l = ⊎-elim (λ t. t) none (true-or (eqb b 40))
+-- a byte behind which more brackets are open is `(` or `<`
+opens-byte : (c d : Config) (b : ℕ) → Balanced c b (some d) → openIn c < openIn d → (b ≡ 40) ⊎ (b ≡ 60)
+opens-byte c d b h l =
+    ⊎-elim (λ t. ⊎-elim (λ x. inl (eqb-true b 40 x)) (λ x. inr (eqb-true b 60 x)) (either (eqb b 40) (eqb b 60) t)) none
+    (true-or (opening b))
   where
-    none : eqb b 40 ≡ false → eqb b 40 ≡ true
-    none t = let f : one (eqb b 40) ≡ 0 = ap one t in absurd (let z : ⊥ = omega arith in z)
+    none : opening b ≡ false → (b ≡ 40) ⊎ (b ≡ 60)
+    none t = let f : one (opening b) ≡ 0 = ap one t in absurd (let z : ⊥ = omega arith in z)
+
+-- such a byte opens one, and closes none
+byte-opens : (b : ℕ) → (b ≡ 40) ⊎ (b ≡ 60) → (one (opening b) ≡ 1) × (one (closing b) ≡ 0)
+byte-opens b h =
+    ⊎-elim (λ e. (ap (λ (k : ℕ). one (opening k)) e, ap (λ (k : ℕ). one (closing k)) e))
+    (λ e. (ap (λ (k : ℕ). one (opening k)) e, ap (λ (k : ℕ). one (closing k)) e)) h
 
 module _ (s : List ℕ) where
   -- a beginning of the text, taken by its length
@@ -117,14 +125,15 @@ module _ (s : List ℕ) where
   pub not-deep : (k : ℕ) (x : Config) → Steps 8 start (take k s) x → (q : ℕ) → q < k → Deep s q → ⊥
   not-deep k x p q l h =
       let y = steps-take 8 (take k s) x (q + 1) p in
-      let next = ap (λ (n : ℕ). take n s) (add-one q) ∙ take-suc s q 0 (h .inside) in
-      let bracket = next ∙ ap (λ (b : ℕ). take q s ++ (b ∷ [])) (h .bracket) in
-      let e : take (q + 1) (take k s) ≡ take q s ++ (40 ∷ []) = take-take (q + 1) k s (omega arith) ∙ bracket in
-      let z : Steps 8 start (take q s ++ (40 ∷ [])) (y .0) = subst (λ (t : List ℕ). Steps 8 start t (y .0)) e (y .1) in
-      let few = steps-open 8 start (take q s ++ (40 ∷ [])) (y .0) (omega arith) z in
-      let b = steps-balanced 8 start (take q s ++ (40 ∷ [])) (y .0) z in
-      let o = keep-snoc (λ (c : ℕ). eqb c 40) (take q s) 40 in
-      let c = keep-snoc (λ (c : ℕ). eqb c 41) (take q s) 40 in
+      let a = take q s in
+      let e : take (q + 1) s ≡ a ++ (getD s q 0 ∷ []) = ap (λ (n : ℕ). take n s) (add-one q) ∙ take-suc s q 0 (h .inside) in
+      let z : Steps 8 start (a ++ (getD s q 0 ∷ [])) (y .0) =
+      subst (λ (t : List ℕ). Steps 8 start t (y .0)) (take-take (q + 1) k s (omega arith) ∙ e) (y .1) in
+      let few = steps-open 8 start (a ++ (getD s q 0 ∷ [])) (y .0) (omega arith) z in
+      let b = steps-balanced 8 start (a ++ (getD s q 0 ∷ [])) (y .0) z in
+      let o = keep-snoc opening a (getD s q 0) in
+      let c = keep-snoc closing a (getD s q 0) in
+      let i = byte-opens (getD s q 0) (h .bracket) in
       let d = h .eight in
       omega arith
 
@@ -154,26 +163,25 @@ module _ (s : List ℕ) where
       let nine = w .ninth in
       let is = opens-byte (w .there) (w .then) (w .byte) h (omega arith) in
       let b = steps-balanced 8 start (w .read) (w .there) (w .steps) in
-      let up : one (eqb (w .byte) 40) ≡ 1 = ap one is in
+      let up = byte-opens (w .byte) is in
       record {
         inside = omega arith;
         bracket =
-            ap (λ (x : List ℕ). getD x e 0) (sym (w .text))
-            ∙ getD-at (w .read) (w .byte) (w .rest) 0 e (sym len)
-            ∙ eqb-true (w .byte) 40 is;
+            subst (λ (x : ℕ). (x ≡ 40) ⊎ (x ≡ 60))
+            (sym (ap (λ (x : List ℕ). getD x e 0) (sym (w .text)) ∙ getD-at (w .read) (w .byte) (w .rest) 0 e (sym len))) is;
         eight = rw taken (omega arith);
       }
 
   -- and the text with it can be read, so that the grammar does not break there
-  pub opened-steps : (e : ℕ) (w : Opened start 0 s e) → Steps (length (openIn (w .then)) + 8) start (take (e + 1) s) (w .then)
+  pub opened-steps : (e : ℕ) (w : Opened start 0 s e) → Steps (openIn (w .then) + 8) start (take (e + 1) s) (w .then)
   opened-steps e w =
       let len : e ≡ length (w .read) = let k = w .at in omega arith in
-      subst (λ (x : List ℕ). Steps (length (openIn (w .then)) + 8) start x (w .then))
+      subst (λ (x : List ℕ). Steps (openIn (w .then) + 8) start x (w .then))
       (sym (take-at (w .read ++ (w .byte ∷ [])) (w .rest) (e + 1) (let z = length-snoc (w .read) (w .byte) in omega arith))
       ∙ ap (take (e + 1)) (append-assoc (w .read) (w .byte ∷ []) (w .rest) ∙ w .text))
-      (steps-append (length (openIn (w .then)) + 8) start (w .read) (w .there) (w .byte ∷ []) (w .then)
-      (steps-more 8 (length (openIn (w .then)) + 8) start (w .read) (w .there) (omega arith) (w .steps))
-      (hop (length (openIn (w .then)) + 8) (w .there) (w .byte) (w .then) (w .goes) (omega arith)))
+      (steps-append (openIn (w .then) + 8) start (w .read) (w .there) (w .byte ∷ []) (w .then)
+      (steps-more 8 (openIn (w .then) + 8) start (w .read) (w .there) (omega arith) (w .steps))
+      (hop (openIn (w .then) + 8) (w .there) (w .byte) (w .then) (w .goes) (omega arith)))
 
   -- a reading that comes to an end has read a line with that text
   pub whole-line : (l : Line) → Wholly start s l → Fits l × (written l ≡ s)

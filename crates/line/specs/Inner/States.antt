@@ -1,7 +1,7 @@
 -- Where the reading of a pattern is, for the contracts inside the crate. Assumes nothing.
 --     NumberMost, LastMost, StateMost     numbers in the grammar's limits
 --     grownBy, stepState                  what a byte makes of a number, and of a state
---     voiceWords, conditionWords          the words of rows
+--     voiceWords, conditionWords, thresholdWords     the words of rows
 --     stateOf                             the state of a pattern so far
 use Prim.Native.Nat.{ℕ, _+_, _-_, _*_, _≤_, _<_}
 use mathlib.Core.Bool.{cond}
@@ -69,6 +69,10 @@ conditionWords word.Before a b c n = record { kind = 3; a = a; b = n; c = 0 }
 conditionWords word.Same a b c n = record { kind = 4; a = a; b = n; c = 0 }
 conditionWords word.Span a b c n = record { kind = 5; a = 0; b = 0; c = n }
 conditionWords word.Apart a b c n = record { kind = 10; a = a; b = b; c = c * leastUnit + n }
+
+-- the words of AT LEAST
+abbrev pub thresholdWords : ℕ → ℕ → Words
+thresholdWords least of = record { kind = 11; a = least; b = of; c = 0 }
 
 -- behind a whole number at the end of a list or of a condition
 abbrev pub endingState : Words → ℕ → Next

@@ -5,7 +5,7 @@ use Prim.Native.Nat.{ℕ, zero, suc, _+_, _-_, _<_, _≤_}
 use native.Mathlib.Nat.{zero-add, add-zero}
 use native.Mathlib.Numerals.{add-one}
 use native.Mathlib.Omega.{arith}
-use mathlib.Core.Path.{_≡_, refl, sym, ap, _∙_, subst}
+use mathlib.Core.Path.{_≡_, refl, sym, ap, ap₂, _∙_, subst}
 use mathlib.Core.Bool.{Bool, true, false, not, cond, _&&_}
 use mathlib.Core.List.{List, [], _∷_, _++_}
 use lib.Dec.{ltb}
@@ -19,10 +19,10 @@ use Rattle.plan.specs.declared.row.Kind.{Kind}
 use Rattle.plan.specs.declared.row.Kind.the-variants as kind
 use Rattle.plan.specs.declared.row.Row.{Row}
 use Rattle.plan.specs.declared.state.State.{State}
-use Rattle.plan.specs.Rows.{rowAt, isVoice, isCondition, isEnd}
+use Rattle.plan.specs.Rows.{rowAt, isVoice, isCondition, isEnd, isOperator}
 use Rattle.plan.specs.State.{initial, takes, after, stateAt, orderWrong}
-use Rattle.plan.specs.Counts.{countOf, behindEnd, spent, counted}
-use Rattle.plan.proofs.Laws.State.{stateAt-first, stateAt-next, operator-stands, takes-two}
+use Rattle.plan.specs.Counts.{countOf, behindEnd, taken, counted}
+use Rattle.plan.proofs.Laws.State.{stateAt-first, stateAt-next, operator-stands}
 
 -- one more row, counted where it is of the sort
 count-snoc : (sort : Kind → Bool) (xs : List Row) (r : Row) → countOf sort (xs ++ (r ∷ [])) ≡ countOf sort xs + cond (sort (r .kind)) 1 0
@@ -56,20 +56,35 @@ same : (v w : ℕ) (b d : Bool) (p q a e t u : ℕ) → v ≡ w → b ≡ d → 
     → _≡_ {A = State} (record { vars = v; begun = b; patterns = p; answers = a; total = t }) (record { vars = w; begun = d; patterns = q; answers = e; total = u })
 same v w b d p q a e t u x y z i j = rw (x, y, z, i, j)
 
--- the answers that operators have spent
-abbrev spentOf : List Row → ℕ
-spentOf rows = total (λ (r : Row). spent (r .kind)) rows
+-- the answers that rows have stacked, and those that they have taken
+abbrev stackedOf : List Row → ℕ
+stackedOf rows = countOf isEnd rows + countOf isOperator rows
+
+abbrev takenOf : List Row → ℕ
+takenOf rows = total (λ (r : Row). taken (r .kind)) rows
+
+-- the answers stacked with one more row
+abbrev stackedWith : List Row → Kind → ℕ
+stackedWith rows k = countOf isEnd rows + cond (isEnd k) 1 0 + (countOf isOperator rows + cond (isOperator k) 1 0)
 
 -- none of no rows is of a sort
 none : (sort : Kind → Bool) → countOf sort [] ≡ 0
 unfolding countOf keep
 none sort = refl
 
--- some rows, behind which no more answers have been spent than stacked, and one more row that may stand there
-module _ (xs : List Row) (l : spentOf xs ≤ countOf isEnd xs) where
-  -- the answers with one more row
-  answers-snoc : (r : Row) (n m : ℕ) → countOf isEnd (xs ++ (r ∷ [])) ≡ n → spent (r .kind) ≡ m → countOf isEnd (xs ++ (r ∷ [])) - spentOf (xs ++ (r ∷ [])) ≡ n - (spentOf xs + m)
-  answers-snoc r n m e f = rw (e, total-snoc (λ (x : Row). spent (x .kind)) xs r, f)
+-- some rows, behind which no more answers have been taken than stacked, and one more row that may stand there
+module _ (xs : List Row) (l : takenOf xs ≤ stackedOf xs) where
+  stacked-snoc : (r : Row) → stackedOf (xs ++ (r ∷ [])) ≡ stackedWith xs (r .kind)
+  stacked-snoc r = ap₂ (λ (n m : ℕ). n + m) (count-snoc isEnd xs r) (count-snoc isOperator xs r)
+
+  taken-snoc : (r : Row) → takenOf (xs ++ (r ∷ [])) ≡ takenOf xs + taken (r .kind)
+  taken-snoc r = total-snoc (λ (x : Row). taken (x .kind)) xs r
+
+  -- the answers that there are with one more row
+  answers-snoc :
+      (r : Row) (n : ℕ) → stackedWith xs (r .kind) - (takenOf xs + taken (r .kind)) ≡ n
+      → stackedOf (xs ++ (r ∷ [])) - takenOf (xs ++ (r ∷ [])) ≡ n
+  answers-snoc r n e = ap₂ (λ (a b : ℕ). a - b) (stacked-snoc r) (taken-snoc r) ∙ e
 
   counted-after : (k : Kind) → orderWrong (counted xs) k ≡ false → counted (xs ++ (record { kind = k } ∷ [])) ≡ after (counted xs) k
   unfolding counted
@@ -80,7 +95,7 @@ module _ (xs : List Row) (l : spentOf xs ≤ countOf isEnd xs) where
       (ap (countOf isVoice) b ∙ count-snoc isVoice (behindEnd xs) r)
       (ap (λ (rows : List Row). ltb 0 (countOf isCondition rows)) b ∙ ap (ltb 0) (count-snoc isCondition (behindEnd xs) r ∙ add-zero _))
       (count-snoc isEnd xs r ∙ add-zero _)
-      (answers-snoc r (countOf isEnd xs) 0 (count-snoc isEnd xs r ∙ add-zero _) refl ∙ ap (λ (n : ℕ). countOf isEnd xs - n) (add-zero _))
+      (answers-snoc r (stackedOf xs - takenOf xs) (omega arith))
       (count-snoc isVoice xs r)
   counted-after (kind.Condition c) e =
       let r : Row = record { kind = kind.Condition c } in
@@ -89,47 +104,43 @@ module _ (xs : List Row) (l : spentOf xs ≤ countOf isEnd xs) where
       (ap (countOf isVoice) b ∙ count-snoc isVoice (behindEnd xs) r ∙ add-zero _)
       (ap (λ (rows : List Row). ltb 0 (countOf isCondition rows)) b ∙ ap (ltb 0) (count-snoc isCondition (behindEnd xs) r) ∙ lt-ltb 0 (countOf isCondition (behindEnd xs) + 1) (omega arith))
       (count-snoc isEnd xs r ∙ add-zero _)
-      (answers-snoc r (countOf isEnd xs) 0 (count-snoc isEnd xs r ∙ add-zero _) refl ∙ ap (λ (n : ℕ). countOf isEnd xs - n) (add-zero _))
+      (answers-snoc r (stackedOf xs - takenOf xs) (omega arith))
       (count-snoc isVoice xs r ∙ add-zero _)
   counted-after kind.End e =
       let r : Row = record { kind = kind.End } in
       let b = behind-end xs r refl in
-      let more : countOf isEnd xs + 1 - (spentOf xs + 0) ≡ countOf isEnd xs - spentOf xs + 1 = omega arith in
       same _ _ _ _ _ _ _ _ _ _
       (ap (countOf isVoice) b ∙ none isVoice)
       (ap (λ (rows : List Row). ltb 0 (countOf isCondition rows)) b ∙ ap (ltb 0) (none isCondition))
       (count-snoc isEnd xs r)
-      (answers-snoc r (countOf isEnd xs + 1) 0 (count-snoc isEnd xs r) refl ∙ more)
+      (answers-snoc r (stackedOf xs - takenOf xs + 1) (omega arith))
       (count-snoc isVoice xs r ∙ add-zero _)
   counted-after (kind.Operator o) e =
       let r : Row = record { kind = kind.Operator o } in
       let b = behind-snoc xs r refl in
-      let w : takes o ≤ countOf isEnd xs - spentOf xs = operator-stands (counted xs) o e .1 in
-      let n = takes-two o in
-      let less : countOf isEnd xs - (spentOf xs + (takes o - 1)) ≡ countOf isEnd xs - spentOf xs + 1 - takes o = omega arith in
+      let w : takes o ≤ stackedOf xs - takenOf xs = operator-stands (counted xs) o e .1 in
       same _ _ _ _ _ _ _ _ _ _
       (ap (countOf isVoice) b ∙ count-snoc isVoice (behindEnd xs) r ∙ add-zero _)
       (ap (λ (rows : List Row). ltb 0 (countOf isCondition rows)) b ∙ ap (ltb 0) (count-snoc isCondition (behindEnd xs) r ∙ add-zero _))
       (count-snoc isEnd xs r ∙ add-zero _)
-      (answers-snoc r (countOf isEnd xs) (takes o - 1) (count-snoc isEnd xs r ∙ add-zero _) refl ∙ less)
+      (answers-snoc r (stackedOf xs - takenOf xs + 1 - takes o) (omega arith))
       (count-snoc isVoice xs r ∙ add-zero _)
 
-  spent-after : (k : Kind) → orderWrong (counted xs) k ≡ false → spentOf (xs ++ (record { kind = k } ∷ [])) ≤ countOf isEnd (xs ++ (record { kind = k } ∷ []))
+  taken-after :
+      (k : Kind) → orderWrong (counted xs) k ≡ false
+      → takenOf (xs ++ (record { kind = k } ∷ [])) ≤ stackedOf (xs ++ (record { kind = k } ∷ []))
   unfolding counted
-  spent-after k e = rw (total-snoc (λ (x : Row). spent (x .kind)) xs (record { kind = k }), count-snoc isEnd xs (record { kind = k })) (go k e)
+  taken-after k e = rw (taken-snoc (record { kind = k }), stacked-snoc (record { kind = k })) (go k e)
     where
-      go : (j : Kind) → orderWrong (counted xs) j ≡ false → spentOf xs + spent j ≤ countOf isEnd xs + cond (isEnd j) 1 0
+      go : (j : Kind) → orderWrong (counted xs) j ≡ false → takenOf xs + taken j ≤ stackedWith xs j
       go (kind.Voice list) q = omega arith
       go (kind.Condition c) q = omega arith
       go kind.End q = omega arith
-      go (kind.Operator o) q =
-          let w : takes o ≤ countOf isEnd xs - spentOf xs = operator-stands (counted xs) o q .1 in
-          let n = takes-two o in
-          omega arith
+      go (kind.Operator o) q = let w : takes o ≤ stackedOf xs - takenOf xs = operator-stands (counted xs) o q .1 in omega arith
 
--- no more answers have been spent than stacked, and counting gives a state
+-- no more answers have been taken than stacked, and counting gives a state
 abbrev Right : List Row → State → Type 0
-Right rows s = (spentOf rows ≤ countOf isEnd rows) × (counted rows ≡ s)
+Right rows s = (takenOf rows ≤ stackedOf rows) × (counted rows ≡ s)
 
 right-first : Right [] initial
 unfolding total counted countOf keep behindEnd
@@ -138,7 +149,7 @@ right-first = (omega arith, refl)
 right-next : (rows : List Row) (s : State) (k : Kind) → orderWrong s k ≡ false → Right rows s → Right (rows ++ (record { kind = k } ∷ [])) (after s k)
 right-next rows s k e w =
     let o : orderWrong (counted rows) k ≡ false = rw (w .1) e in
-    (spent-after rows (w .0) k o, counted-after rows (w .0) k o ∙ ap (λ (x : State). after x k) (w .1))
+    (taken-after rows (w .0) k o, counted-after rows (w .0) k o ∙ ap (λ (x : State). after x k) (w .1))
 
 -- in front of row i, where each row before it may stand
 module _ (p : List ℕ) where

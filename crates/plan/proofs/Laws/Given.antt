@@ -1,6 +1,7 @@
 -- What a plan that passes every test gives: `specs/Accepted.antt` without the volume. No contract cites this file.
 --     patterns-are                      the patterns of any plan, counted
 --     vars-are, sizes-are               their variables, and both, where no pattern is open at the end
+--     row-range                         the numbers of a row of the right form are in range
 --     rows-pass                         the rows of a plan that passes, each where it stands
 --     well-made                         its patterns are well made
 --     some-patterns, most-patterns, some-vars, most-vars, width
@@ -13,10 +14,12 @@ use native.Mathlib.Numerals.{add-one}
 use native.Mathlib.Omega.{arith}
 use mathlib.Core.Path.{_≡_, refl, sym, ap, _∙_}
 use mathlib.Core.Bool.{Bool, false}
+use mathlib.Core.Logic.{⊎-elim}
 use mathlib.Core.List.{List, []}
 use lib.ListN.{length}
 use Rattle.seq.specs.Lists.{total}
 use Rattle.seq.specs.Numbers.{run}
+use Rattle.seq.proofs.Laws.Tests.{below-or}
 use Rattle.seq.proofs.Laws.Numbers.{length-run}
 use Rattle.plan.specs.Limits.{mostPatterns, mostVars, rowWords, mostRowWords}
 use Rattle.plan.specs.Rows.{rowCount, kindAt, aAt, bAt, cAt, rowAt, rowsOf, formWrongAt, InRange}
@@ -42,7 +45,7 @@ module _ (p : List ℕ) where
   unfolding sizes
   sizes-are e = rw (patterns-are, vars-are e)
 
-  row-range : (i : ℕ) → formWrongAt p i ≡ false → InRange (rowAt p i .kind)
+  pub row-range : (i : ℕ) → formWrongAt p i ≡ false → InRange (rowAt p i .kind)
   unfolding rowAt
   row-range i e = range-of (kindAt p i) (aAt p i) (bAt p i) (cAt p i) e
 
@@ -87,8 +90,18 @@ module _ (t : ℕ) (p : List ℕ) (ok : Passed t p) where
   pub some-vars : 1 ≤ sizes p .vars
   some-vars = rw (sizes-are p (ok .closed)) (let b = end-bound in omega arith)
 
+  -- two patterns or more have an operator, which takes a row; one has eight variables at most
+  few-rows : stateAt p (rowCount p) .total + stateAt p (rowCount p) .patterns ≤ 63
+  few-rows =
+      let b = end-bound in
+      let one = ok .single in
+      ⊎-elim
+      (λ (l : 1 < stateAt p (rowCount p) .patterns). let j = b .joined (omega arith) in omega arith)
+      (λ (l : stateAt p (rowCount p) .patterns ≤ 1). omega arith)
+      (below-or 1 (stateAt p (rowCount p) .patterns))
+
   pub most-vars : sizes p .vars ≤ mostVars
-  most-vars = rw (sizes-are p (ok .closed)) (let b = end-bound in omega arith)
+  most-vars = rw (sizes-are p (ok .closed)) (let b = end-bound in let f = few-rows in omega arith)
 
   pub width : rowWords (sizes p .patterns) (sizes p .vars) ≤ mostRowWords
-  width = rw (sizes-are p (ok .closed)) (let b = end-bound in omega arith)
+  width = rw (sizes-are p (ok .closed)) (let b = end-bound in let f = few-rows in omega arith)

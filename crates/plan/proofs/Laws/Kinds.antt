@@ -27,6 +27,7 @@ table =
     ∷ uses false false false 0 0
     ∷ uses false false false 0 0
     ∷ uses true true true 0 4294967295
+    ∷ uses true true false 0 0
     ∷ []
 
 -- no word is used

@@ -13,7 +13,7 @@ use mathlib.Core.Path.{_≡_, refl, sym, ap, _∙_}
 use mathlib.Core.Bool.{Bool, true, false, not, _&&_, _||_}
 use mathlib.Core.Logic.{_⊎_, inl, inr, ⊎-elim, _≢_}
 use mathlib.Core.List.{List, [], _∷_, _++_}
-use lib.ListN.{length, getD}
+use lib.ListN.{length, getD, length-drop}
 use lib.Dec.{eqb, ltb, leb}
 use borrow.Author.Tests.{ltb-true, leb-false, eqb-false, lt-ltb}
 use Rattle.seq.specs.Lists.{total}
@@ -22,7 +22,7 @@ use Rattle.seq.proofs.Laws.Decides.{eqb-decides, leb-decides, and-decides}
 use Rattle.plan.specs.declared.row.Predicate.{Predicate}
 use Rattle.plan.specs.declared.row.Predicate.the-variants.{Distance, Ordered, Samepara, Window, Proximity}
 use Rattle.plan.specs.declared.row.Operator.{Operator}
-use Rattle.plan.specs.declared.row.Operator.the-variants.{Both, Either, FirstNotSecond}
+use Rattle.plan.specs.declared.row.Operator.the-variants.{Both, Either, FirstNotSecond, AtLeast}
 use Rattle.plan.specs.declared.row.Kind.{Kind}
 use Rattle.plan.specs.declared.row.Kind.the-variants as kind
 use Rattle.plan.specs.declared.row.Row.{Row}
@@ -32,7 +32,7 @@ use Rattle.plan.specs.Rows.{InRange}
 use Rattle.plan.specs.State.{initial, takes, after, afterAll, namesBelow, listWrong, tooMany, orderWrong}
 use Rattle.plan.specs.Patterns.{Pattern, noRow, openAfter, closed, patternsFrom, two, operate, answersAfter, answersFrom}
 use Rattle.plan.specs.Accepted.{WellMade}
-use Rattle.plan.proofs.Laws.State.{condition-stands, end-stands, operator-stands, takes-two}
+use Rattle.plan.proofs.Laws.State.{condition-stands, end-stands, operator-stands, takes-some}
 use Rattle.seq.proofs.Laws.Lists.{length-snoc, Each, each-cons, each-snoc}
 
 -- a row closes as many patterns as it adds to those of the state
@@ -181,6 +181,7 @@ pub operate-length : (o : Operator) (answers : List Bool) → takes o ≤ length
 operate-length Both answers l = two-length (λ first second. first && second) answers l
 operate-length Either answers l = two-length (λ first second. first || second) answers l
 operate-length FirstNotSecond answers l = two-length (λ first second. first && not second) answers l
+operate-length (AtLeast least of) answers l = let d = length-drop of answers in omega arith
 
 answersAfter-length : (found : Pattern → Bool) (t : ℕ) (s : State) (f : Pattern) (answers : List Bool) (k : Kind) → Passes t s k → length answers ≡ s .answers → length (answersAfter found f answers k) ≡ after s k .answers
 answersAfter-length found t s f answers (kind.Voice list) p e = e
@@ -198,8 +199,9 @@ answers-length found t s f answers (r ∷ rows) p e =
 
 -- how the numbers of a state bound each other behind i rows that pass
 pub record Bound (i : ℕ) (s : State) : Type 0 where
-  -- a variable, an END and an operator take a row each, and the operators are as many as the patterns less the answers
-  pub rows : s .total + 2 * s .patterns ≤ i + s .answers
+  -- a variable and an END take a row each; where there are fewer answers than patterns, an operator has taken one
+  pub rows : s .total + s .patterns ≤ i
+  pub joined : s .answers < s .patterns → s .total + s .patterns + 1 ≤ i
   -- a pattern has at least one variable and at most eight
   pub few-vars : s .total ≤ mostPatternVars * s .patterns + s .vars
   pub some-vars : s .patterns + s .vars ≤ s .total
@@ -211,22 +213,67 @@ pub record Bound (i : ℕ) (s : State) : Type 0 where
   pub few-answers : s .answers ≤ s .patterns
 
 pub bound-initial : Bound 0 initial
-bound-initial = record { rows = omega arith; few-vars = omega arith; some-vars = omega arith; open-vars = omega arith; few-patterns = omega arith; open-patterns = inl refl; few-answers = omega arith }
+bound-initial = record {
+  rows = omega arith;
+  joined = λ l. omega arith;
+  few-vars = omega arith;
+  some-vars = omega arith;
+  open-vars = omega arith;
+  few-patterns = omega arith;
+  open-patterns = inl refl;
+  few-answers = omega arith;
+}
 
 bound-after : (t i : ℕ) (s : State) (k : Kind) → Passes t s k → Bound i s → Bound (i + 1) (after s k)
 bound-after t i s (kind.Voice list) p h =
     let w = voice-few t s list p in
     let y : s .patterns < mostPatterns = ⊎-elim (w .1) (λ z. z) (h .open-patterns) in
-    record { rows = omega arith; few-vars = omega arith; some-vars = omega arith; open-vars = omega (arith, w .0); few-patterns = omega arith; open-patterns = inr y; few-answers = omega arith }
-bound-after t i s (kind.Condition c) p h = record { rows = omega arith; few-vars = h .few-vars; some-vars = h .some-vars; open-vars = h .open-vars; few-patterns = h .few-patterns; open-patterns = h .open-patterns; few-answers = h .few-answers }
+    record {
+      rows = omega arith;
+      joined = λ l. let j = h .joined l in omega arith;
+      few-vars = omega arith;
+      some-vars = omega arith;
+      open-vars = omega (arith, w .0);
+      few-patterns = omega arith;
+      open-patterns = inr y;
+      few-answers = omega arith;
+    }
+bound-after t i s (kind.Condition c) p h = record {
+  rows = omega arith;
+  joined = λ l. let j = h .joined l in omega arith;
+  few-vars = h .few-vars;
+  some-vars = h .some-vars;
+  open-vars = h .open-vars;
+  few-patterns = h .few-patterns;
+  open-patterns = h .open-patterns;
+  few-answers = h .few-answers;
+}
 bound-after t i s kind.End p h =
     let x : 1 ≤ s .vars = end-some t s p in
     let y : s .patterns < mostPatterns = ⊎-elim (λ (z : s .vars ≡ 0). omega arith) (λ z. z) (h .open-patterns) in
-    record { rows = omega arith; few-vars = omega arith; some-vars = omega arith; open-vars = omega arith; few-patterns = omega arith; open-patterns = inl refl; few-answers = omega arith }
+    record {
+      rows = omega arith;
+      joined = λ l. let j = h .joined (omega arith) in omega arith;
+      few-vars = omega arith;
+      some-vars = omega arith;
+      open-vars = omega arith;
+      few-patterns = omega arith;
+      open-patterns = inl refl;
+      few-answers = omega arith;
+    }
 bound-after t i s (kind.Operator o) p h =
     let x : takes o ≤ s .answers = operator-some t s o p in
-    let y = takes-two o in
-    record { rows = omega arith; few-vars = h .few-vars; some-vars = h .some-vars; open-vars = h .open-vars; few-patterns = h .few-patterns; open-patterns = h .open-patterns; few-answers = omega arith }
+    let y = takes-some o (p .in-range) in
+    record {
+      rows = omega arith;
+      joined = λ l. omega arith;
+      few-vars = h .few-vars;
+      some-vars = h .some-vars;
+      open-vars = h .open-vars;
+      few-patterns = h .few-patterns;
+      open-patterns = h .open-patterns;
+      few-answers = omega arith;
+    }
 
 pub bound-afterAll : (t i : ℕ) (s : State) (rows : List Row) → PassAll t s rows → Bound i s → Bound (i + length rows) (afterAll s rows)
 unfolding PassAll afterAll

@@ -1,7 +1,7 @@
 -- The laws of `specs/Rows.antt`: four words and the row that they are read as. No contract cites this file.
---     each-kind                    a fact of 1, .., 10 is one of each number from 1 to the last kind
+--     each-kind                    a fact of 1, .., 11 is one of each number from 1 to the last kind
 --     Used, formed-known           what four words of the right form are
---     words-of, range-of           they are the words of their row, whose limits are in range
+--     words-of, range-of           they are the words of their row, whose numbers are in range
 --     reads-row                    and such words are read as their row
 --     words-at                     row i of a plan has the words there
 --     form-below, form-above       the form of a row of unknown kind
@@ -30,29 +30,31 @@ use Rattle.seq.proofs.Laws.Decides.{Decides, not-decides, eqb-decides, ltb-deci
 use Rattle.seq.proofs.Laws.Numbers.{run-append, run-ext}
 use Rattle.plan.specs.declared.kinds.Uses.{Uses}
 use Rattle.plan.specs.declared.row.Predicate.the-variants.{Distance, Ordered, Samepara, Window, Proximity}
-use Rattle.plan.specs.declared.row.Operator.the-variants.{Both, Either, FirstNotSecond}
+use Rattle.plan.specs.declared.row.Operator.the-variants.{Both, Either, FirstNotSecond, AtLeast}
 use Rattle.plan.specs.declared.row.Kind.{Kind}
 use Rattle.plan.specs.declared.row.Kind.the-variants as kind
 use Rattle.plan.specs.declared.row.Row.{Row}
-use Rattle.plan.specs.Limits.{lastKind, leastUnit}
+use Rattle.plan.specs.Limits.{lastKind, leastUnit, leastTaken, mostTaken}
 use Rattle.plan.specs.Rows.{rowCount, kindAt, aAt, bAt, cAt, kindOf, rowOf, rowAt, rowsOf, usesOf, stray, misused, pairWrong, formWrong, formWrongAt, wordsOf, planOf, InRange}
 use Rattle.plan.specs.Refusals.{Stray, WrongPair, WrongForm}
 use Rattle.plan.proofs.Laws.Passed.{Passed}
 use Rattle.seq.proofs.Laws.Slices.{length-slice, getD-slice, slice-run}
 
-each-kind : (P : ℕ → Type 0) → P 1 → P 2 → P 3 → P 4 → P 5 → P 6 → P 7 → P 8 → P 9 → P 10 → (k : ℕ) → 1 ≤ k → k ≤ lastKind → P k
-each-kind P p1 p2 p3 p4 p5 p6 p7 p8 p9 p10 zero l h = absurd (let z : ⊥ = omega arith in z)
-each-kind P p1 p2 p3 p4 p5 p6 p7 p8 p9 p10 (suc zero) l h = p1
-each-kind P p1 p2 p3 p4 p5 p6 p7 p8 p9 p10 (suc (suc zero)) l h = p2
-each-kind P p1 p2 p3 p4 p5 p6 p7 p8 p9 p10 (suc (suc (suc zero))) l h = p3
-each-kind P p1 p2 p3 p4 p5 p6 p7 p8 p9 p10 (suc (suc (suc (suc zero)))) l h = p4
-each-kind P p1 p2 p3 p4 p5 p6 p7 p8 p9 p10 (suc (suc (suc (suc (suc zero))))) l h = p5
-each-kind P p1 p2 p3 p4 p5 p6 p7 p8 p9 p10 (suc (suc (suc (suc (suc (suc zero)))))) l h = p6
-each-kind P p1 p2 p3 p4 p5 p6 p7 p8 p9 p10 (suc (suc (suc (suc (suc (suc (suc zero))))))) l h = p7
-each-kind P p1 p2 p3 p4 p5 p6 p7 p8 p9 p10 (suc (suc (suc (suc (suc (suc (suc (suc zero)))))))) l h = p8
-each-kind P p1 p2 p3 p4 p5 p6 p7 p8 p9 p10 (suc (suc (suc (suc (suc (suc (suc (suc (suc zero))))))))) l h = p9
-each-kind P p1 p2 p3 p4 p5 p6 p7 p8 p9 p10 (suc (suc (suc (suc (suc (suc (suc (suc (suc (suc zero)))))))))) l h = p10
-each-kind P p1 p2 p3 p4 p5 p6 p7 p8 p9 p10 (suc (suc (suc (suc (suc (suc (suc (suc (suc (suc (suc k))))))))))) l h = absurd (let z : ⊥ = omega arith in z)
+each-kind : (P : ℕ → Type 0) → P 1 → P 2 → P 3 → P 4 → P 5 → P 6 → P 7 → P 8 → P 9 → P 10 → P 11 → (k : ℕ) → 1 ≤ k → k ≤ lastKind → P k
+each-kind P p1 p2 p3 p4 p5 p6 p7 p8 p9 p10 p11 zero l h = absurd (let z : ⊥ = omega arith in z)
+each-kind P p1 p2 p3 p4 p5 p6 p7 p8 p9 p10 p11 (suc zero) l h = p1
+each-kind P p1 p2 p3 p4 p5 p6 p7 p8 p9 p10 p11 (suc (suc zero)) l h = p2
+each-kind P p1 p2 p3 p4 p5 p6 p7 p8 p9 p10 p11 (suc (suc (suc zero))) l h = p3
+each-kind P p1 p2 p3 p4 p5 p6 p7 p8 p9 p10 p11 (suc (suc (suc (suc zero)))) l h = p4
+each-kind P p1 p2 p3 p4 p5 p6 p7 p8 p9 p10 p11 (suc (suc (suc (suc (suc zero))))) l h = p5
+each-kind P p1 p2 p3 p4 p5 p6 p7 p8 p9 p10 p11 (suc (suc (suc (suc (suc (suc zero)))))) l h = p6
+each-kind P p1 p2 p3 p4 p5 p6 p7 p8 p9 p10 p11 (suc (suc (suc (suc (suc (suc (suc zero))))))) l h = p7
+each-kind P p1 p2 p3 p4 p5 p6 p7 p8 p9 p10 p11 (suc (suc (suc (suc (suc (suc (suc (suc zero)))))))) l h = p8
+each-kind P p1 p2 p3 p4 p5 p6 p7 p8 p9 p10 p11 (suc (suc (suc (suc (suc (suc (suc (suc (suc zero))))))))) l h = p9
+each-kind P p1 p2 p3 p4 p5 p6 p7 p8 p9 p10 p11 (suc (suc (suc (suc (suc (suc (suc (suc (suc (suc zero)))))))))) l h = p10
+each-kind P p1 p2 p3 p4 p5 p6 p7 p8 p9 p10 p11 (suc (suc (suc (suc (suc (suc (suc (suc (suc (suc (suc zero))))))))))) l h = p11
+each-kind P p1 p2 p3 p4 p5 p6 p7 p8 p9 p10 p11 (suc (suc (suc (suc (suc (suc (suc (suc (suc (suc (suc (suc k)))))))))))) l h =
+    absurd (let z : ⊥ = omega arith in z)
 
 -- words are as a kind uses them: one that is not used is 0, and c is in its range
 pub record Used (u : Uses) (a b c : ℕ) : Type 0 where
@@ -97,6 +99,14 @@ formed-known k a b c e =
     let r = neither (misused u a b c) (pairWrong (kindOf k a b c)) (q .1) in
     (ltb-false k 1 (p .0), ltb-false lastKind k (q .0), used u a b c (r .0), r .1)
 
+-- the numbers of an AT LEAST row that fit each other
+taken-range : (least of : ℕ) → pairWrong (kind.Operator (AtLeast least of)) ≡ false → InRange (kind.Operator (AtLeast least of))
+taken-range least of e =
+    let p = neither (ltb least 1) (ltb of least || (ltb of leastTaken || ltb mostTaken of)) e in
+    let q = neither (ltb of least) (ltb of leastTaken || ltb mostTaken of) (p .1) in
+    let r = neither (ltb of leastTaken) (ltb mostTaken of) (q .1) in
+    ((ltb-false least 1 (p .0), ltb-false of least (q .0)), (ltb-false of leastTaken (r .0), ltb-false mostTaken of (r .1)))
+
 module _ (a b c : ℕ) where
   -- four words, by which of them are used
   words-are : (k a′ b′ c′ : ℕ) → a ≡ a′ → b ≡ b′ → c ≡ c′ → k ∷ a′ ∷ b′ ∷ c′ ∷ [] ≡ k ∷ a ∷ b ∷ c ∷ []
@@ -115,12 +125,14 @@ module _ (a b c : ℕ) where
       (λ u. words-are 8 0 0 0 (u .a-used refl) (u .b-used refl) (u .c-used refl))
       (λ u. words-are 9 0 0 0 (u .a-used refl) (u .b-used refl) (u .c-used refl))
       (λ u. words-are 10 a b (c / leastUnit * leastUnit + c % leastUnit) refl refl (omega arith))
+      (λ u. words-are 11 a b 0 refl refl (u .c-used refl))
 
   used-range : (k : ℕ) → 1 ≤ k → k ≤ lastKind → Used (usesOf (kindOf k a b c)) a b c → pairWrong (kindOf k a b c) ≡ false → InRange (kindOf k a b c)
   used-range =
       each-kind (λ k. Used (usesOf (kindOf k a b c)) a b c → pairWrong (kindOf k a b c) ≡ false → InRange (kindOf k a b c))
       (λ u f. tt) (λ u f. u .c-most) (λ u f. tt) (λ u f. tt) (λ u f. (u .c-least, u .c-most)) (λ u f. tt) (λ u f. tt) (λ u f. tt) (λ u f. tt)
       (λ u f. (ltb-false (c % leastUnit) (c / leastUnit) f, omega arith))
+      (λ u f. taken-range a b f)
 
 words-of : (k a b c : ℕ) → formWrong k a b c ≡ false → wordsOf (kindOf k a b c) ≡ k ∷ a ∷ b ∷ c ∷ []
 words-of k a b c e = let f = formed-known k a b c e in used-words a b c k (f .0) (f .1) (f .2)
@@ -141,7 +153,7 @@ read-proximity a b least most h k =
     let m : c % leastUnit ≡ most = omega arith in
     (rw (l, m, le-ltb c 0 (omega arith), le-ltb 4294967295 c (omega arith), le-ltb most least h), rw (l, m))
 
--- the words of a row whose limits are in range are read as that row
+-- the words of a row whose numbers are in range are read as that row
 read-words : (r : Kind) → InRange r → ReadAs r (wordsOf r)
 unfolding formWrong misused
 read-words (kind.Voice list) h = (refl, refl)
@@ -154,8 +166,10 @@ read-words kind.End h = (refl, refl)
 read-words (kind.Operator Both) h = (refl, refl)
 read-words (kind.Operator Either) h = (refl, refl)
 read-words (kind.Operator FirstNotSecond) h = (refl, refl)
+read-words (kind.Operator (AtLeast least of)) h =
+    (rw (le-ltb least 1 (h .0 .0), le-ltb of least (h .0 .1), le-ltb of leastTaken (h .1 .0), le-ltb mostTaken of (h .1 .1)), refl)
 
--- four words have the right form and are read as a row exactly if its limits are in range and they are its words
+-- four words have the right form and are read as a row exactly if its numbers are in range and they are its words
 pub reads-row : (k a b c : ℕ) (r : Row) → ((formWrong k a b c ≡ false) × (rowOf k a b c ≡ r)) ↔ (InRange (r .kind) × (wordsOf (r .kind) ≡ k ∷ a ∷ b ∷ c ∷ []))
 reads-row k a b c r = (there, back)
   where
@@ -278,7 +292,11 @@ pairWrong-decides (kind.Condition (Samepara a b)) = never-decides
 pairWrong-decides (kind.Condition (Window limit)) = never-decides
 pairWrong-decides (kind.Condition (Proximity a b least most)) = ltb-decides most least
 pairWrong-decides kind.End = never-decides
-pairWrong-decides (kind.Operator o) = never-decides
+pairWrong-decides (kind.Operator Both) = never-decides
+pairWrong-decides (kind.Operator Either) = never-decides
+pairWrong-decides (kind.Operator FirstNotSecond) = never-decides
+pairWrong-decides (kind.Operator (AtLeast least of)) =
+    or-decides (ltb-decides least 1) (or-decides (ltb-decides of least) (or-decides (ltb-decides of leastTaken) (ltb-decides mostTaken of)))
 
 pub formWrong-decides : (k a b c : ℕ) → Decides (formWrong k a b c) (WrongForm k a b c)
 unfolding formWrong misused

@@ -1,5 +1,6 @@
 -- The answer of a plan, read row by row with its answers as bits. No contract cites this file.
 --     bits-lt                              n answers are a number below two to the n
+--     bits-take, bits-drop, ones-bits      the n lowest bits, the others, and the ones among them
 --     operated, operated-bits              an operator on the bits is the operator on the answers
 --     Reading                              the answers so far, the open pattern, and what the rows left make of them
 --     reading-first                        in front of row 0
@@ -11,33 +12,39 @@
 --     known-answer, known-same             what is known is the answer, and stays
 -- Assumes nothing.
 use Prim.Native.Nat.{ℕ, zero, suc, _+_, _-_, _*_, _^_, _/_, _%_, _<_, _≤_}
-use native.Mathlib.Nat.{two-pow-succ}
+use native.Mathlib.Nat.{two-pow-succ, mod-one, zero-mod, div-one, zero-div}
+use native.Mathlib.Numerals.{one-add, add-one}
 use native.Mathlib.Omega.{arith}
 use mathlib.Core.Path.{_≡_, refl, sym, ap, ap₂, subst, _∙_}
-use mathlib.Core.Bool.{Bool, true, false}
+use mathlib.Core.Bool.{Bool, true, false, not, _&&_, _||_}
 use mathlib.Core.Logic.{_≢_, ⊎-elim}
 use mathlib.Core.List.{List, [], _∷_, _++_, map}
-use lib.ListN.{length, getD, set, replicate, length-map}
+use lib.ListN.{length, getD, take, drop, set, replicate, length-map}
+use lib.Pow.{shr-shr, mod-pow-add}
+use lib.Count.{onesIn, ones, ones-step}
 use lib.Seq.{getD-set-same, getD-set-other, set-getD}
-use lib.Dec.{eqb}
+use lib.Dec.{eqb, leb}
+use Rattle.seq.specs.Lists.{keep}
 use Rattle.seq.specs.Numbers.{run}
 use Rattle.seq.proofs.Laws.Decides.{decided, eqb-decides}
 use Rattle.seq.proofs.Laws.Numbers.{run-end, run-step}
 use Rattle.plan.specs.declared.row.Predicate.{Predicate}
 use Rattle.plan.specs.declared.row.Operator.{Operator}
-use Rattle.plan.specs.declared.row.Operator.the-variants.{Both, Either, FirstNotSecond}
+use Rattle.plan.specs.declared.row.Operator.the-variants.{Both, Either, FirstNotSecond, AtLeast}
 use Rattle.plan.specs.declared.row.Kind.{Kind}
 use Rattle.plan.specs.declared.row.Kind.the-variants as kind
 use Rattle.plan.specs.declared.state.State.{State}
 use Rattle.plan.specs.declared.row.Row.{Row}
 use Rattle.plan.specs.Limits.{mostPatterns}
-use Rattle.plan.specs.Rows.{rowCount, rowAt, rowsOf}
+use Rattle.plan.specs.Rows.{rowCount, rowAt, rowsOf, InRange}
 use Rattle.plan.specs.State.{takes, after, stateAt, orderWrong}
-use Rattle.plan.specs.Patterns.{Pattern, noRow, openAfter, closed, patternsFrom, patternsOf, operate, answersAfter, answersFrom, answer}
+use Rattle.plan.specs.Patterns.{Pattern, noRow, openAfter, closed, patternsFrom, patternsOf, two, yeses, operate}
+use Rattle.plan.specs.Patterns.{answersAfter, answersFrom, answer}
 use Rattle.plan.specs.Check.{sizes}
-use Rattle.plan.specs.Inner.Stack.{flagOf, bitsOf, foundBits, joinsTwo, mostFoundSets, Remembers}
-use Rattle.plan.proofs.Laws.State.{stateAt-first, stateAt-next, takes-two, operator-stands}
+use Rattle.plan.specs.Inner.Stack.{flagOf, bitsOf, foundBits, joins, mostFoundSets, Remembers}
+use Rattle.plan.proofs.Laws.State.{stateAt-first, stateAt-next, takes-some, operator-stands}
 use Rattle.plan.proofs.Laws.Patterns.{operate-length}
+use Rattle.plan.proofs.Laws.Operators.{yeses-cons}
 
 flag-le : (t : Bool) → flagOf t ≤ 1
 flag-le true = omega arith
@@ -63,15 +70,46 @@ bits-lt (suc n) (t ∷ ts) h =
     let f = flag-le t in
     rw two-pow-succ (omega arith)
 
--- the two lowest bits and the others
-module _ (second first : Bool) (ts : List Bool) where
-  bits-two : bitsOf (second ∷ (first ∷ ts)) % 4 ≡ flagOf first * 2 + flagOf second
+-- the lowest bit and the others
+module _ (t : Bool) (ts : List Bool) where
+  bits-half : bitsOf (t ∷ ts) / 2 ≡ bitsOf ts
   unfolding bitsOf
-  bits-two = let a = flag-le first in let b = flag-le second in omega arith
+  bits-half = let f = flag-le t in omega arith
 
-  bits-rest : bitsOf (second ∷ (first ∷ ts)) / 4 ≡ bitsOf ts
+  bits-odd : bitsOf (t ∷ ts) % 2 ≡ flagOf t
   unfolding bitsOf
-  bits-rest = let a = flag-le first in let b = flag-le second in omega arith
+  bits-odd = let f = flag-le t in omega arith
+
+-- the n lowest bits are the top n answers, and the others those below them
+bits-take : (n : ℕ) (ts : List Bool) → bitsOf ts % 2 ^ n ≡ bitsOf (take n ts)
+unfolding bitsOf
+bits-take zero ts = mod-one (bitsOf ts)
+bits-take (suc n) [] = zero-mod (2 ^ suc n)
+bits-take (suc n) (t ∷ ts) =
+    ap (λ (m : ℕ). bitsOf (t ∷ ts) % 2 ^ m) (sym (add-one n))
+    ∙ mod-pow-add (bitsOf (t ∷ ts)) n 1
+    ∙ ap₂ (λ (a b : ℕ). a % 2 ^ n * 2 + b) (bits-half t ts) (bits-odd t ts)
+    ∙ ap (λ (a : ℕ). a * 2 + flagOf t) (bits-take n ts)
+
+bits-drop : (n : ℕ) (ts : List Bool) → bitsOf ts / 2 ^ n ≡ bitsOf (drop n ts)
+unfolding bitsOf
+bits-drop zero ts = div-one (bitsOf ts)
+bits-drop (suc n) [] = zero-div (2 ^ suc n)
+bits-drop (suc n) (t ∷ ts) =
+    ap (λ (m : ℕ). bitsOf (t ∷ ts) / 2 ^ m) (sym (one-add n))
+    ∙ sym (shr-shr (bitsOf (t ∷ ts)) 1 n)
+    ∙ ap (λ (a : ℕ). a / 2 ^ n) (bits-half t ts)
+    ∙ bits-drop n ts
+
+-- the ones among the bits are the answers that are yes
+ones-bits : (ts : List Bool) → ones (bitsOf ts) ≡ yeses ts
+unfolding bitsOf ones onesIn yeses keep
+ones-bits [] = refl
+ones-bits (t ∷ ts) =
+    ones-step (bitsOf (t ∷ ts))
+    ∙ ap₂ (λ (a b : ℕ). a + ones b) (bits-odd t ts) (bits-half t ts)
+    ∙ ap (λ (n : ℕ). flagOf t + n) (ones-bits ts)
+    ∙ sym (yeses-cons t ts)
 
 -- the top answer is the lowest bit
 bits-top : (ts : List Bool) → eqb (bitsOf ts % 2) 1 ≡ getD ts 0 false
@@ -84,28 +122,47 @@ bits-top (t ∷ ts) =
 
 -- the bits behind an operator
 abbrev pub operated : Operator → ℕ → ℕ
-operated o stack = stack / 4 * 2 + flagOf (joinsTwo o (stack % 4))
+operated o stack = stack / 2 ^ takes o * 2 + flagOf (joins o (stack % 2 ^ takes o))
 
-pub operated-bits : (o : Operator) (ts : List Bool) → 2 ≤ length ts → operated o (bitsOf ts) ≡ bitsOf (operate o ts)
+-- an operator of two answers, whose answer to their bits is that to them
+two-bits :
+    (g : Bool → Bool → Bool) (join : ℕ → Bool) → ((first second : Bool) → join (bitsOf (second ∷ (first ∷ []))) ≡ g first second)
+    → (ts : List Bool) → 2 ≤ length ts → bitsOf (drop 2 ts) * 2 + flagOf (join (bitsOf (take 2 ts))) ≡ bitsOf (two g ts)
 unfolding bitsOf
-operated-bits o [] h = absurd (let z : ⊥ = omega arith in z)
-operated-bits o (second ∷ []) h = absurd (let z : ⊥ = omega arith in z)
-operated-bits o (second ∷ (first ∷ ts)) h =
-    ap₂ (λ (n two : ℕ). n * 2 + flagOf (joinsTwo o two)) (bits-rest second first ts) (bits-two second first ts) ∙ go o second first
+two-bits g join same [] h = absurd (let z : ⊥ = omega arith in z)
+two-bits g join same (second ∷ []) h = absurd (let z : ⊥ = omega arith in z)
+two-bits g join same (second ∷ (first ∷ ts)) h = ap (λ (t : Bool). bitsOf ts * 2 + flagOf t) (same first second)
+
+joined-bits :
+    (o : Operator) (ts : List Bool) → takes o ≤ length ts
+    → bitsOf (drop (takes o) ts) * 2 + flagOf (joins o (bitsOf (take (takes o) ts))) ≡ bitsOf (operate o ts)
+unfolding bitsOf
+joined-bits Both ts h = two-bits (λ first second. first && second) (joins Both) same ts h
   where
-    go : (o : Operator) (s f : Bool) → bitsOf ts * 2 + flagOf (joinsTwo o (flagOf f * 2 + flagOf s)) ≡ bitsOf (operate o (s ∷ (f ∷ ts)))
-    go Both true true = refl
-    go Both true false = refl
-    go Both false true = refl
-    go Both false false = refl
-    go Either true true = refl
-    go Either true false = refl
-    go Either false true = refl
-    go Either false false = refl
-    go FirstNotSecond true true = refl
-    go FirstNotSecond true false = refl
-    go FirstNotSecond false true = refl
-    go FirstNotSecond false false = refl
+    same : (first second : Bool) → joins Both (bitsOf (second ∷ (first ∷ []))) ≡ (first && second)
+    same true true = refl
+    same true false = refl
+    same false true = refl
+    same false false = refl
+joined-bits Either ts h = two-bits (λ first second. first || second) (joins Either) same ts h
+  where
+    same : (first second : Bool) → joins Either (bitsOf (second ∷ (first ∷ []))) ≡ (first || second)
+    same true true = refl
+    same true false = refl
+    same false true = refl
+    same false false = refl
+joined-bits FirstNotSecond ts h = two-bits (λ first second. first && not second) (joins FirstNotSecond) same ts h
+  where
+    same : (first second : Bool) → joins FirstNotSecond (bitsOf (second ∷ (first ∷ []))) ≡ (first && not second)
+    same true true = refl
+    same true false = refl
+    same false true = refl
+    same false false = refl
+joined-bits (AtLeast least of) ts h = ap (λ (n : ℕ). bitsOf (drop of ts) * 2 + flagOf (leb least n)) (ones-bits (take of ts))
+
+pub operated-bits : (o : Operator) (ts : List Bool) → takes o ≤ length ts → operated o (bitsOf ts) ≡ bitsOf (operate o ts)
+operated-bits o ts h =
+    ap₂ (λ (rest taken : ℕ). rest * 2 + flagOf (joins o taken)) (bits-drop (takes o) ts) (bits-take (takes o) ts) ∙ joined-bits o ts h
 
 -- the rows from row i on
 abbrev rowsFrom : List ℕ → ℕ → List Row
@@ -231,12 +288,12 @@ module _ (p : List ℕ) (bits stack rest i : ℕ) (r : Reading p bits stack rest
 
     -- an operator, which makes the bits those of its answers
     pub reading-operate :
-        (o : Operator) → rowAt p i .kind ≡ kind.Operator o → orderWrong (stateAt p i) (rowAt p i .kind) ≡ false
-        → (stack′ : ℕ) → ((ts : List Bool) → 2 ≤ length ts → stack ≡ bitsOf ts → stack′ ≡ bitsOf (operate o ts))
+        (o : Operator) → rowAt p i .kind ≡ kind.Operator o → InRange (rowAt p i .kind) → orderWrong (stateAt p i) (rowAt p i .kind) ≡ false
+        → (stack′ : ℕ) → ((ts : List Bool) → takes o ≤ length ts → stack ≡ bitsOf ts → stack′ ≡ bitsOf (operate o ts))
         → Reading p bits stack′ rest (i + 1)
-    reading-operate o e ordered stack′ operates =
+    reading-operate o e in-range ordered stack′ operates =
         let x = kind.Operator o in
-        let t = takes-two o in
+        let t = takes-some o (rw e at in-range) in
         let c = r .count in
         let w = operator-stands (stateAt p i) o (rw e at ordered) .1 in
         let m = operate-length o (r .answers) (omega arith) in

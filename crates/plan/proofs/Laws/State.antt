@@ -3,6 +3,7 @@
 --     stateAt-first, stateAt-next     in front of row 0, and of the next row
 --     stateAt-most, most-le           in front of row i no number of a state is above i, nor above a larger n
 --     condition-stands, end-stands, operator-stands     what a row that may stand there tells of the state
+--     takes-some, takes-few           an operator takes two answers to eight
 --     step-form .. step-stands        what a row does, by the first test that applies
 --     step-right                      a row that stands passes every test, and the state behind it
 --     listWrong-decides, tooMany-decides, orderWrong-decides     the tests decide document 01's sentences
@@ -25,14 +26,14 @@ use Rattle.plan.specs.declared.answers.Fault.the-variants as fault
 use Rattle.plan.specs.declared.row.Predicate.{Predicate}
 use Rattle.plan.specs.declared.row.Predicate.the-variants.{Distance, Ordered, Samepara, Window, Proximity}
 use Rattle.plan.specs.declared.row.Operator.{Operator}
-use Rattle.plan.specs.declared.row.Operator.the-variants.{Both, Either, FirstNotSecond}
+use Rattle.plan.specs.declared.row.Operator.the-variants.{Both, Either, FirstNotSecond, AtLeast}
 use Rattle.plan.specs.declared.row.Kind.{Kind}
 use Rattle.plan.specs.declared.row.Kind.the-variants as kind
 use Rattle.plan.specs.declared.row.Row.{Row}
 use Rattle.plan.specs.declared.state.State.{State}
 use Rattle.plan.specs.declared.state.Step.the-variants.{Stands, Faulty}
 use Rattle.plan.specs.Limits.{mostPatterns, mostPatternVars}
-use Rattle.plan.specs.Rows.{rowAt, formWrongAt}
+use Rattle.plan.specs.Rows.{rowAt, formWrongAt, InRange}
 use Rattle.plan.specs.Check.{faulty}
 use Rattle.plan.specs.State.{initial, takes, after, afterAll, stateAt, namesBelow, listWrong, tooMany, orderWrong, step}
 use Rattle.plan.specs.Inner.State.{AtMost}
@@ -89,11 +90,18 @@ condition-stands s c e =
 pub end-stands : (s : State) → orderWrong s kind.End ≡ false → s .vars ≢ 0
 end-stands s e = eqb-false (s .vars) 0 e
 
--- an operator takes two answers
-pub takes-two : (o : Operator) → takes o ≡ 2
-takes-two Both = refl
-takes-two Either = refl
-takes-two FirstNotSecond = refl
+-- an operator takes two answers to eight
+pub takes-some : (o : Operator) → InRange (kind.Operator o) → 2 ≤ takes o
+takes-some Both h = omega arith
+takes-some Either h = omega arith
+takes-some FirstNotSecond h = omega arith
+takes-some (AtLeast least of) h = h .1 .0
+
+pub takes-few : (o : Operator) → InRange (kind.Operator o) → takes o ≤ 8
+takes-few Both h = omega arith
+takes-few Either h = omega arith
+takes-few FirstNotSecond h = omega arith
+takes-few (AtLeast least of) h = h .1 .1
 
 pub operator-stands : (s : State) (o : Operator) → orderWrong s (kind.Operator o) ≡ false → (s .vars ≡ 0) × (takes o ≤ s .answers)
 operator-stands s o e =

@@ -1,13 +1,14 @@
 -- The answers of a plan in a document as the bits of a number. Assumes nothing.
 use Prim.Native.Nat.{ℕ, _+_, _*_, _≤_}
+use lib.Count.{ones}
 use mathlib.Core.Path.{_≡_}
 use mathlib.Core.Bool.{Bool, true, false, not}
 use mathlib.Core.List.{List, [], _∷_, map}
 use mathlib.Core.Logic.{_≢_}
-use lib.Dec.{eqb}
+use lib.Dec.{eqb, leb}
 use lib.ListN.{getD}
 use Rattle.plan.specs.declared.row.Operator.{Operator}
-use Rattle.plan.specs.declared.row.Operator.the-variants.{Both, Either, FirstNotSecond}
+use Rattle.plan.specs.declared.row.Operator.the-variants.{Both, Either, FirstNotSecond, AtLeast}
 use Rattle.plan.specs.Rows.{rowsOf}
 use Rattle.plan.specs.Patterns.{Pattern, patternsOf, answer}
 
@@ -25,11 +26,12 @@ bitsOf (t ∷ ts) = bitsOf ts * 2 + flagOf t
 abbrev pub foundBits : (Pattern → Bool) → List ℕ → ℕ
 foundBits found p = bitsOf (map found (patternsOf (rowsOf p)))
 
--- an operator answers yes to the two bits of its answers, the second answer the lower one
-abbrev pub joinsTwo : Operator → ℕ → Bool
-joinsTwo Both two = eqb two 3
-joinsTwo Either two = not (eqb two 0)
-joinsTwo FirstNotSecond two = eqb two 2
+-- an operator answers yes to the bits of the answers that it takes, the top one the lowest; AT LEAST counts the ones
+abbrev pub joins : Operator → ℕ → Bool
+joins Both taken = eqb taken 3
+joins Either taken = not (eqb taken 0)
+joins FirstNotSecond taken = eqb taken 2
+joins (AtLeast least of) taken = leb least (ones taken)
 
 -- the sets of found patterns of a plan with the most patterns, two to the power of their number
 abbrev pub mostFoundSets : ℕ

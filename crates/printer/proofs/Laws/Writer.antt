@@ -1,5 +1,5 @@
 -- The line of an accepted plan, written from its end. No contract cites this file.
---     typed-voiced               a tree whose line keeps to the grammar has a variable in each pattern
+--     line-voiced                a tree whose line keeps to the grammar has a variable in each pattern
 --     plan-room, plan-put        the rows of an accepted plan are those of its tree
 --     line-short, line-whole     the line has no room, or is written
 --     write-refused, write-line     the call
@@ -11,7 +11,6 @@ use mathlib.Core.List.{List, []}
 use lib.ListN.{length}
 use borrow.Author.Tests.{lt-ltb, le-ltb}
 use Rattle.seq.specs.Refusals.{answered, laid}
-use Rattle.plan.specs.declared.row.Operator.the-variants.{Both, Either, FirstNotSecond}
 use Rattle.plan.specs.declared.answers.Refusal.{Refusal}
 use Rattle.plan.specs.Answers.{Sizes, saidRefusal}
 use Rattle.plan.specs.Rows.{rowCount, rowsOf}
@@ -19,8 +18,10 @@ use Rattle.plan.specs.Check.{verdict, sizes, Accepted}
 use Rattle.plan.proofs.Laws.Check.{verdict-passed}
 use Rattle.plan.proofs.Laws.Accepted.{given}
 use Rattle.volume.specs.Layout.{listCount}
-use Rattle.grammar.specs.Grammar.{written, Fits, PartFits, ItemFits}
-use Rattle.grammar.specs.Query.{Query, leaf, node, queryOf, stackRows, typed, planLine, planText}
+use Rattle.grammar.specs.declared.tokens.Connective.the-variants as c
+use Rattle.grammar.specs.Grammar.{written, Fits, PartFits, ItemFits, LinesFit}
+use Rattle.grammar.specs.Query.{Query, leaf, node, threshold, Queries, empty, push, queryOf, stackRows, typed, typedLines, planLine}
+use Rattle.grammar.specs.Query.{planText}
 use Rattle.grammar.proofs.Laws.Written.{plan-tree}
 use Rattle.grammar.proofs.Laws.Bounds.{accepted-line}
 use Rattle.printer.specs.declared.answers.Written.{Written}
@@ -30,7 +31,7 @@ use Rattle.printer.specs.declared.trees.Level.the-variants as level
 use Rattle.printer.specs.Answers.{saidWritten}
 use Rattle.printer.specs.Write.{writeAnswer, writeOut}
 use Rattle.printer.specs.Inner.Writing.{PutBack, storedBytes}
-use Rattle.printer.specs.Inner.Trees.{Voiced, TreeEnd, TreeRoom, TreePut, LineWritten}
+use Rattle.printer.specs.Inner.Trees.{Voiced, AllVoiced, TreeEnd, TreeRoom, TreePut, LineWritten}
 use Rattle.printer.proofs.Laws.Bytes.{stored-front}
 use Rattle.printer.proofs.Laws.Patterns.{rows-back}
 
@@ -40,21 +41,28 @@ mutual
 
   line-voiced : (q : Query) → Fits (typed q .line) → Voiced q
   line-voiced (leaf f) h = h .some-list
-  line-voiced (node Both a b) h = (part-voiced a (h .0), item-voiced b (h .1))
-  line-voiced (node Either a b) h = (line-voiced a (h .0), part-voiced b (h .1))
-  line-voiced (node FirstNotSecond a b) h = (part-voiced a (h .0), item-voiced b (h .1))
+  line-voiced (node c.And a b) h = (part-voiced a (h .0), item-voiced b (h .1))
+  line-voiced (node c.Or a b) h = (line-voiced a (h .0), part-voiced b (h .1))
+  line-voiced (node c.AndNot a b) h = (part-voiced a (h .0), item-voiced b (h .1))
+  line-voiced (threshold n qs) h = lines-voiced qs (h .1)
 
   part-voiced : (q : Query) → PartFits (typed q .part) → Voiced q
   part-voiced (leaf f) h = h .some-list
-  part-voiced (node Both a b) h = (part-voiced a (h .0), item-voiced b (h .1))
-  part-voiced (node Either a b) h = (line-voiced a (h .0), part-voiced b (h .1))
-  part-voiced (node FirstNotSecond a b) h = (part-voiced a (h .0), item-voiced b (h .1))
+  part-voiced (node c.And a b) h = (part-voiced a (h .0), item-voiced b (h .1))
+  part-voiced (node c.Or a b) h = (line-voiced a (h .0), part-voiced b (h .1))
+  part-voiced (node c.AndNot a b) h = (part-voiced a (h .0), item-voiced b (h .1))
+  part-voiced (threshold n qs) h = lines-voiced qs (h .1)
 
   item-voiced : (q : Query) → ItemFits (typed q .item) → Voiced q
   item-voiced (leaf f) h = h .some-list
-  item-voiced (node Both a b) h = (part-voiced a (h .0), item-voiced b (h .1))
-  item-voiced (node Either a b) h = (line-voiced a (h .0), part-voiced b (h .1))
-  item-voiced (node FirstNotSecond a b) h = (part-voiced a (h .0), item-voiced b (h .1))
+  item-voiced (node c.And a b) h = (part-voiced a (h .0), item-voiced b (h .1))
+  item-voiced (node c.Or a b) h = (line-voiced a (h .0), part-voiced b (h .1))
+  item-voiced (node c.AndNot a b) h = (part-voiced a (h .0), item-voiced b (h .1))
+  item-voiced (threshold n qs) h = lines-voiced qs (h .1)
+
+  lines-voiced : (qs : Queries) → LinesFit (typedLines qs) → AllVoiced qs
+  lines-voiced empty h = tt
+  lines-voiced (push qs q) h = (lines-voiced qs (h .0), line-voiced q (h .1))
 
 module _ (v p : List ℕ) (ok : Accepted v p) where
   -- it has a row

@@ -2,19 +2,21 @@
 --     textAt               the text of a tree, as a line, a part or an item
 --     TreeEnd, TreeRoom    the rows of a tree end here, behind those of other trees
 --     TreePut              its text is stored
+--     LinesEnd, LinesRoom, LinesPut     the same of several trees
 --     LineWritten          the line of an accepted plan is written, or has no room
 use Prim.Native.Nat.{ℕ, _+_, _≤_}
 use mathlib.Core.Path.{_≡_}
 use mathlib.Core.Bool.{Bool, true, false, cond}
-use mathlib.Core.List.{List, _∷_}
+use mathlib.Core.List.{List, _∷_, _++_}
 use lib.ListN.{length}
 use lib.Dec.{ltb}
 use Rattle.seq.specs.Refusals.{Said, refused, answered, laid}
-use Rattle.plan.specs.declared.row.Operator.{Operator}
-use Rattle.plan.specs.declared.row.Operator.the-variants.{Both, Either, FirstNotSecond}
 use Rattle.plan.specs.Rows.{rowsBefore}
-use Rattle.grammar.specs.Grammar.{written, partText, itemText}
-use Rattle.grammar.specs.Query.{Query, leaf, node, stackRows, typed, planText}
+use Rattle.grammar.specs.declared.tokens.Connective.{Connective}
+use Rattle.grammar.specs.declared.tokens.Connective.the-variants as c
+use Rattle.grammar.specs.Grammar.{written, partText, itemText, linesText}
+use Rattle.grammar.specs.Query.{Query, leaf, node, threshold, Queries, empty, push, queryCount, queriesRows, stackRows, typed}
+use Rattle.grammar.specs.Query.{typedLines, planText}
 use Rattle.printer.specs.declared.answers.Written.{Written}
 use Rattle.printer.specs.declared.patterns.Back.{Back}
 use Rattle.printer.specs.declared.trees.Level.{Level}
@@ -28,36 +30,42 @@ textAt level.Line q = written (typed q .line)
 textAt level.Part q = partText (typed q .part)
 textAt level.Item q = itemText (typed q .item)
 
--- what an operator joins stands in round brackets
-abbrev pub bracketed : Level → Operator → Bool
-bracketed level.Line o = false
-bracketed level.Part Both = false
-bracketed level.Part Either = true
-bracketed level.Part FirstNotSecond = false
-bracketed level.Item o = true
+-- what a connective joins stands in round brackets
+abbrev pub bracketed : Level → Connective → Bool
+bracketed level.Line k = false
+bracketed level.Part c.And = false
+bracketed level.Part c.Or = true
+bracketed level.Part c.AndNot = false
+bracketed level.Item k = true
 
 -- what its first side is written as
-abbrev pub leftLevel : Operator → Level
-leftLevel Both = level.Part
-leftLevel Either = level.Line
-leftLevel FirstNotSecond = level.Part
+abbrev pub leftLevel : Connective → Level
+leftLevel c.And = level.Part
+leftLevel c.Or = level.Line
+leftLevel c.AndNot = level.Part
 
 -- what its second side is written as
-abbrev pub rightLevel : Operator → Level
-rightLevel Both = level.Item
-rightLevel Either = level.Part
-rightLevel FirstNotSecond = level.Item
+abbrev pub rightLevel : Connective → Level
+rightLevel c.And = level.Item
+rightLevel c.Or = level.Part
+rightLevel c.AndNot = level.Item
 
 -- the byte between them: `&`, `|`, `!`
-abbrev pub operatorByte : Operator → ℕ
-operatorByte Both = 38
-operatorByte Either = 124
-operatorByte FirstNotSecond = 33
+abbrev pub connectiveByte : Connective → ℕ
+connectiveByte c.And = 38
+connectiveByte c.Or = 124
+connectiveByte c.AndNot = 33
 
 -- every pattern of a tree has a variable
-unfoldable pub Voiced : Query → Type 0
-Voiced (leaf f) = 1 ≤ length (f .vars)
-Voiced (node o a b) = Voiced a × Voiced b
+unfoldable mutual
+  pub Voiced : Query → Type 0
+  Voiced (leaf f) = 1 ≤ length (f .vars)
+  Voiced (node k a b) = Voiced a × Voiced b
+  Voiced (threshold n qs) = AllVoiced qs
+
+  pub AllVoiced : Queries → Type 0
+  AllVoiced empty = Unit
+  AllVoiced (push qs q) = AllVoiced qs × Voiced q
 
 -- the rows to row `last` are those of the trees of a stack, and q is the top one
 pub record TreeEnd (p : List ℕ) (last : ℕ) (qs : List Query) (q : Query) : Type 0 where
@@ -75,6 +83,26 @@ pub record TreeRoom (p : List ℕ) (last : ℕ) (level : Level) (end : ℕ) : Ty
 -- whichever they are, the text of the top one is stored
 pub record TreePut (p : List ℕ) (last : ℕ) (level : Level) (out : List ℕ) (end : ℕ) (out′ : List ℕ) (r : Back) : Type 0 where
   pub all : (qs : List Query) (q : Query) → TreeEnd p last qs q → Laid (textAt level q) (stackRows qs) out end out′ r
+
+-- the rows to row `last` are those of the trees of a stack, and then those of `count` trees
+pub record LinesEnd (p : List ℕ) (last count : ℕ) (qs : List Query) (ts : Queries) : Type 0 where
+  pub rows : rowsBefore p (last + 1) ≡ stackRows qs ++ queriesRows ts
+  pub count-is : queryCount ts ≡ count
+  pub voiced : AllVoiced ts
+
+-- there are such trees, one at least, and room for the text of the last ones in front of `end`
+pub record LinesRoom (p : List ℕ) (last count end : ℕ) : Type 0 where
+  pub formed : Formed p last
+  pub some : 1 ≤ count
+  pub rest : List Query
+  pub trees : Queries
+  pub ends : LinesEnd p last count rest trees
+  pub room : length (linesText (typedLines trees)) ≤ end
+
+-- whichever they are, their text is stored
+pub record LinesPut (p : List ℕ) (last count : ℕ) (out : List ℕ) (end : ℕ) (out′ : List ℕ) (r : Back) : Type 0 where
+  pub all : (qs : List Query) (ts : Queries) → LinesEnd p last count qs ts
+      → Laid (linesText (typedLines ts)) (stackRows qs) out end out′ r
 
 -- what writing a text answers: 16, or the number of bytes
 abbrev pub lineAnswer : List ℕ → ℕ → Said ℕ

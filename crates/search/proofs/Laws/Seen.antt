@@ -130,7 +130,7 @@ module _ (v p table orders ends : List ℕ) (w : Walks v p table orders ends) wh
 
     seen-none : (j : ℕ) → from ≤ j → j < doc → work v p .isTrue j ≡ false
     unfolding work workOf sizes
-    seen-none j f h = matching-none (listsOf v) (rowsOf p) j (λ k i. b .each k i .absent j f (let m = least k i in omega arith))
+    seen-none j f h = matching-none v p (w .accepted) j (λ k i. b .each k i .absent j f (let m = least k i in omega arith))
 
     -- each pattern in the document
     pub seen-here : (k : ℕ) → k < sizes p .patterns → Candidate v p ats ends ps k doc (getD docs k 0)

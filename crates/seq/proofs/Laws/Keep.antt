@@ -7,6 +7,7 @@
 --     length-keep, keep-le             how many pass: a sum of ones; not more than there are
 --     all-fails                        a test that not all pass, at an index
 --     all-append, all-map, all-keep, all-first     a test of all, in two parts, of a mapped list, of those kept, of the first
+--     all-take, all-drop               of the first ones, and of the others
 -- Assumes nothing.
 use Prim.Native.Nat.{ℕ, zero, suc, _+_, _<_, _≤_}
 use native.Mathlib.Omega.{arith}
@@ -14,7 +15,7 @@ use mathlib.Core.Path.{_≡_, refl, ap, ap₂}
 use mathlib.Core.Bool.{Bool, true, false, cond, _&&_}
 use mathlib.Core.List.{List, [], _∷_, _++_, map}
 use mathlib.Core.Option.{some}
-use lib.ListN.{length, getD}
+use lib.ListN.{length, getD, take, drop}
 use Rattle.seq.specs.Lists.{consIf, keep, all, total, first}
 use Rattle.seq.specs.Numbers.{run}
 use Rattle.seq.proofs.Laws.Tests.{both, both-true, contrary}
@@ -93,6 +94,18 @@ module _ {A : Type 0} (test : A → Bool) where
       go : (t : Bool) → test x ≡ t → (t && all test xs) ≡ false → (all test xs ≡ false → (i : ℕ) × (i < length xs) × (test (getD xs i d) ≡ false)) → (i : ℕ) × (i < suc (length xs)) × (test (getD (x ∷ xs) i d) ≡ false)
       go true q f rest = let w = rest f in (suc (w .0), omega (arith, w .1), w .2)
       go false q f rest = (0, omega arith, q)
+
+  pub all-take : (n : ℕ) (xs : List A) → all test xs ≡ true → all test (take n xs) ≡ true
+  unfolding all
+  all-take zero xs e = refl
+  all-take (suc n) [] e = refl
+  all-take (suc n) (x ∷ xs) e = let w = both (test x) (all test xs) e in both-true (test x) (all test (take n xs)) (w .0) (all-take n xs (w .1))
+
+  pub all-drop : (n : ℕ) (xs : List A) → all test xs ≡ true → all test (drop n xs) ≡ true
+  unfolding all
+  all-drop zero xs e = e
+  all-drop (suc n) [] e = refl
+  all-drop (suc n) (x ∷ xs) e = all-drop n xs (both (test x) (all test xs) e .1)
 
   pub all-append : (xs ys : List A) → all test xs ≡ true → all test ys ≡ true → all test (xs ++ ys) ≡ true
   unfolding all

@@ -10,8 +10,8 @@ use Rattle.line.specs.declared.reading.Reached.the-variants.{At}
 use Rattle.line.specs.Inner.Reads.{FigureRead}
 use Rattle.line.specs.Inner.Store.{putWords}
 use denote.Ref.{now}
-use Rattle.line.proofs.Laws.Reads.{Within, within-first, within-length, within-most, within-end, within-goes, within-emits}
-use Rattle.line.proofs.Laws.Reads.{within-closes, within-stuck}
+use Rattle.line.proofs.Laws.Figure.{Within, within-first, within-length, within-most, within-end, within-goes, within-emits}
+use Rattle.line.proofs.Laws.Figure.{within-closes, within-stuck}
 use Rattle.line.proofs.figure.figure.Statement.{statement}
 use Rattle.line.proofs.figure.figure.Tie as tie
 

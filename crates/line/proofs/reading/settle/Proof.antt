@@ -4,7 +4,7 @@ use native.Mathlib.Omega.{arith}
 use mathlib.Core.Path.{refl}
 use denote.Ref.{now}
 use Rattle.line.specs.Inner.Store.{stored}
-use Rattle.line.proofs.Laws.Reads.{settled}
+use Rattle.line.proofs.Laws.Figure.{settled}
 use Rattle.line.proofs.reading.settle.Statement.{statement}
 use Rattle.line.proofs.reading.settle.Tie as tie
 

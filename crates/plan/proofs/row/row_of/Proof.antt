@@ -1,4 +1,4 @@
--- `row::row_of` meets its contract: one arm for each kind; the last one is left for kind 10. Assumes nothing.
+-- `row::row_of` meets its contract: one arm for each kind; the last one is left for kind 11. Assumes nothing.
 use borrow.Author.Needs.{needs}
 use native.Mathlib.Omega.{arith}
 use Prim.Native.Nat.{ℕ, _+_, _≤_}
@@ -44,11 +44,20 @@ returns-9 : tie.Need-returns-9
 returns-9 c = simp (c .match .keys9)
 
 returns-10 : tie.Need-returns-10
-returns-10 c =
+returns-10 c = simp (c .match .keys10)
+
+returns-11 : tie.Need-returns-11
+returns-11 c =
     let k = c .before .args .kind in
     let r = c .match .rest in
-    let low : 10 ≤ k = up (up (up (up (up (up (up (up (up (c .before .pre .0) (r .0 .0 .0 .0 .0 .0 .0 .0 .1)) (r .0 .0 .0 .0 .0 .0 .0 .1)) (r .0 .0 .0 .0 .0 .0 .1)) (r .0 .0 .0 .0 .0 .1)) (r .0 .0 .0 .0 .1)) (r .0 .0 .0 .1)) (r .0 .0 .1)) (r .0 .1)) (r .1) in
-    let e : k ≡ 10 = omega arith in
+    let low : 6 ≤ k =
+    up
+    (up
+    (up (up (up (c .before .pre .0) (r .0 .0 .0 .0 .0 .0 .0 .0 .0 .1)) (r .0 .0 .0 .0 .0 .0 .0 .0 .1)) (r .0 .0 .0 .0 .0 .0 .0 .1))
+    (r .0 .0 .0 .0 .0 .0 .1))
+    (r .0 .0 .0 .0 .0 .1) in
+    let high : 11 ≤ k = up (up (up (up (up low (r .0 .0 .0 .0 .1)) (r .0 .0 .0 .1)) (r .0 .0 .1)) (r .0 .1)) (r .1) in
+    let e : k ≡ 11 = omega arith in
     simp e
 
 pub row-of-spec : {M : Type 1} → statement M
@@ -66,4 +75,5 @@ row-of-spec =
     returns-7
     returns-8
     returns-9
-    returns-10)
+    returns-10
+    returns-11)

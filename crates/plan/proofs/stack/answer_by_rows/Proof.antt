@@ -3,14 +3,16 @@
 use borrow.Author.Needs.{needs}
 use native.Mathlib.Omega.{arith}
 use Prim.Native.Nat.{_-_, _<_}
-use mathlib.Core.Path.{sym, ap, _∙_}
+use mathlib.Core.Path.{sym, ap, subst, _∙_}
 use mathlib.Core.Logic.{⊎-elim}
 use denote.Ref.{now}
+use Rattle.plan.specs.declared.row.Kind.{Kind}
 use Rattle.plan.specs.declared.row.Row.{Row}
-use Rattle.plan.specs.Rows.{rowCount}
+use Rattle.plan.specs.Rows.{rowCount, InRange}
 use Rattle.plan.specs.Check.{sizes}
 use Rattle.plan.proofs.Laws.Check.{verdict-passed}
 use Rattle.plan.proofs.Laws.Accepted.{given}
+use Rattle.plan.proofs.Laws.Given.{row-range}
 use Rattle.plan.proofs.Laws.Stack.{Reading, reading-first, reading-small, reading-voice, reading-condition, reading-end, reading-operate, reading-done}
 use Rattle.plan.proofs.stack.answer_by_rows.Statement.{statement}
 use Rattle.plan.proofs.stack.answer_by_rows.Tie as tie
@@ -55,7 +57,13 @@ enum-known-kind : tie.Need-enum-known-kind Inv-loop μ-loop
 enum-known-kind c = search needs
 
 operate-requires : tie.Need-operate-requires Inv-loop μ-loop
-operate-requires c κs = omega arith
+operate-requires c κs =
+    let start = c .before .before .before .before .before .before .before in
+    let p = now (start .args .plan) in
+    let i = c .before .before .before .before .before .loop .i in
+    let h = c .before .before .before .before .loop-test .taken in
+    let read = sym (ap (λ (r : Row). r .kind) (c .before .before .before .row-at .ensures)) in
+    subst (λ (x : Kind). InRange x) (read ∙ c .before .kind .given .1) (row-range p i (given _ _ (start .pre .1) .formed i h))
 
 add-i : tie.Need-add-i Inv-loop μ-loop
 add-i c = omega arith
@@ -78,7 +86,10 @@ loop-again c =
     (λ w. rw (w .2, w .3) (reading-condition p bits (l .stack) (l .rest) (l .i) (l .inv) h _ (read ∙ w .1 .given .1)))
     (⊎-elim
     (λ w. rw (w .2, w .3) (reading-end p bits (l .stack) (l .rest) (l .i) (l .inv) h (read ∙ w .1 .given .1)))
-    (λ w. rw (w .4, w .5) (reading-operate p bits (l .stack) (l .rest) (l .i) (l .inv) h _ (read ∙ w .1 .given .1) (ok .ordered (l .i) h) (w .3 .result) (w .3 .ensures)))))
+    (λ w.
+    rw (w .4, w .5)
+    (reading-operate p bits (l .stack) (l .rest) (l .i) (l .inv) h _ (read ∙ w .1 .given .1)
+    (row-range p (l .i) (ok .formed (l .i) h)) (ok .ordered (l .i) h) (w .3 .result) (w .3 .ensures)))))
     (c .match .came)
 
 returns : tie.Need-returns Inv-loop μ-loop
