@@ -32,7 +32,7 @@
  * becomes (B + A) mod 65,535. All stored numbers are little-endian.
  *
  * A plan is a query over a volume: 1 to 64 rows of four words, kind, a, b and c. A row whose kind
- * does not use a word has 0 there. The ten kinds:
+ * does not use a word has 0 there. The eleven kinds:
  *
  *    1  VOICE             a variable (01: voice) with list a, which is not list 0. Where no pattern
  *                         (01: figure) is open it opens one. Variables are numbered from 0 in each
@@ -56,6 +56,8 @@
  *                         less that of a less 1 is from least to most, both counted in. c is
  *                         least * 65,536 + most, with least not over most; a most of 65,535 sets
  *                         no upper end. It never holds where a is b.
+ *   11  AT LEAST          takes the top b answers and stacks one: a or more of them are yes; b is 2
+ *                         to 8, and a is 1 to b
  *
  * In a pattern all variables stand before the predicates. A pattern has 1 to 8 variables, a plan 1
  * to 8 patterns, numbered from 0 in the order in which they open. At the end no pattern is open and
@@ -71,7 +73,8 @@
  *
  *    line       part { "|" part }                 EITHER
  *    part       item { "&" item / "!" item }      BOTH, FIRST NOT SECOND
- *    item       pattern / "(" line ")"
+ *    item       pattern / "(" line ")" / some
+ *    some       "<" k ":" line { "," line } ">"   AT LEAST
  *    pattern    "[" list { " " list } { ";" predicate } "]"
  *    predicate  "n " a " " b " " c                NEAR
  *               "b " a " " b                      BEFORE
@@ -80,11 +83,13 @@
  *               "a " a " " b " " least " " most   APART
  *
  * A list, a, b and c are numbers from 0 to 65,536, least and most from 0 to 65,535, in base ten and
- * without a leading zero. Both kinds of joining go left to right: [1]&[2]![3] is ([1]&[2])![3]. The
- * rows of a line follow its order: a VOICE for each list, a row for each predicate, END at the
- * closing square bracket, and each operator behind all rows of its second side. Round brackets have
- * no rows. Any number of lists, any variable, SPAN 0 or an APART whose least exceeds its most can
- * be typed; it is the plan's check that refuses them.
+ * without a leading zero. Between < and > stand two to eight lines; k is a digit from 1 to 8, and
+ * not over the number of the lines. Both kinds of joining go left to right: [1]&[2]![3] is
+ * ([1]&[2])![3]. The rows of a line follow its order: a VOICE for each list, a row for each
+ * predicate, END at the closing square bracket, and each operator behind all rows of its second
+ * side. AT LEAST stands behind all rows of its last line; its a is k, and its b the number of its
+ * lines. Round brackets have no rows. Any number of lists, any variable, SPAN 0 or an APART whose
+ * least exceeds its most can be typed; it is the plan's check that refuses them.
  *
  * A tuple of positions (01: choice), one for each variable of a pattern, passes in a document if
  * each position is in its variable's list for that document and all predicates hold. Two variables
@@ -141,13 +146,13 @@ extern "C" {
 #define LHZ_MAX_PATTERNS 8      /* patterns of a plan, at most; 1 at least */
 #define LHZ_MAX_VARS 8          /* variables of a pattern, at most; 1 at least */
 #define LHZ_MAX_LINE_BYTES 2048 /* bytes of a line, at most */
-#define LHZ_MAX_LINE_DEPTH 8    /* round brackets of a line that are open at one place, at most */
+#define LHZ_MAX_LINE_DEPTH 8    /* brackets ( and < of a line that are open at one place, at most */
 
 /* Words of a row that lhz_list writes, at most: 1 + F + 2 * V with F patterns and V variables. Of a
- * plan's rows, 64 at most, V are VOICE, F are END and F - 1 are operators, and V is 8 * F at most;
- * so the longest row is that of 7 patterns with 51 variables. A buffer of so many words holds a row
- * of every plan. */
-#define LHZ_MAX_ROW_WORDS 110
+ * plan's rows, 64 at most, V are VOICE and F are END, and where F is over 1 one more at least makes
+ * one answer of theirs; V is 8 * F at most. So the longest row is that of 7 patterns with 56
+ * variables. A buffer of so many words holds a row of every plan. */
+#define LHZ_MAX_ROW_WORDS 120
 
 #define LHZ_DONE 65536     /* what lhz_list tells as `next` where no document is left */
 #define LHZ_NO_START 65536 /* what a row has as title start of a position that is in no title */
@@ -163,6 +168,7 @@ extern "C" {
 #define LHZ_EITHER 8
 #define LHZ_FIRST_NOT_SECOND 9
 #define LHZ_APART 10
+#define LHZ_AT_LEAST 11
 
 /* The c of an APART row, of two limits: at least so many positions between the two variables, and
  * at most so many. 0 and 0 make a phrase. Each limit must be from 0 to 65,535: a larger one makes
@@ -342,15 +348,17 @@ typedef struct lhz_check_plan_answer {
  * all of them. For 10 to 13, at: the row, from 0.
  *    1 to 8                       the volume is refused as by lhz_check_volume, with the same place
  *    9  LHZ_REFUSED_PLAN_LENGTH   plan_len is 0, no multiple of 4, or over 256
- *   10  LHZ_REFUSED_ROW_FORM      the kind is not 1 to 10, an unused word is not 0, c is out of
- *                                 range, or an APART has a least over its most
+ *   10  LHZ_REFUSED_ROW_FORM      the kind is not 1 to 11, an unused word is not 0, c is out of
+ *                                 range, an APART has a least over its most, or in an AT LEAST a is
+ *                                 not 1 to b or b is not 2 to 8
  *   11  LHZ_REFUSED_ROW_LIST      a VOICE with list 0, or with a list not below T
  *   12  LHZ_REFUSED_ROW_TOO_MANY  a ninth variable of a pattern, or a VOICE that would open a ninth
  *                                 pattern
  *   13  LHZ_REFUSED_ROW_ORDER     a VOICE after a predicate; a predicate with no pattern open, or
  *                                 naming a variable that is not there; END with no pattern open;
  *                                 BOTH, EITHER or FIRST NOT SECOND with a pattern open or fewer
- *                                 than two answers
+ *                                 than two answers; AT LEAST with a pattern open or fewer than b
+ *                                 answers
  *   14  LHZ_REFUSED_UNFINISHED    at the end a pattern is open, or the number of answers is not one
  */
 lhz_check_plan_answer lhz_check_plan(const uint8_t *volume, size_t len, const uint32_t *plan,
@@ -546,7 +554,8 @@ typedef struct lhz_line_to_plan_answer {
  * No volume is asked: whether the rows are accepted over one is told by lhz_check_plan. Where they
  * are, the documents that match are exactly those that the line names when it is read on its own:
  * a pattern names those in which it is found, & those that both its sides name, | those that at
- * least one of its sides names, ! those that its first side names and its second does not.
+ * least one of its sides names, ! those that its first side names and its second does not, <k:..>
+ * those that k or more of its lines name.
  *
  * Refusals, the first that applies. Of 21 and 22 that is the one at the lower byte, and 21 where
  * both are at one byte.
@@ -556,7 +565,8 @@ typedef struct lhz_line_to_plan_answer {
  *                                 at: the first byte, from 0, that no line of the grammar could
  *                                 have there; len where no line could end there. Brackets within
  *                                 brackets, rows and bytes are not limited by the grammar
- *   22  LHZ_REFUSED_LINE_DEPTH    a round bracket is opened inside eight open ones
+ *   22  LHZ_REFUSED_LINE_DEPTH    a round bracket or a < is opened inside eight open ones, which
+ *                                 may be of both kinds
  *                                 at: its byte, from 0
  *   23  LHZ_REFUSED_LINE_ROWS     the line needs over 64 rows
  *   16  LHZ_REFUSED_SHORT_BUFFER  out_len is less than the words of the rows

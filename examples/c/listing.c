@@ -51,13 +51,15 @@ static const char *const sentences[] = {
         "the plan is empty, is no whole number of rows, or has over 64 rows",
     [LHZ_REFUSED_ROW_FORM] =
         "row # of the plan has an unknown kind, a word that is not 0 where its kind uses none, "
-        "a c out of range, or a least that exceeds its most",
+        "a c out of range, a least that exceeds its most, or as AT LEAST an a that is not 1 to b "
+        "or a b that is not 2 to 8",
     [LHZ_REFUSED_ROW_LIST] =
         "row # of the plan names list 0, or a list that the volume does not have",
     [LHZ_REFUSED_ROW_TOO_MANY] =
         "row # of the plan is the ninth voice of a figure, or opens a ninth figure",
     [LHZ_REFUSED_ROW_ORDER] =
-        "row # of the plan is out of order, or names a voice that its figure does not have",
+        "row # of the plan is out of order, finds fewer answers than it takes, or names a voice "
+        "that its figure does not have",
     [LHZ_REFUSED_UNFINISHED] = "the plan ends with a figure open, or not with one answer",
     [LHZ_REFUSED_START] = "the start scene is over 65,535",
     [LHZ_REFUSED_SHORT_BUFFER] = "the buffer is shorter than one row of the listing",

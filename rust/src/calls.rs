@@ -202,9 +202,10 @@ pub fn join_volumes(
 /// Checks a plan over a volume, every byte of the volume and every row of the plan.
 ///
 /// Refused with 1 to 8 as by [`check_volume`], then, the first that applies, with 9 (length), then
-/// row by row, all at the row, 10 (unknown kind, unused word not 0, `c` out of range, or an APART
-/// whose least exceeds its most), 11 (list 0, or no list of the volume), 12 (a ninth variable of a
-/// pattern, or a ninth pattern) and 13 (out of order, or no variable of the pattern), then 14 (a
+/// row by row, all at the row, 10 (unknown kind, unused word not 0, `c` out of range, an APART whose
+/// least exceeds its most, or an AT LEAST whose `a` is not 1 to `b` or whose `b` is not 2 to 8), 11
+/// (list 0, or no list of the volume), 12 (a ninth variable of a pattern, or a ninth pattern) and 13
+/// (out of order, fewer answers than the row takes, or no variable of the pattern), then 14 (a
 /// pattern open, or not one answer, at the end).
 ///
 /// ```
@@ -297,7 +298,7 @@ pub fn test_positions(
 /// Lists the matching documents from `start` on, rising, as rows at the front of `out`; the words
 /// behind the rows stay as they were.
 ///
-/// A row has [`CheckedPlan::row_width`] words, 110 at most: the document, then for each pattern 1
+/// A row has [`CheckedPlan::row_width`] words, 120 at most: the document, then for each pattern 1
 /// and two words for each variable, or 0 and zeros where it is not found in that document. The two
 /// words are the variable's position, one of the pattern's least positions, and the start of its
 /// title: the greatest start of the document, in list 0, that is not above the position, or
@@ -414,8 +415,9 @@ pub fn list_matches(
 ///
 /// Refused, the first that applies, with 21 (over 2,048 bytes, at 2,048), then with the one of 21
 /// and 22 that is at the lower byte, 21 where both are at one: 21 at the first byte that no line of
-/// the grammar could have there, or at the end, and 22 at a round bracket that is opened inside
-/// eight open ones; then with 23 (over 64 rows), then with 16 (`out` is shorter than the rows).
+/// the grammar could have there, or at the end, and 22 at a round bracket or `<` that is opened
+/// inside eight open ones; then with 23 (over 64 rows), then with 16 (`out` is shorter than the
+/// rows).
 ///
 /// ```
 /// use lihambozy::calls::line_to_plan;
@@ -482,11 +484,12 @@ fn accepted(number: u32, at: u32) -> Result<(), Refusal> {
 #[cfg(test)]
 mod tests {
     use super::*;
-    use crate::row::{voice, PlanRow, EITHER, END};
+    use crate::row::{at_least, voice, PlanRow, EITHER, END};
     use crate::{Posting, MAX_PATTERNS, MAX_ROWS, MAX_VARS};
 
     /// A buffer of one row is filled, and one that is a word shorter is refused and left as it was:
-    /// for as many variables in each of as many patterns as 64 rows hold, and for the longest row.
+    /// for as many variables in each of as many patterns as 64 rows hold, joined by EITHER or by AT
+    /// LEAST, and for the longest rows of seven patterns joined by EITHER and of eight.
     #[test]
     fn a_row_fits_its_width() {
         let mut volume = [0; BLOCK_BYTES];
@@ -494,10 +497,18 @@ mod tests {
         write_volume(&[1, 1], &postings, &mut volume).unwrap();
         let alike = |patterns: usize| (1..=MAX_VARS).map(move |vars| vec![vars; patterns]);
         let mut widest = 0;
-        for vars in (1..=MAX_PATTERNS).flat_map(alike).chain([vec![8, 8, 8, 8, 8, 8, 3]]) {
+        let longest = [vec![8, 8, 8, 8, 8, 8, 3], vec![7, 7, 7, 7, 7, 7, 7, 6]];
+        let shapes = (1..=MAX_PATTERNS).flat_map(alike).chain(longest);
+        let joined = |vars: Vec<usize>| {
+            let count = vars.len();
+            let some = (count > 1).then(|| vec![at_least(1, count as u32)]);
+            let joins = some.into_iter().chain([vec![EITHER; count - 1]]);
+            joins.map(move |joins| (vars.clone(), joins))
+        };
+        for (vars, joins) in shapes.flat_map(joined) {
             let pattern = |&vars: &usize| [vec![voice(1); vars], vec![END]].concat();
             let mut rows: Vec<PlanRow> = vars.iter().flat_map(pattern).collect();
-            rows.resize(rows.len() + vars.len() - 1, EITHER);
+            rows.extend(joins);
             let plan = rows.concat();
             let Ok(checked) = check_plan(&volume, &plan) else {
                 assert!(rows.len() > MAX_ROWS, "{vars:?}");
@@ -515,7 +526,7 @@ mod tests {
             assert_eq!(out, [&row[..], &[7]].concat(), "{vars:?}");
             widest = widest.max(width);
         }
-        assert_eq!(widest, 110);
+        assert_eq!(widest, 120);
     }
 
     #[test]

@@ -28,3 +28,6 @@ pub const FIRST_NOT_SECOND: u32 = 9;
 /// least * 65,536 + most, and least is not over most. A most of 65,535 sets no upper end. It never
 /// holds where `a` is `b`.
 pub const APART: u32 = 10;
+/// Takes the top `b` answers and stacks one: `a` or more of them are yes. `b` is 2 to 8, and `a` is
+/// 1 to `b`. Of two answers, 1 is what [`EITHER`] asks for, and 2 what [`BOTH`] does.
+pub const AT_LEAST: u32 = 11;

@@ -45,6 +45,8 @@ pub struct Follow {
 ///
 /// let deepest = could_follow("((((((((");
 /// assert_eq!((&deepest.bytes[..], deepest.end), (&b"["[..], false));
+/// assert_eq!(could_follow("<").to_string(), "1 to 8");
+/// assert_eq!(could_follow("<2:[1]").to_string(), "`&`, `!`, `|` or `,`");
 /// assert_eq!(could_follow("[1 ]").to_string(), "nothing");
 /// ```
 pub fn could_follow(front: impl AsRef<[u8]>) -> Follow {
@@ -67,7 +69,7 @@ fn broken_at(text: &[u8]) -> Option<usize> {
 
 /// The signs of a line in the order in which [`Follow`] shows them, behind digits. Any others come
 /// last.
-const ORDER: &[u8] = b" [(&!|;nbtsa])";
+const ORDER: &[u8] = b" [(<&!|,;:nbtsa])>";
 
 impl fmt::Display for Follow {
     fn fmt(&self, f: &mut fmt::Formatter<'_>) -> fmt::Result {
@@ -121,7 +123,7 @@ fn shown(byte: u8) -> String {
 /// let refusal = Plan::from_line("[1]&").unwrap_err();
 /// assert_eq!(
 ///     line::refused("[1]&", refusal).unwrap(),
-///     "the line cannot end at byte 4, counted from 0; `[` or `(` could stand there"
+///     "the line cannot end at byte 4, counted from 0; `[`, `(` or `<` could stand there"
 /// );
 /// ```
 pub fn refused(line: impl AsRef<[u8]>, refusal: Refusal) -> Option<String> {
@@ -143,9 +145,10 @@ pub fn refused(line: impl AsRef<[u8]>, refusal: Refusal) -> Option<String> {
         (21, Some(&byte)) => {
             format!("{} cannot stand at byte {at}, counted from 0; {} could", name(byte), could())
         }
-        (22, _) => format!(
-            "the round bracket at byte {at}, counted from 0, is opened inside eight open ones; {} \
-             could stand there",
+        (22, byte) => format!(
+            "the {} at byte {at}, counted from 0, is opened inside eight open ones; {} could stand \
+             there",
+            if byte == Some(&b'<') { "`<`" } else { "round bracket" },
             could()
         ),
         _ => return None,
@@ -228,17 +231,22 @@ mod tests {
     fn what_could_follow() {
         let behind_item = "`&`, `!`, `|` or the end of the line";
         let behind_inner = "`&`, `!`, `|` or `)`";
+        let behind_first = "`&`, `!`, `|` or `,`";
+        let behind_line = "`&`, `!`, `|`, `,` or `>`";
         let behind_number = "a digit, a space, `;` or `]`";
         let behind_last = "a space, `;` or `]`";
+        let seven = format!("<3:{}[1]", "[1],".repeat(6));
+        let eight = format!("<3:{}[1]", "[1],".repeat(7));
+        let nested = "<1:(".repeat(3) + "(";
         for (front, told) in [
-            ("", "`[` or `(`"),
-            ("(", "`[` or `(`"),
-            ("(((((((", "`[` or `(`"),
+            ("", "`[`, `(` or `<`"),
+            ("(", "`[`, `(` or `<`"),
+            ("(((((((", "`[`, `(` or `<`"),
             ("((((((((", "`[`"),
             ("((((((((([1]", "nothing"),
-            ("[1]|", "`[` or `(`"),
-            ("([1]&", "`[` or `(`"),
-            ("[1]!", "`[` or `(`"),
+            ("[1]|", "`[`, `(` or `<`"),
+            ("([1]&", "`[`, `(` or `<`"),
+            ("[1]!", "`[`, `(` or `<`"),
             ("[1]", behind_item),
             ("([1])", behind_item),
             ("[1]&([2]|[3])", behind_item),
@@ -270,6 +278,25 @@ mod tests {
             ("[1;a 0 0 0 6553", "0 to 5, `;` or `]`"),
             ("[1;a 0 0 0 0", "`;` or `]`"),
             ("[1;b 0 0;", "`n`, `b`, `t`, `s` or `a`"),
+            ("<", "1 to 8"),
+            ("<2", "`:`"),
+            ("<2:", "`[`, `(` or `<`"),
+            ("<2:[1],", "`[`, `(` or `<`"),
+            ("<8:[1]|", "`[`, `(` or `<`"),
+            ("<1:[1]", behind_first),
+            ("<1:[1],[1]", behind_line),
+            ("<2:[1],[1]&([2])", behind_line),
+            ("<3:[1],[1]", behind_first),
+            ("<3:[1],[1],[1]", behind_line),
+            ("<1:[1],([1]", behind_inner),
+            ("(<1:[1],[1]>", behind_inner),
+            ("<1:[1],[1]>", behind_item),
+            ("<1:[1],<1:[1],[1]>", behind_line),
+            (&seven, behind_line),
+            (&eight, "`&`, `!`, `|` or `>`"),
+            (&(nested.clone() + "<1:"), "`[`"),
+            (&(nested.clone() + "<1:[1]"), behind_first),
+            (&(nested + "<1:[1],"), "`[`"),
             ("[1] ", "nothing"),
             ("]", "nothing"),
         ] {
@@ -299,12 +326,12 @@ mod tests {
     /// and not where it could end there. All others are refused at their place.
     #[test]
     fn what_could_follow_makes_lines() {
-        let (mut state, mut lines) = (7_u32, 0);
+        let (mut state, mut lines, mut closed) = (7_u32, 0, 0);
         let mut random = |below: usize| {
             state = state.wrapping_mul(1_664_525).wrapping_add(1_013_904_223);
             (state >> 16) as usize % below
         };
-        for _ in 0..40 {
+        for _ in 0..150 {
             let mut line = vec![];
             for _ in 0..random(60) {
                 let Follow { bytes, end } = could_follow(&line);
@@ -312,29 +339,36 @@ mod tests {
                 let broken = (!end).then_some((21, line.len() as u32));
                 assert_eq!(refused, broken, "{:?}", String::from_utf8_lossy(&line));
                 lines += usize::from(end);
+                closed += usize::from(line.ends_with(b">"));
                 let byte = random(256) as u8;
                 if !bytes.contains(&byte) {
                     let other = [&line[..], &[byte]].concat();
                     let why = Plan::from_line(&other).unwrap_err();
                     assert_eq!(why.at as usize, line.len(), "{byte} behind {line:?}");
                 }
-                line.push(bytes[random(bytes.len())]);
+                let ends: Vec<u8> =
+                    bytes.iter().copied().filter(|byte| b"]),>".contains(byte)).collect();
+                let signs = if ends.is_empty() || random(2) == 0 { bytes } else { ends };
+                line.push(signs[random(signs.len())]);
             }
         }
-        assert!(lines > 20, "{lines}");
+        assert!(lines > 60 && closed > 5, "{lines} {closed}");
     }
 
     #[test]
     fn sentences() {
         for (line, sentence) in [
-            ("", "the line cannot end at byte 0, counted from 0; `[` or `(` could stand there"),
+            (
+                "",
+                "the line cannot end at byte 0, counted from 0; `[`, `(` or `<` could stand there",
+            ),
             ("[1;n 0 1]", "`]` cannot stand at byte 8, counted from 0; a digit or a space could"),
             (
                 "[1] ",
                 "a space cannot stand at byte 3, counted from 0; `&`, `!`, `|` or the end of \
                       the line could",
             ),
-            ("\u{e9}", "`\\xc3` cannot stand at byte 0, counted from 0; `[` or `(` could"),
+            ("\u{e9}", "`\\xc3` cannot stand at byte 0, counted from 0; `[`, `(` or `<` could"),
             (
                 "(((((((([1](",
                 "`(` cannot stand at byte 11, counted from 0; `&`, `!`, `|` or `)` \
@@ -344,6 +378,21 @@ mod tests {
                 "((((((((([",
                 "the round bracket at byte 8, counted from 0, is opened inside eight \
                             open ones; `[` could stand there",
+            ),
+            (
+                "<1:(((((((<2:[1],[2]>",
+                "the `<` at byte 10, counted from 0, is opened inside eight open ones; `[` could \
+                 stand there",
+            ),
+            (
+                "<2:[1],<1:[2],[3]&((((((([4]",
+                "the round bracket at byte 24, counted from 0, is opened inside eight open ones; \
+                 `[` could stand there",
+            ),
+            ("<0:", "`0` cannot stand at byte 1, counted from 0; 1 to 8 could"),
+            (
+                "<3:[1],[2]>",
+                "`>` cannot stand at byte 10, counted from 0; `&`, `!`, `|` or `,` could",
             ),
         ] {
             let refusal = Plan::from_line(line).unwrap_err();

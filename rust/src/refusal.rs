@@ -49,7 +49,8 @@ impl fmt::Display for Refusal {
             10 => write!(
                 f,
                 "row {at} of the plan has an unknown kind, a word that is not 0 where its kind uses \
-                 none, a c out of range, or a least that exceeds its most"
+                 none, a c out of range, a least that exceeds its most, or as AT LEAST an a that \
+                 is not 1 to b or a b that is not 2 to 8"
             ),
             11 => write!(
                 f,
@@ -61,8 +62,8 @@ impl fmt::Display for Refusal {
             ),
             13 => write!(
                 f,
-                "row {at} of the plan is out of order, or names a voice that its figure does not \
-                 have"
+                "row {at} of the plan is out of order, finds fewer answers than it takes, or names \
+                 a voice that its figure does not have"
             ),
             14 => f.write_str("the plan ends with a figure open, or not with one answer"),
             15 => f.write_str("the start scene is over 65,535"),
@@ -83,7 +84,7 @@ impl fmt::Display for Refusal {
             21 => write!(f, "no line could have what this one has at byte {at}, or end there"),
             22 => write!(
                 f,
-                "the round bracket at byte {at} of the line is opened inside eight open ones"
+                "the round bracket or `<` at byte {at} of the line is opened inside eight open ones"
             ),
             23 => f.write_str("the line needs over 64 rows"),
             24 => f.write_str("the two volumes do not have equally many lists"),
@@ -157,13 +158,20 @@ mod tests {
                 10,
                 2,
                 "row 2 of the plan has an unknown kind, a word that is not 0 where its kind uses \
-                 none, a c out of range, or a least that exceeds its most (refused 10 2)",
+                 none, a c out of range, a least that exceeds its most, or as AT LEAST an a that \
+                 is not 1 to b or a b that is not 2 to 8 (refused 10 2)",
             ),
             (
                 11,
                 3,
                 "row 3 of the plan names list 0, or a list that the volume does not have \
                  (refused 11 3)",
+            ),
+            (
+                13,
+                6,
+                "row 6 of the plan is out of order, finds fewer answers than it takes, or names a \
+                 voice that its figure does not have (refused 13 6)",
             ),
             (14, 0, "the plan ends with a figure open, or not with one answer (refused 14 0)"),
             (15, 0, "the start scene is over 65,535 (refused 15 0)"),
@@ -187,7 +195,7 @@ mod tests {
             (
                 22,
                 8,
-                "the round bracket at byte 8 of the line is opened inside eight open ones \
+                "the round bracket or `<` at byte 8 of the line is opened inside eight open ones \
                  (refused 22 8)",
             ),
             (23, 0, "the line needs over 64 rows (refused 23 0)"),

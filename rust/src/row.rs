@@ -54,3 +54,14 @@ pub const BOTH: PlanRow = [kind::BOTH, 0, 0, 0];
 pub const EITHER: PlanRow = [kind::EITHER, 0, 0, 0];
 /// See [`kind::FIRST_NOT_SECOND`].
 pub const FIRST_NOT_SECOND: PlanRow = [kind::FIRST_NOT_SECOND, 0, 0, 0];
+
+/// `a` or more of the top `b` answers: see [`kind::AT_LEAST`].
+///
+/// ```
+/// use lihambozy::{kind, row};
+///
+/// assert_eq!(row::at_least(2, 3), [kind::AT_LEAST, 2, 3, 0]);
+/// ```
+pub const fn at_least(a: u32, b: u32) -> PlanRow {
+    [kind::AT_LEAST, a, b, 0]
+}

@@ -216,7 +216,7 @@ impl fmt::Display for Row {
 #[cfg(test)]
 mod tests {
     use super::*;
-    use crate::row::{voice, EITHER, END};
+    use crate::row::{at_least, voice, EITHER, END};
     use crate::{Position, Posting};
     use std::panic;
 
@@ -318,16 +318,16 @@ mod tests {
     }
 
     /// The patterns of a row are all its words but the document: for each number of variables in
-    /// each of three patterns, and for the plan with the longest rows.
+    /// each of three patterns, and for the plans of seven and of eight with the longest rows.
     #[test]
     fn patterns_are_the_words_of_a_row() {
         let volume = volume(2);
         let shapes = (0..512).map(|i| vec![1 + i / 64, 1 + i / 8 % 8, 1 + i % 8]);
-        for vars in shapes.chain([vec![8, 8, 8, 8, 8, 8, 3]]) {
+        for vars in shapes.chain([vec![8; 7], vec![7, 7, 7, 7, 7, 7, 7, 6]]) {
             let list = |pattern: usize| 1 + pattern as u32 % 2;
             let voices = vars.iter().enumerate().map(|(k, &vars)| vec![voice(list(k)); vars]);
             let mut rows = voices.map(|voices| [&voices[..], &[END]].concat()).collect::<Vec<_>>();
-            rows.push(vec![EITHER; vars.len() - 1]);
+            rows.push(vec![at_least(1, vars.len() as u32)]);
             let plan = Plan::new(rows.concat());
             for row in volume.search(&plan).unwrap() {
                 let mut words = vec![row.doc()];

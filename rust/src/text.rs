@@ -277,7 +277,7 @@ const LEAST: Number = Number { word: 3, shift: 16, greatest: 65_535 };
 const MOST: Number = Number { word: 3, shift: 0, greatest: 65_535 };
 
 /// The kinds: name, number, and the numbers that it uses.
-const KINDS: [(&str, u32, &[Number]); 10] = [
+const KINDS: [(&str, u32, &[Number]); 11] = [
     ("VOICE", kind::VOICE, &[A]),
     ("NEAR", kind::NEAR, &[A, B, C]),
     ("BEFORE", kind::BEFORE, &[A, B]),
@@ -288,6 +288,7 @@ const KINDS: [(&str, u32, &[Number]); 10] = [
     ("EITHER", kind::EITHER, &[]),
     ("FIRST NOT SECOND", kind::FIRST_NOT_SECOND, &[]),
     ("APART", kind::APART, &[A, B, LEAST, MOST]),
+    ("AT LEAST", kind::AT_LEAST, &[A, B]),
 ];
 
 /// A row of a plan, shown as a line of its text.

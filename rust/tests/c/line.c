@@ -108,6 +108,10 @@ int main(void) {
     show_plan(LHZ_MAX_LINE_BYTES);
     show_line("[2 1;n 1 0 65535;s 65536;a 0 1 0 65535]");
     show_plan(LHZ_MAX_LINE_BYTES);
+    show_line("(<2:[1],([2]|[1]),<1:[2],[1]>>)![2]");
+    show_plan(LHZ_MAX_LINE_BYTES);
+    show_plan(31);
+    show_plan(30);
 
     /* Read, and refused as plans: list 3, variable 2, a SPAN of 0, and a volume. */
     show_line("[1]&[3]");
@@ -138,6 +142,13 @@ int main(void) {
     show_line("((((((((([1])))))))))");
     show_line("(((((((([1](");
     show_line("((((((((x(");
+    show_line("<");
+    show_line("<9:[1],[2]>");
+    show_line("<2:[1]>");
+    show_line("<3:[1],[2]>");
+    show_line("<8:[1],[1],[1],[1],[1],[1],[1],[1],[1]>");
+    show_line("[1],[2]");
+    show_line("<1:[1],(((((((<1:[1],[2]>");
 
     /* 64 rows and 65, in 127 bytes and 129; then 2,048 bytes and 2,049. */
     line[0] = '[';

@@ -70,9 +70,9 @@ int main(void) {
            (unsigned)offsetof(lhz_pattern_rows_answer, len));
     printf("limits %d %d %d %d %d\n", LHZ_ROW_WORDS, LHZ_MAX_ROWS, LHZ_MAX_PLAN_WORDS,
            LHZ_MAX_PATTERNS, LHZ_MAX_VARS);
-    printf("kinds %d %d %d %d %d %d %d %d %d %d\n", LHZ_VOICE, LHZ_NEAR, LHZ_BEFORE,
-           LHZ_SAME_TITLE, LHZ_SPAN, LHZ_END, LHZ_BOTH, LHZ_EITHER, LHZ_FIRST_NOT_SECOND,
-           LHZ_APART);
+    printf("kinds %d %d %d %d %d %d %d %d %d %d %d\n", LHZ_VOICE, LHZ_NEAR, LHZ_BEFORE,
+           LHZ_SAME_TITLE, LHZ_SPAN, LHZ_END, LHZ_BOTH, LHZ_EITHER, LHZ_FIRST_NOT_SECOND, LHZ_APART,
+           LHZ_AT_LEAST);
     SHOW_LIMITS(0, 0);
     SHOW_LIMITS(4, 9);
     SHOW_LIMITS(0, LHZ_NO_UPPER_END);
@@ -124,13 +124,31 @@ int main(void) {
     plan[second + 7] = LHZ_APART_LIMITS(65535, LHZ_NO_UPPER_END);
     plan[second + 5] = 1;
     show_check("variable of APART", len);
-    add(second + 4, LHZ_APART + 1, 0, 0, 0);
-    show_check("kind 11", len);
+    add(second + 4, LHZ_AT_LEAST, 1, 2, 0);
+    show_check("AT LEAST with a pattern open", len);
+    add(second + 4, LHZ_AT_LEAST + 1, 0, 0, 0);
+    show_check("kind 12", len);
     add(second + 4, LHZ_NEAR, 0, 0, 0);
     add(len - 4, LHZ_BOTH, 0, 0, 0);
     show_check("BOTH", len);
     add(len - 4, LHZ_EITHER, 0, 0, 0);
     show_check("EITHER", len);
+    add(len - 4, LHZ_AT_LEAST, 2, 2, 0);
+    show_check("AT LEAST 2 2", len);
+    add(len - 4, LHZ_AT_LEAST, 3, 3, 0);
+    show_check("AT LEAST 3 3", len);
+    add(len - 4, LHZ_AT_LEAST, 3, 2, 0);
+    show_check("AT LEAST 3 2", len);
+    add(len - 4, LHZ_AT_LEAST, 0, 2, 0);
+    show_check("AT LEAST 0 2", len);
+    add(len - 4, LHZ_AT_LEAST, 1, 1, 0);
+    show_check("AT LEAST 1 1", len);
+    add(len - 4, LHZ_AT_LEAST, 1, 9, 0);
+    show_check("AT LEAST 1 9", len);
+    add(len - 4, LHZ_AT_LEAST, 1, 2, 1);
+    show_check("c of AT LEAST", len);
+    add(len - 4, LHZ_AT_LEAST, 1, 2, 0);
+    show_check("AT LEAST 1 2", len);
 
     volume[LHZ_BLOCK_BYTES - 1] ^= 1;
     show_check("checksum", len);

@@ -97,11 +97,17 @@ int main(void) {
     start_plan();
     add(LHZ_VOICE, 1);
     SHOW(LHZ_REFUSED_UNFINISHED, PLAN);
-    add(LHZ_APART + 1, 0);
+    add(LHZ_AT_LEAST + 1, 0);
     SHOW(LHZ_REFUSED_ROW_FORM, PLAN);
     plan[LHZ_ROW_WORDS] = LHZ_APART;
     plan[LHZ_ROW_WORDS + 3] = LHZ_APART_LIMITS(1, 0);
     SHOW(LHZ_REFUSED_ROW_FORM, PLAN);
+    start_plan();
+    add(LHZ_AT_LEAST, 3);
+    plan[2] = 2;
+    SHOW(LHZ_REFUSED_ROW_FORM, PLAN);
+    plan[1] = 2;
+    SHOW(LHZ_REFUSED_ROW_ORDER, PLAN);
     start_plan();
     add(LHZ_VOICE, 2);
     SHOW(LHZ_REFUSED_ROW_LIST, PLAN);
@@ -114,13 +120,12 @@ int main(void) {
     SHOW(LHZ_REFUSED_ROW_ORDER, PLAN);
 
     start_plan();
-    for (int i = 0; i < 6; i++) {
+    for (int i = 0; i < 7; i++) {
         for (int var = 0; var < LHZ_MAX_VARS; var++) add(LHZ_VOICE, 1);
         add(LHZ_END, 0);
     }
-    for (int var = 0; var < 3; var++) add(LHZ_VOICE, 1);
-    add(LHZ_END, 0);
-    for (int i = 0; i < 6; i++) add(LHZ_BOTH, 0);
+    add(LHZ_AT_LEAST, 7);
+    plan[plan_len - 2] = 7;
     printf("longest row %d: %u %u\n", LHZ_MAX_ROW_WORDS, (unsigned)PLAN.patterns,
            (unsigned)PLAN.vars);
     SHOW(LHZ_REFUSED_START, LIST(LHZ_LAST_DOC + 1, LHZ_MAX_ROW_WORDS));
@@ -153,6 +158,8 @@ int main(void) {
     SHOW(LHZ_REFUSED_UNFINISHED, TELL(14));
     memset(line, '(', sizeof line);
     SHOW(LHZ_REFUSED_LINE_FORM, LINE(LHZ_MAX_LINE_DEPTH, LHZ_MAX_PLAN_WORDS));
+    SHOW(LHZ_REFUSED_LINE_DEPTH, LINE(LHZ_MAX_LINE_DEPTH + 1, LHZ_MAX_PLAN_WORDS));
+    line[LHZ_MAX_LINE_DEPTH] = '<';
     SHOW(LHZ_REFUSED_LINE_DEPTH, LINE(LHZ_MAX_LINE_DEPTH + 1, LHZ_MAX_PLAN_WORDS));
     line[0] = '[';
     for (size_t i = 1; i < 2 * LHZ_MAX_ROWS; i += 2) memcpy(line + i, "1 ", 2);

@@ -226,7 +226,7 @@ int main(void) {
     enumerate(1, 1, 2, 2);
     enumerate(1, 2, 2, 2);
     show_matches_from(2, 1, 0, 0, 2, ROOM);
-    plan[plan_len - 4] = LHZ_APART + 1;
+    plan[plan_len - 4] = LHZ_AT_LEAST + 1;
     show_list(65536, 0);
 
     plan_len = 0;
@@ -246,6 +246,32 @@ int main(void) {
     show_list(0, ROOM);
 
     show_matches_from(9, 65536, 0, 0, 0, 0);
+
+    /* Three patterns: the second word behind the first, the first in a title, and the second right
+     * behind the first. Document 1 has two of them, document 2 one. */
+    plan_len = 0;
+    add(LHZ_VOICE, 1, 0, 0);
+    add(LHZ_VOICE, 2, 0, 0);
+    add(LHZ_BEFORE, 0, 1, 0);
+    add(LHZ_END, 0, 0, 0);
+    add(LHZ_VOICE, 1, 0, 0);
+    add(LHZ_SAME_TITLE, 0, 0, 0);
+    add(LHZ_END, 0, 0, 0);
+    add(LHZ_VOICE, 1, 0, 0);
+    add(LHZ_VOICE, 2, 0, 0);
+    add(LHZ_APART, 0, 1, LHZ_APART_LIMITS(0, 0));
+    add(LHZ_END, 0, 0, 0);
+    add(LHZ_AT_LEAST, 1, 3, 0);
+    search("AT LEAST 1 3", width());
+    plan[plan_len - 3] = 2;
+    search("AT LEAST 2 3", width());
+    enumerate(1, 1, 1, ROOM);
+    plan[plan_len - 3] = 3;
+    search("AT LEAST 3 3", width());
+    plan[plan_len - 3] = 4;
+    show_list(0, ROOM);
+    plan[plan_len - 2] = 4;
+    show_list(0, ROOM);
 
     /* All tuples of one variable, of two and of eight. */
     plan_len = 0;

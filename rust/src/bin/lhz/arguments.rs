@@ -103,7 +103,7 @@ impl Arguments {
 
 /// Whether an argument starts as every line does.
 fn starts_line(argument: &OsString) -> bool {
-    matches!(argument.as_encoded_bytes(), [b'[' | b'(', ..])
+    matches!(argument.as_encoded_bytes(), [b'[' | b'(' | b'<', ..])
 }
 
 /// Sets an option that takes nothing.

@@ -93,6 +93,9 @@ place of PLAN (lhz plan --help).
   $ lhz list titles.vol --line '[1 2;b 0 1]![2 1;n 0 1 0]'
   scene 2 1 4 65536 9 65536 0 0 0 0 0
   done 12
+  $ lhz list titles.vol --line '<2:[1;t 0 0],[2],[2 1;n 0 1 0]>'
+  scene 1 1 2 0 1 5 0 1 7 6 8 6
+  done 12
 
 With --names each scene is told in words, with a line for each figure. FILE
 tells the words by lines `N word`, or is a text of lists, with comments
@@ -226,6 +229,8 @@ figure. What follows # is skipped, and so are empty lines.
                        them; a most of 65535 sets no upper end
   END                  closes the figure: is it found?
   BOTH, EITHER, FIRST NOT SECOND    join the last two answers into one
+  AT LEAST a b         joins the last b answers into one: are a or more of them
+                       yes? b is 2 to 8, and a is 1 to b
 
 A row may also be its four numbers: kind, a, b, c. Whether the plan is in order
 is told by lhz check VOLUME PLAN.
@@ -253,13 +258,17 @@ conditions, each behind a semicolon.
   LINE&LINE            BOTH
   LINE!LINE            FIRST NOT SECOND
   (LINE)               what belongs together
+  <2:LINE,LINE,LINE>   AT LEAST 2 3: two to eight lines, and how many of them at
+                       least
 
 & and ! bind tighter than |, and all of them join from left to right. One space
 parts words and stands nowhere else. Numbers have no leading zero and are at
 most 65536, least and most at most 65535. A line has at most 2048 bytes, eight
-round brackets open at one place, and 64 rows. A line that is refused at a byte
+brackets ( or < open at one place, and 64 rows. A line that is refused at a byte
 is shown with a mark under it, and what could stand there is told.
 
+  $ lhz plan --line '<2:[1],[2],[1 2;n 0 1 0]>' some.plan
+  rows 9
   $ lhz plan --line '[1 2;b 0 1;t 0 1]' sample.plan
   rows 5
 ";
@@ -278,7 +287,7 @@ a line. FILE tells the words by lines `N word`, or is a text of lists, with
 comments `# list N: word`.
 
 Here too a typed line may stand in place of PLAN: --line in front of an argument
-that starts with [ or ( is that line. In front of any other, or at the end, it
+that starts with [ ( or < is that line. In front of any other, or at the end, it
 asks for the line of a plan.
 
   $ lhz show sample.plan
@@ -302,6 +311,12 @@ asks for the line of a plan.
   VOICE 2
   END
   BOTH
+  $ lhz show --line '<1:[1],[2]>'
+  VOICE 1
+  END
+  VOICE 2
+  END
+  AT LEAST 1 2
   $ lhz show titles.vol --line '[1]&[2]' 1
   VOICE 2
   END
