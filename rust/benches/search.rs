@@ -1,4 +1,4 @@
-//! Times the library's listing beside the yardstick's: eleven plans over each of two made-up
+//! Times the library's listing beside the yardstick's: twelve plans over each of two made-up
 //! archives (`time_plans`), and how the time grows with the positions of one document
 //! (`time_growth`). The results are compared before anything is timed. Then it times what a listing
 //! does before its walk, for lists at the front of a volume of many lists and at its end
@@ -50,7 +50,7 @@ const TITLES_TARGET: f64 = 2.15;
 /// calls, with the check of the volume.
 const CROWDED_TARGET: f64 = 1.4;
 
-/// The lists of the volumes over which 51 variables are on one list, the first that a plan may name
+/// The lists of the volumes over which 56 variables are on one list, the first that a plan may name
 /// or the last.
 const MANY_LISTS: u32 = 1_024;
 const STARTS_ROUNDS: usize = 1_001;
@@ -426,9 +426,9 @@ fn time_starts(timed: bool) -> bool {
     for listing in &listings {
         // In each pattern all variables are found, at position 5, and no title starts.
         let found = |vars: usize| [&[1][..], &[5, 65_536].repeat(vars)].concat();
-        let row = [vec![CROWDED], found(8).repeat(6), found(3)].concat();
-        assert_eq!((listing.rows, listing.tally), (1, 51));
-        assert_eq!(listing.out[..110], row);
+        let row = [vec![CROWDED], found(8).repeat(7)].concat();
+        assert_eq!((listing.rows, listing.tally), (1, 56));
+        assert_eq!(listing.out[..120], row);
     }
     let [mut checks, mut lists] = [(); 2].map(|()| [(); 2].map(|()| Times::default()));
     for _ in 0..if timed { STARTS_ROUNDS } else { 1 } {
@@ -442,10 +442,10 @@ fn time_starts(timed: bool) -> bool {
         return false;
     }
 
-    println!("\n# 51 variables on the first list of a small volume, and on the last one\n");
+    println!("\n# 56 variables on the first list of a small volume, and on the last one\n");
     println!(
-        "{MANY_LISTS} lists, of which one has a posting; seven patterns, EITHER. {STARTS_ROUNDS} \
-         rounds, minima, in microseconds.\n"
+        "{MANY_LISTS} lists, of which one has a posting; seven patterns, AT LEAST 1. \
+         {STARTS_ROUNDS} rounds, minima, in microseconds.\n"
     );
     println!("| list | check of the plan | listing | less the check | more | target | |");
     println!("|---|---|---|---|---|---|---|");

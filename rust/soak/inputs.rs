@@ -244,7 +244,10 @@ fn crowded_plan(rng: &mut Rng, lists: usize) -> Vec<u32> {
     } else {
         let at = if rng.below(2) == 0 { 0 } else { rows.len() };
         rows.splice(at..at, [[voice(1), END]; 9][..more].concat());
-        rows.extend(vec![rng.pick(&[BOTH, EITHER, FIRST_NOT_SECOND]); more]);
+        match rng.below(3) {
+            0 => rows.push(at_least(1 + rng.below(more + 1) as u32, more as u32 + 1)),
+            _ => rows.extend(vec![rng.pick(&[BOTH, EITHER, FIRST_NOT_SECOND]); more]),
+        }
     }
     rows.concat()
 }

@@ -44,7 +44,8 @@ use std::time::{Duration, Instant};
 use support::Rng;
 use watch::Note;
 
-/// A run at least so long, in seconds, meets every refusal and every sort of title start.
+/// A run at least so long, in seconds, meets every refusal, every sort of title start, and every
+/// sort of what an AT LEAST counts.
 const WHOLE: u64 = 60;
 /// After so much time a run tells how far it is.
 const TOLD: Duration = Duration::from_secs(30);

@@ -1,7 +1,7 @@
 //! What a run counts, and what it tells.
 
 use crate::line_trial::{Lines, Way};
-use crate::support::searches::STARTS;
+use crate::support::searches::{COUNTED, STARTS};
 use crate::support::{Call, Met, Trial};
 use std::collections::BTreeMap;
 use std::time::Duration;
@@ -145,7 +145,8 @@ impl Counts {
         }
     }
 
-    /// The numbers that a call can tell and never did, and where no title start of a row has lain.
+    /// The numbers that a call can tell and never did, where no title start of a row has lain, and
+    /// what no AT LEAST has counted.
     pub fn missed(&self) -> Vec<String> {
         let of_call = |(name, of, can): (&str, Of, &[u32])| {
             let met = self.met(of);
@@ -154,6 +155,8 @@ impl Counts {
         };
         let starts = STARTS.into_iter().filter(|&what| !self.searches.0.contains_key(what));
         let starts = starts.map(|what| format!("no row met {what}"));
-        CALLS.into_iter().flat_map(of_call).chain(starts).collect()
+        let counted = COUNTED.into_iter().filter(|&what| !self.searches.0.contains_key(what));
+        let counted = counted.map(|what| format!("no document met {what}"));
+        CALLS.into_iter().flat_map(of_call).chain(starts).chain(counted).collect()
     }
 }

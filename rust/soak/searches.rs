@@ -22,6 +22,7 @@ pub fn searches(case: &mut Case) {
         random_search(rng, &mut counts.trial, &mut counts.searches, &subject);
     }
     count_starts(&mut counts.searches, &subject);
+    count_at_least(&mut counts.searches, &subject);
     other_starts(rng, &mut counts.trial, &subject, 3);
 }
 

@@ -80,10 +80,10 @@ fn text_of(rng: &mut Rng, lists: &[Vec<Posting>]) -> String {
 /// A piece of a text: what a list or a plan is made of, and what it is not.
 fn piece(rng: &mut Rng) -> String {
     #[rustfmt::skip]
-    const PIECES: [&str; 52] = [
+    const PIECES: [&str; 56] = [
         "VOICE", "voice", "Near", "NEAR", "BEFORE", "SAME", "TITLE", "SAME TITLE", "same  title",
         "SPAN", "END", "end", "BOTH", "EITHER", "FIRST", "NOT", "SECOND", "FIRST NOT SECOND", "#",
-        "APART", "Apart", "65535",
+        "APART", "Apart", "65535", "AT", "LEAST", "AT LEAST", "at  least",
         "#x", ":", "::", "1:2", "65535:65535", "65536:0", "0:65536", "00:000", "1:2:3", "-1", "+1",
         "1:+2", "0x1", "65536", "4294967295", "4294967296", "99999999999999999999999", "\u{661}",
         "\u{feff}", "\u{200b}", "\0", "\u{e9}", "\r", "\r\n", "\n", "\n\n", "\t", "\u{3000}",

@@ -168,6 +168,7 @@ impl Plan {
             kind::BOTH => "BOTH".to_string(),
             kind::EITHER => "EITHER".to_string(),
             kind::APART => format!("APART {a} {b} {} {}", c >> 16, c & 0xffff),
+            kind::AT_LEAST => format!("AT LEAST {a} {b}"),
             _ => "FIRST NOT SECOND".to_string(),
         });
         rows.collect::<Vec<String>>().join(", ")
@@ -194,6 +195,10 @@ fn apart(a: u32, b: u32, least: u32, most: u32) -> Row {
     [kind::APART, a, b, least << 16 | most]
 }
 
+fn at_least(least: u32, of: u32) -> Row {
+    [kind::AT_LEAST, least, of, 0]
+}
+
 const BOTH: Row = [kind::BOTH, 0, 0, 0];
 const EITHER: Row = [kind::EITHER, 0, 0, 0];
 const FIRST_NOT_SECOND: Row = [kind::FIRST_NOT_SECOND, 0, 0, 0];
@@ -216,8 +221,8 @@ pub struct Filling {
     pub span: u32,
 }
 
-/// Eleven plans, from one variable to six patterns.
-pub fn plans(filling: &Filling) -> [Plan; 11] {
+/// Twelve plans, from one variable to six patterns.
+pub fn plans(filling: &Filling) -> [Plan; 12] {
     let &Filling { lists: [a, b, c, d, e, f, g, h], rare, near: n, span: s } = filling;
     let plan = |name, parts: &[Vec<Row>]| Plan { name, rows: parts.concat() };
     [
@@ -244,6 +249,16 @@ pub fn plans(filling: &Filling) -> [Plan; 11] {
                 pattern(&[a, b], &[before(0, 1)]),
                 pattern(&[a, b], &[near(0, 1, n)]),
                 vec![FIRST_NOT_SECOND],
+            ],
+        ),
+        plan(
+            "AT LEAST 2 of 4",
+            &[
+                pattern(&[a], &[]),
+                pattern(&[b], &[]),
+                pattern(&[c], &[]),
+                pattern(&[d], &[]),
+                vec![at_least(2, 4)],
             ],
         ),
         plan(
@@ -292,11 +307,10 @@ pub fn endless_plans() -> [Plan; 5] {
     ]
 }
 
-/// The plan of 64 rows with the most variables, 51, all of them on one list.
+/// The plan of 64 rows with the most variables, 56, all of them on one list.
 pub fn widest_plan(list: u32) -> Plan {
-    let sizes = [8, 8, 8, 8, 8, 8, 3];
-    let patterns = sizes.iter().flat_map(|&vars| pattern(&vec![list; vars], &[]));
-    Plan { name: "51 variables", rows: patterns.chain([EITHER; 6]).collect() }
+    let patterns = pattern(&[list; 8], &[]).repeat(7);
+    Plan { name: "56 variables", rows: [patterns, vec![at_least(1, 7)]].concat() }
 }
 
 /// The document of `few_matches`, of `all_match` and of `one_list`.

@@ -1,5 +1,5 @@
 //! Typed lines, read and written beside the yardstick: typical ones, the longest, and those with
-//! many brackets; and how the time grows with the length of a line.
+//! many brackets or `<..>`; and how the time grows with the length of a line.
 
 use super::support::Times;
 use super::verdict;
@@ -22,13 +22,15 @@ const SIZES: [usize; 4] = [256, 512, 1_024, MAX_LINE_BYTES];
 const LISTS: usize = 100;
 
 /// Lines over so many lists that are plans, each with what it is.
-fn plans() -> [(&'static str, String); 6] {
+fn plans() -> [(&'static str, String); 8] {
     [
         ("a word", "[17]".to_string()),
         ("two words in order", "[1 2;b 0 1]".to_string()),
         ("document 02's", "[1 2;b 0 1]|([3]&[4])".to_string()),
         ("three figures", "[17 20;n 0 1 2;t 0 1]&([31 8;b 0 1]|[5 77 99;s 12])".to_string()),
         ("eight figures, nested", nested("[12 45;n 0 1 6]", 8)),
+        ("some of several", "<2:[17],[20 31;b 0 1],[8]&[5],[77]>".to_string()),
+        ("some of several, nested", nested_some("[12 45;n 0 1 6]", 8)),
         ("one figure of 64 rows", format!("[7{}]", ";a 0 0 65535 65535".repeat(62))),
     ]
 }
@@ -42,7 +44,7 @@ struct Sort {
     behind: &'static str,
 }
 
-const SORTS: [Sort; 4] = [
+const SORTS: [Sort; 5] = [
     Sort { name: "lists", front: "[1", piece: " 65536", behind: "]" },
     Sort { name: "conditions", front: "[1", piece: ";a 65536 65536 65535 65535", behind: "]" },
     Sort { name: "figures", front: "[1", piece: "]&[1", behind: "]" },
@@ -52,6 +54,7 @@ const SORTS: [Sort; 4] = [
         piece: "]))))))))|(((((((([1",
         behind: "]))))))))",
     },
+    Sort { name: "some of several", front: "<1:[1],[1", piece: "]>|<1:[1],[1", behind: "]>" },
 ];
 
 impl Sort {
@@ -74,6 +77,11 @@ fn nested(figure: &str, count: usize) -> String {
         line = format!("{figure}{sign}{inside}");
     }
     line
+}
+
+/// Figures, each in a `<..>` more than the one before it, but for the last.
+fn nested_some(figure: &str, count: usize) -> String {
+    (1..count).fold(figure.to_string(), |line, _| format!("<1:{figure},{line}>"))
 }
 
 /// Makes the calls that are timed together.

@@ -7,8 +7,10 @@ use lihambozy::{MAX_LINE_BYTES, MAX_ROWS, ROW_WORDS};
 /// A refusal: its number and its place.
 pub type Refused = (u32, u32);
 
-/// A round bracket may be opened inside fewer open ones than this.
+/// A round bracket or a `<` may be opened inside fewer open ones than this.
 const MAX_OPEN: usize = 8;
+/// The lines behind a `<`.
+const MAX_LINES: u32 = 8;
 
 struct Reader<'a> {
     line: &'a [u8],
@@ -112,8 +114,33 @@ impl Reader<'_> {
         Ok(())
     }
 
+    /// What stands behind a `<`, and the sign that closes it.
+    fn at_least(&mut self) -> Result<(), Refused> {
+        let digit = self.peek();
+        if !(b'1'..=b'8').contains(&digit) {
+            return self.broken();
+        }
+        self.at += 1;
+        self.take(b':')?;
+        let least = u32::from(digit - b'0');
+        let mut lines = 0;
+        loop {
+            self.parts()?;
+            lines += 1;
+            match self.peek() {
+                b',' if lines < MAX_LINES => self.at += 1,
+                b'>' if lines >= least.max(2) => break,
+                _ => return self.broken(),
+            }
+        }
+        self.at += 1;
+        self.row(kind::AT_LEAST, least, lines, 0);
+        Ok(())
+    }
+
     fn item(&mut self) -> Result<(), Refused> {
-        if self.peek() != b'(' {
+        let sign = self.peek();
+        if sign != b'(' && sign != b'<' {
             return self.pattern();
         }
         if self.open == MAX_OPEN {
@@ -121,8 +148,12 @@ impl Reader<'_> {
         }
         self.at += 1;
         self.open += 1;
-        self.parts()?;
-        self.take(b')')?;
+        if sign == b'<' {
+            self.at_least()?;
+        } else {
+            self.parts()?;
+            self.take(b')')?;
+        }
         self.open -= 1;
         Ok(())
     }
@@ -232,11 +263,34 @@ impl Writer<'_> {
         }
     }
 
+    /// The lines of an AT LEAST.
+    fn some(&mut self, last: usize) {
+        let [_, least, of, _]: [u32; 4] = self.plan[ROW_WORDS * last..][..4].try_into().unwrap();
+        let mut ends = [last; MAX_LINES as usize];
+        let ends = &mut ends[..of as usize];
+        let mut behind = last;
+        for end in ends.iter_mut().rev() {
+            *end = behind - 1;
+            behind = self.first[*end];
+        }
+        self.number(b'<', least);
+        let mut before = b':';
+        for &end in &*ends {
+            self.line.push(before);
+            self.answer(end);
+            before = b',';
+        }
+        self.line.push(b'>');
+    }
+
     /// What is answered by the row `last`.
     fn answer(&mut self, last: usize) {
         let kind = self.kind(last);
         if kind == kind::END {
             return self.pattern(last);
+        }
+        if kind == kind::AT_LEAST {
+            return self.some(last);
         }
         let second = last - 1;
         let first = self.first[second] - 1;
@@ -248,8 +302,8 @@ impl Writer<'_> {
         };
         self.side(first, left == kind::EITHER && sign != b'|');
         self.line.push(sign);
-        let is_pattern = right == kind::END;
-        self.side(second, !is_pattern && (sign != b'|' || right == kind::EITHER));
+        let is_item = right == kind::END || right == kind::AT_LEAST;
+        self.side(second, !is_item && (sign != b'|' || right == kind::EITHER));
     }
 }
 
@@ -265,6 +319,10 @@ pub fn write(plan: &[u32], out: &mut [u8]) -> Result<u32, Refused> {
             kind::BOTH | kind::EITHER | kind::FIRST_NOT_SECOND => {
                 starts.pop();
                 starts.pop().unwrap_or(0)
+            }
+            kind::AT_LEAST => {
+                let lines = plan[ROW_WORDS * row + 2] as usize;
+                starts.drain(starts.len() - lines..).next().unwrap_or(0)
             }
             _ => continue,
         };

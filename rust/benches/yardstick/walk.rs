@@ -365,6 +365,11 @@ enum Step {
     Both,
     Either,
     FirstNotSecond,
+    /// So many or more of the top answers.
+    AtLeast {
+        least: u32,
+        of: u32,
+    },
 }
 
 /// An accepted plan.
@@ -393,6 +398,7 @@ impl Plan {
                 5 => a == 0 && b == 0 && (1..=65_536).contains(&c),
                 6..=9 => a == 0 && b == 0 && c == 0,
                 10 => c >> 16 <= c & 0xffff,
+                11 => (2..=8).contains(&b) && (1..=b).contains(&a) && c == 0,
                 _ => false,
             };
             if !in_range {
@@ -440,15 +446,17 @@ impl Plan {
                     }
                 }
             } else {
-                if open.is_some() || answers < 2 {
+                let taken = if kind == 11 { b } else { 2 };
+                if open.is_some() || answers < taken {
                     return Err((13, row));
                 }
                 plan.steps.push(match kind {
                     7 => Step::Both,
                     8 => Step::Either,
-                    _ => Step::FirstNotSecond,
+                    9 => Step::FirstNotSecond,
+                    _ => Step::AtLeast { least: a, of: b },
                 });
-                answers -= 1;
+                answers -= taken - 1;
             }
         }
         if open.is_some() || answers != 1 {
@@ -477,7 +485,7 @@ impl Plan {
         let mut stack = 0u32;
         for step in &self.steps {
             let (first, second) = (stack >> 1 & 1, stack & 1);
-            stack = match step {
+            stack = match *step {
                 Step::Pattern => {
                     let answer = found & 1;
                     found >>= 1;
@@ -486,6 +494,10 @@ impl Plan {
                 Step::Both => stack >> 2 << 1 | first & second,
                 Step::Either => stack >> 2 << 1 | first | second,
                 Step::FirstNotSecond => stack >> 2 << 1 | first & !second,
+                Step::AtLeast { least, of } => {
+                    let taken = stack & ((1 << of) - 1);
+                    stack >> of << 1 | u32::from(taken.count_ones() >= least)
+                }
             };
         }
         stack == 1

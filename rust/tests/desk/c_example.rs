@@ -197,7 +197,7 @@ fn the_sample() {
     let data = repository("crates/lister/data");
     let printed = "scene 1 1 2 0 5 0\ndone 6\n";
     ends(&EVERY, &data, &TITLES, 0, printed, "");
-    for words in ["6", "7", "12", "100", "7208960", "0006"] {
+    for words in ["6", "7", "12", "100", "7864320", "0006"] {
         ends(&QUICK, &data, &["titles.vol", "titles.plan", words], 0, printed, "");
     }
     for words in ["5", "4", "0"] {
@@ -209,11 +209,11 @@ fn the_sample() {
 #[test]
 fn usage() {
     let folder = folder_with(&sample().volume(), &plan_bytes(&SAMPLE));
-    let usage = "usage: listing VOLUME PLAN [WORDS], WORDS being 0 to 7208960\n";
+    let usage = "usage: listing VOLUME PLAN [WORDS], WORDS being 0 to 7864320\n";
     let with = |words| vec!["titles.vol", "titles.plan", words];
     let mut cases = vec![vec![], vec!["titles.vol"], [with("6"), vec!["6"]].concat()];
     cases.extend(
-        ["", "x", "-1", "+6", " 6", "6 ", "6x", "7208961", "18446744073709551622"].map(with),
+        ["", "x", "-1", "+6", " 6", "6 ", "6x", "7864321", "18446744073709551622"].map(with),
     );
     for args in cases {
         ends(&QUICK, &folder.0, &args, 2, "", usage);

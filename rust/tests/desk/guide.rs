@@ -16,8 +16,10 @@ const OF_LINES: [&str; 6] = ["check", "list", "matches", "test", "plan", "show"]
 /// What the guide's commands that are not run start with.
 const NOT_RUN: [&str; 5] = ["make", "export", "cp", "cd", "cc"];
 /// The plans of the archive.
-const PLANS: [&str; 7] =
-    ["1-word", "2-near", "3-order", "4-span", "5-joined", "6-apart", "7-screen"];
+const PLANS: [&str; 8] =
+    ["1-word", "2-near", "3-order", "4-span", "5-joined", "6-apart", "7-screen", "8-some"];
+/// How a typed line starts, in quotes.
+const STARTS: [&str; 3] = [" --line '[", " --line '(", " --line '<"];
 /// What stands in the wording above words that are spoken, with no title on the screen.
 const SPOKEN: &str = "(spoken)";
 
@@ -153,7 +155,7 @@ fn follow(page: &str) -> Vec<String> {
 
 /// Whether a command is given a typed line, in quotes.
 fn has_line(command: &str) -> bool {
-    command.contains(" --line '[") || command.contains(" --line '(")
+    STARTS.iter().any(|start| command.contains(start))
 }
 
 /// A page's first search is that of a typed line.
@@ -173,6 +175,9 @@ fn the_guide_shows_what_its_commands_print() {
         let start = format!("lhz {name} ");
         let typed = |command: &String| command.starts_with(&start) && has_line(command);
         assert!(ran.iter().any(typed), "{start}is run with no typed line");
+    }
+    for start in STARTS {
+        assert!(ran.iter().any(|command| command.contains(start)), "{start} is never typed");
     }
     for start in ["lhz list --names ", "lhz list --json "] {
         assert!(ran.iter().any(|command| command.starts_with(start)), "{start}is never run");

@@ -71,7 +71,7 @@ fn plans() {
 check answer 16: 0 4 8 12
 rows answer 8: 0 4
 limits 4 64 256 8 8
-kinds 1 2 3 4 5 6 7 8 9 10
+kinds 1 2 3 4 5 6 7 8 9 10 11
 limits 0: 0 0
 limits 262153: 4 9
 limits 65535: 0 65535
@@ -99,9 +99,18 @@ two patterns: 0 0 2 3
 APART: 0 0 2 3
 least over most: 10 6 0 0
 variable of APART: 13 6 0 0
-kind 11: 10 6 0 0
+AT LEAST with a pattern open: 13 6 0 0
+kind 12: 10 6 0 0
 BOTH: 0 0 2 3
 EITHER: 0 0 2 3
+AT LEAST 2 2: 0 0 2 3
+AT LEAST 3 3: 13 9 0 0
+AT LEAST 3 2: 10 9 0 0
+AT LEAST 0 2: 10 9 0 0
+AT LEAST 1 1: 10 9 0 0
+AT LEAST 1 9: 10 9 0 0
+c of AT LEAST: 10 9 0 0
+AT LEAST 1 2: 0 0 2 3
 checksum: 3 0 0 0
 checksum, no row: 3 0 0 0
 rows of 0: 0 0
@@ -214,6 +223,21 @@ list 0 0 2 6 65536: 1 1 2 0 7 6: 2 1 4 65536 9 65536
 done 2 6
 list 10 2 0 0 0
 matches 10 2 0 0, 0 0 0 0 0 0 0 0
+AT LEAST 1 3, 14 words
+list 0 0 1 10 2: 1 1 2 0 5 0 1 2 0 0 0 0 0 0
+list 0 0 1 5 65536: 2 1 4 65536 9 65536 0 0 0 0 0 0 0 0
+done 2 15
+AT LEAST 2 3, 14 words
+list 0 0 1 15 65536: 1 1 2 0 5 0 1 2 0 0 0 0 0 0
+done 1 15
+all of 1 in 1, 100 words
+matches 0 0 2 0, 0 0 0 0 0 0 0 0: 2: 8
+done 2
+AT LEAST 3 3, 14 words
+list 0 0 0 15 65536
+done 0 15
+list 10 11 0 0 0
+list 13 11 0 0 0
 all of 0 in 1, 1 words
 matches 0 0 1 1, 7 0 0 0 0 0 0 0: 5
 matches 0 0 1 0, 0 0 0 0 0 0 0 0: 7
@@ -273,6 +297,12 @@ line 0 0 19: ([1]|[2])!([1]&[2])
 [2 1;n 1 0 65535;s 65536;a 0 1 0 65535]
 read 0 0 24: 1 2 0 0: 1 1 0 0: 2 1 0 65535: 5 0 0 65536: 10 0 1 65535: 6 0 0 0
 line 0 0 39: [2 1;n 1 0 65535;s 65536;a 0 1 0 65535]
+(<2:[1],([2]|[1]),<1:[2],[1]>>)![2]
+read 0 0 64: 1 1 0 0: 6 0 0 0: 1 2 0 0: 6 0 0 0: 1 1 0 0: 6 0 0 0: 8 0 0 0: 1 2 0 0: 6 0 0 0: \
+1 1 0 0: 6 0 0 0: 11 1 2 0: 11 2 3 0: 1 2 0 0: 6 0 0 0: 9 0 0 0
+line 0 0 31: <2:[1],[2]|[1],<1:[2],[1]>>![2]
+line 0 0 31: <2:[1],[2]|[1],<1:[2],[1]>>![2]
+line 16 0 0
 [1]&[3]
 read 0 0 20: 1 1 0 0: 6 0 0 0: 1 3 0 0: 6 0 0 0: 7 0 0 0
 line 11 2 0
@@ -316,6 +346,20 @@ read 22 8 0
 read 21 11 0
 ((((((((x(
 read 21 8 0
+<
+read 21 1 0
+<9:[1],[2]>
+read 21 1 0
+<2:[1]>
+read 21 6 0
+<3:[1],[2]>
+read 21 10 0
+<8:[1],[1],[1],[1],[1],[1],[1],[1],[1]>
+read 21 34 0
+[1],[2]
+read 21 3 0
+<1:[1],(((((((<1:[1],[2]>
+read 22 14 0
 read 0 0 256
 read 16 0 0
 read 23 0 0
@@ -347,10 +391,12 @@ LHZ_REFUSED_PLAN_LENGTH 9: 9 0
 LHZ_REFUSED_UNFINISHED 14: 14 0
 LHZ_REFUSED_ROW_FORM 10: 10 1
 LHZ_REFUSED_ROW_FORM 10: 10 1
+LHZ_REFUSED_ROW_FORM 10: 10 0
+LHZ_REFUSED_ROW_ORDER 13: 13 0
 LHZ_REFUSED_ROW_LIST 11: 11 0
 LHZ_REFUSED_ROW_TOO_MANY 12: 12 8
 LHZ_REFUSED_ROW_ORDER 13: 13 1
-longest row 110: 7 51
+longest row 120: 7 56
 LHZ_REFUSED_START 15: 15 0
 LHZ_REFUSED_SHORT_BUFFER 16: 16 0
 LHZ_REFUSED_SHORT_BUFFER 16: 16 0
@@ -370,6 +416,7 @@ LHZ_REFUSED_SHORT_BUFFER 16: 16 0
 LHZ_REFUSED_SHORT_BUFFER 16: 16 0
 LHZ_REFUSED_UNFINISHED 14: 14 0
 LHZ_REFUSED_LINE_FORM 21: 21 8
+LHZ_REFUSED_LINE_DEPTH 22: 22 8
 LHZ_REFUSED_LINE_DEPTH 22: 22 8
 LHZ_REFUSED_LINE_ROWS 23: 23 0
 LHZ_REFUSED_LISTS_DIFFER 24: 24 0

@@ -171,6 +171,28 @@ fn words_at_a_set_remove() {
     }
 }
 
+/// The same with AT LEAST, the operator of document 02. Scene 1 has two of the three figures, and
+/// scene 2 has one.
+#[test]
+fn some_of_several() {
+    let volume = sample().volume();
+    let figures = [two(&[before(0, 1)]), vec![voice(1), same_title(0, 0), END]].concat();
+    let figures = [figures, two(&[apart(0, 1, 0, 0)])].concat();
+    let first = "scene 1 1 2 0 5 0 1 2 0 0 0 0 0 0\n";
+    let second = "scene 2 1 4 65536 9 65536 0 0 0 0 0 0 0 0\n";
+    for (row, output) in [
+        (at_least(1, 3), format!("{first}{second}done 15\n")),
+        (at_least(2, 3), format!("{first}done 15\n")),
+        (at_least(3, 3), "done 15\n".into()),
+        (at_least(4, 3), "refused 10 11\n".into()),
+        (at_least(1, 4), "refused 13 11\n".into()),
+        (at_least(1, 2), "refused 14 0\n".into()),
+    ] {
+        let rows = [&figures[..], &[row]].concat();
+        prints(&format!("{row:?}"), File(&volume), File(&plan_bytes(&rows)), &output);
+    }
+}
+
 /// An absent file is empty, and so is a folder in its place.
 #[test]
 fn absent_files() {
@@ -261,7 +283,7 @@ fn lengths_of_a_plan() {
     prints("sample less END", File(&volume), File(&cut(&sample, 64)), "refused 14 0\n");
     prints("sample and a row", File(&volume), File(&cut(&sample, 96)), "refused 10 5\n");
     let output = compare("64 rows", File(&volume), File(&widest));
-    assert!(output.ends_with("\ndone 153\n"), "{output}");
+    assert!(output.ends_with("\ndone 168\n"), "{output}");
 }
 
 /// 10 to 14.
@@ -325,7 +347,7 @@ fn listings_of_several_calls() {
         (vec![voice(1), END], 4, 2),
         (vec![voice(1), voice(1), END], 6, 2),
         (vec![voice(1), voice(1), END, voice(1), voice(1), before(0, 1), END, EITHER], 11, 2),
-        (widest_plan(), 110, 4),
+        (widest_plan(), 120, 4),
     ] {
         let fit = (BUFFER_WORDS / width) as u32;
         let vars = rows.iter().filter(|row| row[0] == lihambozy::kind::VOICE).count() as u32;

@@ -205,6 +205,39 @@ fn words_at_a_set_remove() {
     ]);
 }
 
+/// AT LEAST, the operator of document 02: a plan from its text, and a typed line. Scene 1 has two of
+/// the three figures, and scene 2 has one.
+#[test]
+fn some_of_several() {
+    let folder = Folder::with_sample();
+    let figures = [
+        "VOICE 1\nVOICE 2\nBEFORE 0 1\nEND\n",
+        "VOICE 1\nSAME TITLE 0 0\nEND\n",
+        "VOICE 1\nVOICE 2\nAPART 0 1 0 0\nEND\n",
+    ];
+    let first = "scene 1 1 2 0 5 0 1 2 0 0 0 0 0 0\n";
+    let second = "scene 2 1 4 65536 9 65536 0 0 0 0 0 0 0 0\n";
+    for (least, scenes) in [(1, [first, second].concat()), (2, first.into()), (3, "".into())] {
+        let rows = format!("{}AT LEAST {least} 3\n", figures.concat());
+        let line = format!("<{least}:[1 2;b 0 1],[1;t 0 0],[1 2;a 0 1 0 0]>");
+        let listing = format!("{scenes}done 15\n");
+        folder.lhz_given("plan - some.plan", rows.as_bytes()).answer();
+        for (command, stdout) in [
+            ("lhz check titles.vol some.plan".into(), "lists 3 postings 8\nfigures 3 voices 5\n"),
+            ("lhz list titles.vol some.plan".into(), &*listing),
+            (format!("lhz list titles.vol --line '{line}'"), &listing),
+            ("lhz show some.plan".into(), &rows),
+            (format!("lhz show --line '{line}'"), &rows),
+            ("lhz show titles.vol some.plan 1".into(), figures[1]),
+            ("lhz show --line titles.vol some.plan".into(), &format!("{line}\n")),
+            ("lhz matches titles.vol some.plan 1 1".into(), "places 2\nplaces 8\ndone 2\n"),
+            ("lhz test titles.vol some.plan 0 2 4 9".into(), "yes\n"),
+        ] {
+            assert_eq!(folder.sh(&command).told(), (0, stdout, ""), "{command}");
+        }
+    }
+}
+
 /// Figures by their numbers: the rows and the places of each are its own.
 #[test]
 fn a_plan_of_two_figures() {

@@ -15,7 +15,7 @@ fn lhz(folder: &Folder, arguments: &[&str]) -> Ended {
 }
 
 /// Lines with the text of their plans, over the sample, and the line that is written of them.
-const LINES: [(&str, &str, &str); 11] = [
+const LINES: [(&str, &str, &str); 13] = [
     ("[1]", "VOICE 1\nEND\n", "[1]"),
     ("([2])", "VOICE 2\nEND\n", "[2]"),
     ("[1 2;b 0 1;t 0 1]", SAMPLE_PLAN, "[1 2;b 0 1;t 0 1]"),
@@ -46,6 +46,18 @@ const LINES: [(&str, &str, &str); 11] = [
         "[1]|(([2])|[1])|[2]",
         "VOICE 1\nEND\nVOICE 2\nEND\nVOICE 1\nEND\nEITHER\nEITHER\nVOICE 2\nEND\nEITHER\n",
         "[1]|([2]|[1])|[2]",
+    ),
+    (
+        "<2:([1]),([2]|[1]),[1 2;b 1 0]>",
+        "VOICE 1\nEND\nVOICE 2\nEND\nVOICE 1\nEND\nEITHER\nVOICE 1\nVOICE 2\nBEFORE 1 0\nEND\n\
+         AT LEAST 2 3\n",
+        "<2:[1],[2]|[1],[1 2;b 1 0]>",
+    ),
+    (
+        "[1]!(<2:[2],<1:[1],[2]>>)",
+        "VOICE 1\nEND\nVOICE 2\nEND\nVOICE 1\nEND\nVOICE 2\nEND\nAT LEAST 1 2\nAT LEAST 2 2\n\
+         FIRST NOT SECOND\n",
+        "[1]!<2:[2],<1:[1],[2]>>",
     ),
 ];
 
@@ -170,25 +182,33 @@ fn refused_lines_are_shown() {
         ("[1;a 0 0 65536 0]", 13, "`6`", "0 to 5 or a space"),
         ("[1;n 0 1 2 3]", 10, "a space", "a digit, `;` or `]`"),
         ("[1;x", 3, "`x`", "`n`, `b`, `t`, `s` or `a`"),
-        ("[1]&&[2]", 4, "`&`", "`[` or `(`"),
+        ("[1]&&[2]", 4, "`&`", "`[`, `(` or `<`"),
         ("[1])", 3, "`)`", behind_item),
         ("(((((((([1](", 11, "`(`", "`&`, `!`, `|` or `)`"),
-        ("[1]|", 4, "", "`[` or `(`"),
+        ("[1]|", 4, "", "`[`, `(` or `<`"),
         ("([1]", 4, "", "`&`, `!`, `|` or `)`"),
         ("[65536", 6, "", behind_last),
+        ("<9:[1],[2]>", 1, "`9`", "1 to 8"),
+        ("<12:[1],[2]>", 2, "`2`", "`:`"),
+        ("<2:", 3, "", "`[`, `(` or `<`"),
+        ("<2:[1]>", 6, "`>`", "`&`, `!`, `|` or `,`"),
+        ("<3:[1],[2]>", 10, "`>`", "`&`, `!`, `|` or `,`"),
+        ("<2:[1],[2])", 10, "`)`", "`&`, `!`, `|`, `,` or `>`"),
+        ("<1:[1],[1],[1],[1],[1],[1],[1],[1],[1]>", 34, "`,`", "`&`, `!`, `|` or `>`"),
+        ("<2:[1],[2]>,", 11, "`,`", behind_item),
         ("((((((((([1])))))))))", 8, "a ninth", "`[`"),
         ("[1]|(((((((((x", 12, "a ninth", "`[`"),
+        ("<1:<1:<1:<1:<1:<1:<1:<1:([1]", 24, "a ninth", "`[`"),
+        ("((((((((<1:[1]", 8, "a ninth <", "`[`"),
     ] {
         let at_byte = format!("at byte {at}, counted from 0");
         let (number, sentence) = match byte {
             "" => (21, format!("the line cannot end {at_byte}; {could} could stand there")),
-            "a ninth" => (
-                22,
-                format!(
-                    "the round bracket {at_byte}, is opened inside eight open ones; {could} could \
-                     stand there"
-                ),
-            ),
+            "a ninth" | "a ninth <" => {
+                let sign = if byte == "a ninth" { "round bracket" } else { "`<`" };
+                let told = format!("the {sign} {at_byte}, is opened inside eight open ones");
+                (22, format!("{told}; {could} could stand there"))
+            }
             _ => (21, format!("{byte} cannot stand {at_byte}; {could} could")),
         };
         for arguments in [

@@ -32,7 +32,7 @@ fn random_listings() {
     let mut rng = Rng::new(seed);
     let folder = Folder::new();
     let [mut found, mut empty, mut refused] = [0; 3];
-    for round in 0..300 {
+    for round in 0..360 {
         let subject = random_run(&mut rng);
         folder.write("titles.vol", subject.volume());
         let plan = word_bytes(subject.plan());

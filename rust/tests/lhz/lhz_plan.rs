@@ -22,6 +22,7 @@ fn texts_of_rows() {
         ("EITHER", EITHER, "EITHER"),
         ("FIRST NOT SECOND", FIRST_NOT_SECOND, "FIRST NOT SECOND"),
         ("APART 0 1 4 9", apart(0, 1, 4, 9), "APART 0 1 4 9"),
+        ("AT LEAST 2 3", at_least(2, 3), "AT LEAST 2 3"),
         // Letters of any case, blanks, comments.
         ("voice 1", voice(1), "VOICE 1"),
         ("Near 7 6 5", near(7, 6, 5), "NEAR 7 6 5"),
@@ -30,6 +31,7 @@ fn texts_of_rows() {
         ("first Not second", FIRST_NOT_SECOND, "FIRST NOT SECOND"),
         ("\t same \t TITLE\t0  1 ", same_title(0, 1), "SAME TITLE 0 1"),
         ("Apart\t1 0  2 03# 4", apart(1, 0, 2, 3), "APART 1 0 2 3"),
+        ("at \tLeast 08  8", at_least(8, 8), "AT LEAST 8 8"),
         ("VOICE 1 # 2", voice(1), "VOICE 1"),
         ("VOICE 1#2", voice(1), "VOICE 1"),
         ("END# \u{fc}", END, "END"),
@@ -45,6 +47,8 @@ fn texts_of_rows() {
         ("APART 0 1 0 65535", apart(0, 1, 0, 65_535), "APART 0 1 0 65535"),
         ("APART 0 1 65535 0", apart(0, 1, 65_535, 0), "APART 0 1 65535 0"),
         ("APART 0 1 000000000065535 65534", [10, 0, 1, most - 1], "APART 0 1 65535 65534"),
+        ("AT LEAST 0 4294967295", at_least(0, most), "AT LEAST 0 4294967295"),
+        ("AT LEAST 3 2", at_least(3, 2), "AT LEAST 3 2"),
         // Four numbers, as a name if one can tell them.
         ("1 1 0 0", voice(1), "VOICE 1"),
         ("2 0 1 3", near(0, 1, 3), "NEAR 0 1 3"),
@@ -64,6 +68,8 @@ fn texts_of_rows() {
             [10, most, most, most],
             "APART 4294967295 4294967295 65535 65535",
         ),
+        ("11 1 2 0", at_least(1, 2), "AT LEAST 1 2"),
+        ("11 0 0 0", at_least(0, 0), "AT LEAST 0 0"),
         ("12 0 0 7", [12, 0, 0, 7], "12 0 0 7"),
         ("11 1 2 3", [11, 1, 2, 3], "11 1 2 3"),
         ("266 0 1 262153", [266, 0, 1, 262_153], "266 0 1 262153"),
@@ -113,7 +119,9 @@ fn lines_of_texts() {
 #[test]
 fn mistakes() {
     let folder = Folder::new();
-    let kinds = "VOICE, NEAR, BEFORE, SAME TITLE, SPAN, END, BOTH, EITHER, FIRST NOT SECOND, APART";
+    let kinds =
+        "VOICE, NEAR, BEFORE, SAME TITLE, SPAN, END, BOTH, EITHER, FIRST NOT SECOND, APART, \
+                 AT LEAST";
     let no_kind = |at: &str, word: &str| format!("{at}: `{word}` names no kind of row: {kinds}");
     let rows: Vec<(&[u8], String)> = [
         // Numbers that are missing, behind the last word, and numbers too many.
@@ -135,6 +143,12 @@ fn mistakes() {
         ("APART", "1:6: APART takes 4 numbers"),
         ("APART 0 1 4", "1:12: APART takes 4 numbers"),
         ("APART 0 1 4 9 65535", "1:15: APART takes 4 numbers"),
+        ("AT LEAST", "1:9: AT LEAST takes 2 numbers"),
+        ("AT LEAST 2", "1:11: AT LEAST takes 2 numbers"),
+        ("AT LEAST 2 3 0", "1:14: AT LEAST takes 2 numbers"),
+        ("AT LEAST 2 OF 3", "1:15: AT LEAST takes 2 numbers"),
+        ("AT LEAST two 3", "1:10: `two` is no number"),
+        ("AT LEAST 2 4294967296", "1:12: `4294967296` is over 4294967295"),
         ("END 0", "1:5: END takes no number"),
         ("BOTH 0 0 0", "1:6: BOTH takes no number"),
         ("EITHER OR", "1:8: EITHER takes no number"),
@@ -198,6 +212,9 @@ fn mistakes() {
         (b"TITLE 0 1", no_kind("1:1", "TITLE")),
         (b"FIRST NOT", no_kind("1:1", "FIRST")),
         (b"NOT SECOND", no_kind("1:1", "NOT")),
+        (b"AT 2 3", no_kind("1:1", "AT")),
+        (b"LEAST 2 3", no_kind("1:1", "LEAST")),
+        (b"ATLEAST 2 3", no_kind("1:1", "ATLEAST")),
         (b"END\nVOICE 1 # \xc3\xbc \xff\n", "2:13: the text is not in UTF-8".into()),
         (&[b'x'; 5_000], no_kind("1:1", &("x".repeat(40) + "..."))),
     ])
@@ -245,6 +262,8 @@ fn plans_out_of_order_are_written() {
         ("VOICE 1\nSPAN 0\nEND", "refused 10 1\n"),
         ("VOICE 1\nVOICE 2\nAPART 0 1 5 4\nEND", "refused 10 2\n"),
         ("VOICE 1\nAPART 0 1 4 5\nEND", "refused 13 1\n"),
+        ("VOICE 1\nEND\nVOICE 2\nEND\nAT LEAST 3 2", "refused 10 4\n"),
+        ("VOICE 1\nEND\nVOICE 2\nEND\nAT LEAST 1 3", "refused 13 4\n"),
     ] {
         folder.lhz_given("plan - some.plan", text.as_bytes()).answer();
         folder.lhz("check titles.vol some.plan").failure(1, refused);

@@ -7,7 +7,7 @@ use crate::plain::plan::Row;
 use crate::support::Rng;
 
 /// The signs that the grammar knows.
-pub const SIGNS: &[u8] = b"[]()|&!; nbtsa0123456789";
+pub const SIGNS: &[u8] = b"[]()<>,:|&!; nbtsa0123456789";
 
 /// A number that a line may have: small, at an edge, or any.
 fn number(rng: &mut Rng, most: u32) -> u32 {
@@ -47,6 +47,7 @@ fn joined(rng: &mut Rng, items: &[String], needless: usize) -> String {
         rest = behind;
         groups.push(match group {
             [one] => one.clone(),
+            _ if rng.below(3) == 0 => some(rng, group, needless),
             _ => format!("({})", joined(rng, group, needless)),
         });
     }
@@ -59,6 +60,21 @@ fn joined(rng: &mut Rng, items: &[String], needless: usize) -> String {
         line += &format!("{}{group}{}", "(".repeat(more), ")".repeat(more));
     }
     line
+}
+
+/// Two to eight lines in `<..>` that have these items, two at least, with a number before them.
+fn some(rng: &mut Rng, items: &[String], needless: usize) -> String {
+    let any = 2 + rng.below(items.len().min(8) - 1);
+    let count = rng.pick(&[2, any, any]);
+    let (mut lines, mut rest) = (vec![], items);
+    for left in (0..count).rev() {
+        // One item at least is for each line that is left.
+        let any = 1 + rng.below(rest.len() - left);
+        let (line, behind) = rest.split_at(if left == 0 { rest.len() } else { any });
+        lines.push(joined(rng, line, needless));
+        rest = behind;
+    }
+    format!("<{}:{}>", 1 + rng.below(count), lines.join(","))
 }
 
 /// A line of the grammar. Its figures are few or many, and so are the words of each; some lines are
@@ -79,17 +95,27 @@ pub fn random_line(rng: &mut Rng) -> String {
         })
         .collect();
     let needless = rng.pick(&[0, 0, 1, 4]);
-    let line = joined(rng, &items, needless);
+    let mut line = match rng.below(4) {
+        0 if figures > 1 => some(rng, &items, needless),
+        _ => joined(rng, &items, needless),
+    };
     let around = match rng.below(10) {
         0 => rng.below(11),
         _ => 0,
     };
-    format!("{}{line}{}", "(".repeat(around), ")".repeat(around))
+    for _ in 0..around {
+        line = match rng.below(4) {
+            0 => format!("<1:{line},[1]>"),
+            1 => format!("<2:[2],{line}>"),
+            _ => format!("({line})"),
+        };
+    }
+    line
 }
 
 /// A piece of a line, or what is none.
 fn piece(rng: &mut Rng) -> Vec<u8> {
-    const PIECES: [&str; 24] = [
+    const PIECES: [&str; 34] = [
         "[1]",
         "[1 2]",
         "[0;b 0 0]",
@@ -114,6 +140,16 @@ fn piece(rng: &mut Rng) -> Vec<u8> {
         ";a 0 1 2 65535",
         ";n 0 1",
         "<2:[1],[2]>",
+        "<3:[1],[2]>",
+        "<1:([1]),[2]|[3],[4]>",
+        "<",
+        ">",
+        ",",
+        "<1:",
+        ",[1]>",
+        ">>>>",
+        "<1:<1:<1:<1:",
+        ",[1],[1],[1],[1],[1],[1],[1]",
     ];
     match rng.below(6) {
         0 | 1 => rng.pick(&PIECES).into(),

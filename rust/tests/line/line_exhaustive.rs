@@ -68,7 +68,7 @@ impl<'a> Walk<'a> {
 /// with or not go on with, and a letter of no condition.
 #[test]
 fn every_short_text() {
-    let mut walk = Walk::new("", b"[]()|&!; 016nbtsax");
+    let mut walk = Walk::new("", b"[]()<>,:|&!; 016nbtsax");
     walk.go(9);
     walk.lines.assert_met(Way::Read, 2, &[0, 16, 21, 22]);
     walk.lines.assert_met_at(Way::Read, 10, &[21]);
@@ -78,7 +78,7 @@ fn every_short_text() {
 /// many lines there are is counted by the lengths of their parts and items.
 #[test]
 fn every_short_line_of_one_figure() {
-    let mut walk = Walk::new("", b"[]1()|&!");
+    let mut walk = Walk::new("", b"[]1()<>,:|&!");
     walk.go(14);
     let mut count: [Vec<usize>; 3] = [vec![], vec![], vec![]];
     for length in 0..=14 {
@@ -89,7 +89,19 @@ fn every_short_line_of_one_figure() {
         };
         // `[1]`, `[11]` and so on up to five digits, of which 11,111 is the greatest.
         let figures = usize::from((3..=7).contains(&length));
-        let item = figures + if length < 2 { 0 } else { lines[length - 2] };
+        let brackets = if length < 2 { 0 } else { lines[length - 2] };
+        // `<1:` and `>` around two lines or more, which fill so many bytes with the commas between
+        // them. Each has three bytes at least, so that there are not over eight.
+        let mut some = 0;
+        let mut joined = lines.clone();
+        for _ in 1..8 {
+            let longer = |bytes: usize| -> usize {
+                (0..bytes).map(|at| joined[at] * lines[bytes - 1 - at]).sum()
+            };
+            joined = (0..length).map(longer).collect();
+            some += if length < 4 { 0 } else { joined[length - 4] };
+        }
+        let item = figures + brackets + some;
         let part = item + 2 * pairs(parts, items);
         let line = part + pairs(lines, parts);
         for (lengths, number) in count.iter_mut().zip([line, part, item]) {
@@ -123,6 +135,19 @@ fn every_byte() {
         "((((((((",
         "(((((((([1]",
         "(((((((([1])",
+        "<",
+        "<2",
+        "<2:",
+        "<2:[1]",
+        "<2:[1],",
+        "<2:[1],[2]",
+        "<2:[1],[2]>",
+        "<3:[1],[2]",
+        "(<2:[1],[2]",
+        "<1:[1],[2],[3],[4],[5],[6],[7]",
+        "<1:[1],[2],[3],[4],[5],[6],[7],[8]",
+        "<1:(<1:(<1:(<1:(",
+        "<1:(<1:(<1:(<1:([1]",
     ] {
         let mut walk = Walk::new(start, &all);
         walk.go(2);
@@ -164,6 +189,17 @@ fn every_end() {
         ("(((((((([1]", b"[1]()|&!", 6),
         ("(((((((([1]&", b"[1]()|&!", 6),
         ("((((((([1])|", b"[1]()|&!", 6),
+        ("<", b"0123456789:[<>,", 4),
+        ("[1]&<", b"0189:[<>,", 4),
+        ("<2:[1]", b"[1]()|&,<>:", 7),
+        ("<2:[1],[2]", b"[1]()|&,<>:", 6),
+        ("<3:[1],[2]", b"[1]()|!,<>:", 6),
+        ("<1:<1:[1]", b"[1]()|!,<>:", 6),
+        ("<8:[1],[2],[3],[4],[5],[6],[7]", b"[1]()|&,<>:", 6),
+        ("<1:[1],[2],[3],[4],[5],[6],[7],[8]", b"[1]()|&,<>:", 6),
+        ("<1:((((((", b"[1](),<>:", 7),
+        ("<1:(<1:(<1:(<1:(", b"[1](),<>:", 6),
+        ("<1:[1],(((((((", b"[1](),<>:", 6),
     ];
     let (mut met_21, mut met_22, mut read) = (0, 0, 0);
     for (start, signs, more) in rows {

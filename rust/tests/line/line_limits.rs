@@ -111,7 +111,7 @@ fn numbers_in_every_gap() {
 /// A space too many in every place of a line, and a space too few.
 #[test]
 fn spaces_everywhere() {
-    let line = "([1 20;n 0 1 3;b 0 1;t 0 1;s 9;a 0 1 2 3])&[3]![4]|[5 6]";
+    let line = "([1 20;n 0 1 3;b 0 1;t 0 1;s 9;a 0 1 2 3])&[3]![4]|[5 6]!<2:[7],([8])>";
     let mut lines = Lines::default();
     assert!(lines.read(line).is_ok());
     let digit = |at: usize| line.as_bytes().get(at).is_some_and(u8::is_ascii_digit);

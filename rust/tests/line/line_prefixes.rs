@@ -7,7 +7,7 @@ use crate::support::Rng;
 use crate::trial::{Lines, Way};
 
 /// Lines of every sort, with what may be wrong around each.
-const LINES: [&str; 14] = [
+const LINES: [&str; 18] = [
     "[1]",
     "[1 2;b 0 1]|([3]&[4])",
     "[65536 65535 10000 9999 0]",
@@ -22,6 +22,10 @@ const LINES: [&str; 14] = [
     "[1]&([2]&([3]&([4]&([5]&([6]&([7]&([8])))))))",
     "([1])|([2])|([3])",
     "[100 2000 30000;t 0 2]!([7;s 1]|[8;s 65535])",
+    "<2:[1],[2 3;b 0 1],([4]|[5])>",
+    "[1]!<1:<2:[2],[3]>,[4]&([5]|[6])>|[7]",
+    "<8:[1],[2],[3],[4],[5],[6],[7],[8]>",
+    "(<1:(<1:(<1:(<1:[1],[2]>),[3]>),[4]>),[5]>)",
 ];
 
 /// Every prefix of a line is a line itself or is refused at its end, where no ninth bracket stands
@@ -58,7 +62,7 @@ fn every_prefix() {
 #[test]
 fn every_change_of_one_byte() {
     let mut lines = Lines::default();
-    let bytes = [SIGNS, b"x<>:,+-\t\n\0\x80\xff"].concat();
+    let bytes = [SIGNS, b"x+-\t\n\0\x80\xff"].concat();
     for line in LINES {
         lines.case = format!("`{line}` changed");
         let line = line.as_bytes();

@@ -13,18 +13,34 @@ use lihambozy::calls::{check_plan, line_to_plan, list, Next};
 use lihambozy::{Plan, Volume, MAX_LINE_BYTES};
 use std::collections::BTreeSet;
 
-/// All ways to join so many figures, `[1]` being the first, by operators.
-fn trees(from: u32, count: u32) -> Vec<Vec<Row>> {
+/// All ways to join so many figures, `[1]` being the first, by operators, and by AT LEAST too where
+/// that is asked for.
+pub fn trees(from: u32, count: u32, with_at_least: bool) -> Vec<Vec<Row>> {
     if count == 1 {
         return vec![vec![voice(from), END]];
     }
     let mut all = vec![];
-    for left in 1..count {
-        for first in trees(from, left) {
-            for second in trees(from + left, count - left) {
-                for operator in [BOTH, EITHER, FIRST_NOT_SECOND] {
-                    all.push([&first[..], &second, &[operator]].concat());
-                }
+    for parts in 2..=if with_at_least { count } else { 2 } {
+        let operators = [BOTH, EITHER, FIRST_NOT_SECOND].into_iter().filter(|_| parts == 2);
+        let numbers = (1..=parts).filter(|_| with_at_least).map(|least| at_least(least, parts));
+        let joins: Vec<Row> = operators.chain(numbers).collect();
+        for rows in side_by_side(from, count, parts, with_at_least) {
+            all.extend(joins.iter().map(|&join| [&rows[..], &[join]].concat()));
+        }
+    }
+    all
+}
+
+/// All ways to make so many answers of so many figures, at least one of each.
+fn side_by_side(from: u32, count: u32, parts: u32, with_at_least: bool) -> Vec<Vec<Row>> {
+    if parts == 1 {
+        return trees(from, count, with_at_least);
+    }
+    let mut all = vec![];
+    for left in 1..=count + 1 - parts {
+        for first in trees(from, left, with_at_least) {
+            for others in side_by_side(from + left, count - left, parts - 1, with_at_least) {
+                all.push([&first[..], &others].concat());
             }
         }
     }
@@ -34,7 +50,7 @@ fn trees(from: u32, count: u32) -> Vec<Vec<Row>> {
 /// A line that is written for these rows reads as them, and without any pair of its brackets it
 /// does not.
 #[track_caller]
-fn assert_fewest(lines: &mut Lines, line: &str, rows: &[Row]) {
+pub fn assert_fewest(lines: &mut Lines, line: &str, rows: &[Row]) {
     assert_eq!(lines.read(line).as_deref(), Ok(rows), "{}: {line}", lines.case);
     for pair in pairs(line) {
         let fewer = lines.read(without(line, pair));
@@ -48,7 +64,7 @@ fn is_bare(line: &str) -> bool {
 }
 
 /// A volume of so many lists, all empty.
-fn empty_lists(count: usize) -> Vec<u8> {
+pub fn empty_lists(count: usize) -> Vec<u8> {
     Lists::new(&vec![[0; 0]; count]).volume()
 }
 
@@ -59,7 +75,7 @@ fn every_tree() {
     let mut lines = Lines::default();
     let mut count = 0;
     for figures in 1..=5 {
-        for rows in trees(1, figures) {
+        for rows in trees(1, figures, false) {
             let line = lines.write(&volume, &rows.concat()).unwrap();
             assert_fewest(&mut lines, &line, &rows);
             count += 1;
@@ -80,7 +96,7 @@ fn one_line_has_the_fewest_brackets() {
     let mut lines = Lines::default();
     let volume = empty_lists(6);
     for figures in 1..=5 {
-        for rows in trees(1, figures) {
+        for rows in trees(1, figures, false) {
             let whole = bracketed(&rows);
             let all = pairs(&whole);
             assert_eq!(all.len(), figures as usize - 1, "{whole}");
@@ -119,7 +135,7 @@ fn random_plans() {
     let mut lines = Lines::default();
     let volumes =
         [(empty_lists(1_024), 1_024), (sample().volume(), 3), (four_blocks().volume(), 5)];
-    let (mut longest, mut largest, mut brackets) = (0, 0, 0);
+    let (mut longest, mut largest, mut brackets, mut some) = (0, 0, 0, 0);
     for round in 0..400 {
         let (volume, count) = &volumes[rng.below(3)];
         let rows = random_plan(&mut rng, *count);
@@ -132,9 +148,10 @@ fn random_plans() {
         longest = longest.max(line.len());
         largest += usize::from(rows.len() == 64);
         brackets += pairs(&line).len();
+        some += line.matches('<').count();
     }
     assert!(longest > 500 && longest <= MAX_LINE_BYTES, "{longest}");
-    assert!(largest > 20 && brackets > 200, "{largest} {brackets}");
+    assert!(largest > 20 && brackets > 200 && some > 200, "{largest} {brackets} {some}");
 }
 
 /// The longest lines: a plan of one figure with the longest numbers that are accepted, and one of
@@ -191,7 +208,7 @@ fn random_lines_there_and_back() {
     let mut rng = Rng::new(seed);
     let mut lines = Lines::default();
     let volume = empty_lists(1_024);
-    let mut accepted = 0;
+    let (mut accepted, mut some) = (0, 0);
     for round in 0..1_200 {
         let line = random_line(&mut rng);
         lines.case = format!("seed {seed}, round {round}");
@@ -211,10 +228,11 @@ fn random_lines_there_and_back() {
             continue;
         }
         accepted += 1;
+        some += usize::from(line.contains('<'));
         let back = lines.write(&volume, &rows.concat()).unwrap();
         assert_eq!(lines.read(&back), Ok(rows), "{}: {back}", lines.case);
     }
-    assert!(accepted > 200, "{accepted}");
+    assert!(accepted > 200 && some > 60, "{accepted} {some}");
 }
 
 /// The documents that a line is true of, read on its own: each figure is judged by the naive
@@ -240,8 +258,8 @@ fn true_documents() {
     let seed = 5_405;
     let mut rng = Rng::new(seed);
     let mut lines = Lines::default();
-    let (mut listed, mut not) = (0, 0);
-    for round in 0..500 {
+    let (mut listed, mut not, mut some) = (0, 0, 0);
+    for round in 0..700 {
         let subject = random_subject(&mut rng);
         let rows: Vec<Row> = subject.plan().as_chunks().0.to_vec();
         let line = loosely_written(&mut rng, &rows);
@@ -259,7 +277,8 @@ fn true_documents() {
             out.chunks(width).take(listing.rows as usize).map(|row| row[0]).collect();
         assert_eq!(docs, expected, "{}", lines.case);
         listed += docs.len();
+        some += if line.contains('<') { docs.len() } else { 0 };
         not += subject.docs().len() - docs.len();
     }
-    assert!(listed > 500 && not > 500, "{listed} {not}");
+    assert!(listed > 500 && not > 500 && some > 150, "{listed} {not} {some}");
 }

@@ -26,7 +26,7 @@ pub struct Lines {
 }
 
 /// What stands on either side of a text that is lent: signs with which it might go on.
-const AROUND: &[u8] = b"]0 1;n 0 1 2])|([3 4;s 5]&[6])!([7]";
+const AROUND: &[u8] = b"]0 1;n 0 1 2])|([3 4;s 5]&[6]),<1:[8],[9]>!([7]";
 
 /// A text in the middle of others, and where it lies.
 fn among(text: &[u8]) -> (Vec<u8>, std::ops::Range<usize>) {

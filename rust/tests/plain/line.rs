@@ -1,16 +1,16 @@
-//! A plain reader and writer of typed lines, straight from request N5 of document 02. It shares
-//! nothing with the library or its wrappers, and nothing with a reader that descends into brackets.
-//! The grammar is data, and a chart of its rows over the bytes (Earley's) tells where a text leaves
-//! it. The rows of a plan come off a stack of waiting operators, by their rank. A line is written
-//! with a pair of brackets around every two sides; then it loses each pair without which it still
-//! reads as the same plan.
+//! A plain reader and writer of typed lines, straight from requests N5 and N9 (`<2:..>`) of
+//! document 02. It shares nothing with the library or its wrappers, and nothing with a reader that
+//! descends into brackets. The grammar is data, and a chart of its rows over the bytes (Earley's)
+//! tells where a text leaves it. The rows of a plan come off a stack of waiting operators, by their
+//! rank. A line is written with a pair of round brackets around every two sides; then it loses each
+//! pair without which it still reads as the same plan.
 
 use super::plan::{self, Row};
 use super::Refused;
 
 /// A line has so many bytes at most.
 pub const MOST_BYTES: usize = 2_048;
-/// A round bracket may be opened inside fewer open ones than this.
+/// A round bracket or a `<` may be opened inside fewer open ones, of either, than this.
 pub const MOST_OPEN: usize = 8;
 /// A line needs so many rows at most.
 pub const MOST_ROWS: usize = 64;
@@ -24,9 +24,17 @@ const GRAMMAR: &[(u8, &str)] = &[
     (b'P', "I"),
     (b'P', "P&I"),
     (b'P', "P!I"),
-    // An item is a figure, or a line in round brackets.
+    // An item is a figure, a line in round brackets, or two to eight lines behind a number, which
+    // is at most how many they are.
     (b'I', "F"),
     (b'I', "(L)"),
+    (b'I', "<A:L,L>"),
+    (b'I', "<B:L,L,L>"),
+    (b'I', "<E:L,L,L,L>"),
+    (b'I', "<G:L,L,L,L,L>"),
+    (b'I', "<H:L,L,L,L,L,L>"),
+    (b'I', "<J:L,L,L,L,L,L,L>"),
+    (b'I', "<O:L,L,L,L,L,L,L,L>"),
     // A figure holds one or more list numbers, then conditions, each after a semicolon.
     (b'F', "[W]"),
     (b'F', "[WC]"),
@@ -62,6 +70,13 @@ const RANGES: &[(u8, &str)] = &[
     (b'Q', "01234"),
     (b'T', "012"),
     (b'S', "012345"),
+    (b'A', "12"),
+    (b'B', "123"),
+    (b'E', "1234"),
+    (b'G', "12345"),
+    (b'H', "123456"),
+    (b'J', "1234567"),
+    (b'O', "12345678"),
 ];
 
 /// Whether a sign of the grammar stands for this byte.
@@ -186,12 +201,12 @@ pub fn breaks(text: &[u8]) -> Option<usize> {
     }
 }
 
-/// The first byte that opens a round bracket inside eight open ones.
+/// The first byte that opens a round bracket or a `<` inside eight open ones of either.
 pub fn opens_ninth(text: &[u8]) -> Option<usize> {
-    let count = |part: &[u8], sign: u8| part.iter().filter(|&&byte| byte == sign).count();
+    let count = |part: &[u8], signs: &[u8]| part.iter().filter(|byte| signs.contains(byte)).count();
     (0..text.len()).find(|&at| {
         let before = &text[..at];
-        text[at] == b'(' && count(before, b'(') >= MOST_OPEN + count(before, b')')
+        b"(<".contains(&text[at]) && count(before, b"(<") >= MOST_OPEN + count(before, b")>")
     })
 }
 
@@ -211,6 +226,12 @@ fn operator(sign: char) -> Row {
         _ => plan::EITHER,
     };
     [kind, 0, 0, 0]
+}
+
+/// Takes the operators that wait at the end of the stack and have this rank at least.
+fn taken(waiting: &mut Vec<char>, least: u32) -> Vec<Row> {
+    let before = waiting.iter().rposition(|&sign| rank(sign) < least);
+    waiting.drain(before.map_or(0, |at| at + 1)..).rev().map(operator).collect()
 }
 
 /// The rows of what stands between the square brackets of a figure.
@@ -235,7 +256,8 @@ pub fn pattern(inside: &str) -> Vec<Row> {
     rows
 }
 
-/// The rows of a line.
+/// The rows of a line. What waits is operators, round brackets, the number of each `<` that is
+/// open, and the commas behind it.
 pub fn rows(line: &str) -> Vec<Row> {
     let mut rows = vec![];
     let mut waiting: Vec<char> = vec![];
@@ -250,18 +272,33 @@ pub fn rows(line: &str) -> Vec<Row> {
             }
             '(' => waiting.push('('),
             ')' => {
-                let inside = waiting.iter().rposition(|&sign| sign == '(').unwrap();
-                rows.extend(waiting.drain(inside..).skip(1).rev().map(operator));
+                rows.extend(taken(&mut waiting, 1));
+                assert_eq!(waiting.pop(), Some('('), "{line}");
+            }
+            '<' => {
+                waiting.extend(rest.chars().next());
+                rest = &rest[2..];
+            }
+            ',' => {
+                rows.extend(taken(&mut waiting, 1));
+                waiting.push(',');
+            }
+            '>' => {
+                rows.extend(taken(&mut waiting, 1));
+                let number = waiting.iter().rposition(char::is_ascii_digit).unwrap();
+                let least = waiting[number].to_digit(10).unwrap();
+                // A line stands behind the number, and one behind each comma.
+                let lines = waiting.drain(number..).count() as u32;
+                rows.push([plan::AT_LEAST, least, lines, 0]);
             }
             _ => {
-                while waiting.last().is_some_and(|&before| rank(before) >= rank(sign)) {
-                    rows.extend(waiting.pop().map(operator));
-                }
+                rows.extend(taken(&mut waiting, rank(sign)));
                 waiting.push(sign);
             }
         }
     }
-    rows.extend(waiting.into_iter().rev().map(operator));
+    rows.extend(taken(&mut waiting, 1));
+    assert!(waiting.is_empty(), "{line}");
     rows
 }
 
@@ -317,10 +354,16 @@ fn figure(rows: &[Row]) -> String {
 pub fn bracketed(rows: &[Row]) -> String {
     let mut lines: Vec<String> = vec![];
     let mut first = 0;
-    for (at, &[kind, ..]) in rows.iter().enumerate() {
+    for (at, &[kind, a, b, _]) in rows.iter().enumerate() {
         let sign = match kind {
             plan::END => {
                 lines.push(figure(&rows[first..=at]));
+                first = at + 1;
+                continue;
+            }
+            plan::AT_LEAST => {
+                let top = lines.split_off(lines.len() - b as usize);
+                lines.push(format!("<{a}:{}>", top.join(",")));
                 first = at + 1;
                 continue;
             }
@@ -406,14 +449,14 @@ pub fn write(volume: &[u8], plan: &[u32], out: &mut [u8]) -> Result<u32, Refused
     Ok(line.len() as u32)
 }
 
-/// Cuts a text at those of the signs that stand in no round bracket: the pieces, each with the sign
-/// in front of it. The first has a space there.
+/// Cuts a text at those of the signs that stand in no round bracket and in no `<..>`: the pieces,
+/// each with the sign in front of it. The first has a space there.
 fn cut<'a>(text: &'a str, signs: &[char]) -> Vec<(char, &'a str)> {
     let (mut pieces, mut sign, mut from, mut open) = (vec![], ' ', 0, 0);
     for (at, next) in text.char_indices() {
         match next {
-            '(' => open += 1,
-            ')' => open -= 1,
+            '(' | '<' => open += 1,
+            ')' | '>' => open -= 1,
             _ if open == 0 && signs.contains(&next) => {
                 pieces.push((sign, &text[from..at]));
                 (sign, from) = (next, at + 1);
@@ -426,12 +469,21 @@ fn cut<'a>(text: &'a str, signs: &[char]) -> Vec<(char, &'a str)> {
 }
 
 /// Whether a line is true of a document, read on its own, without rows: one of its parts is, of
-/// which the items are taken from left to right. `found` tells it of what stands between the square
-/// brackets of a figure.
+/// which the items are taken from left to right, and `<..>` is where as many of its lines are true
+/// as its number says. `found` tells it of what stands between the square brackets of a figure.
 pub fn is_true(line: &str, found: &dyn Fn(&str) -> bool) -> bool {
-    let item = |text: &str| match text.strip_prefix('[') {
-        Some(behind) => found(behind.strip_suffix(']').unwrap()),
-        None => is_true(&text[1..text.len() - 1], found),
+    let item = |text: &str| {
+        let inside = &text[1..text.len() - 1];
+        match text.as_bytes()[0] {
+            b'[' => found(inside),
+            b'(' => is_true(inside, found),
+            _ => {
+                let (number, lines) = inside.split_once(':').unwrap();
+                let lines = cut(lines, &[',']);
+                let yes = lines.into_iter().filter(|(_, line)| is_true(line, found)).count();
+                yes >= number.parse().unwrap()
+            }
+        }
     };
     let part = |text: &str| {
         let items = cut(text, &['&', '!']).into_iter();

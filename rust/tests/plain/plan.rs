@@ -1,7 +1,7 @@
 //! A plain reader of plans, straight from document 01 ("Plan", "Calls" and "Who can cause which
-//! refusal") and from request N2 of document 02 (APART). It shares nothing with the library or its
-//! wrappers: each row is judged by counting rows in front of it, and nothing is carried on from row
-//! to row.
+//! refusal") and from requests N2 (APART) and N9 (AT LEAST) of document 02. It shares nothing with
+//! the library or its wrappers: each row is judged by counting rows in front of it, and nothing is
+//! carried on from row to row.
 
 use super::{lists, Refused};
 use std::ops::Range;
@@ -19,6 +19,7 @@ pub const BOTH: u32 = 7;
 pub const EITHER: u32 = 8;
 pub const FIRST_NOT_SECOND: u32 = 9;
 pub const APART: u32 = 10;
+pub const AT_LEAST: u32 = 11;
 
 /// The predicates (01: conditions).
 const PREDICATES: [u32; 5] = [NEAR, BEFORE, SAME_TITLE, SPAN, APART];
@@ -46,9 +47,12 @@ fn closed(rows: &[Row]) -> usize {
     count(rows, &[END])
 }
 
-/// The answers on the stack: an END brings one, and an operator makes one of two.
+/// The answers on the stack: an END brings one, an operator makes one of two, and an AT LEAST makes
+/// one of b.
 fn answers(rows: &[Row]) -> usize {
-    closed(rows) - count(rows, &OPERATORS)
+    let at_least = rows.iter().filter(|row| row[0] == AT_LEAST);
+    let fewer: usize = at_least.map(|row| row[2] as usize - 1).sum();
+    closed(rows) - count(rows, &OPERATORS) - fewer
 }
 
 /// Least and most of an APART: c = least × 65,536 + most.
@@ -56,7 +60,8 @@ pub fn limits(c: u32) -> (u32, u32) {
     (c / 65_536, c % 65_536)
 }
 
-/// 10: unknown kind, unused word not 0, c out of range, or an APART whose least exceeds its most.
+/// 10: unknown kind, unused word not 0, c out of range, an APART whose least exceeds its most, or
+/// an AT LEAST that is not of two to eight answers, or whose number is not 1 to that of them.
 fn malformed([kind, a, b, c]: Row) -> bool {
     match kind {
         VOICE => b != 0 || c != 0,
@@ -68,6 +73,7 @@ fn malformed([kind, a, b, c]: Row) -> bool {
             let (least, most) = limits(c);
             least > most
         }
+        AT_LEAST => !(2..=8).contains(&b) || !(1..=b).contains(&a) || c != 0,
         _ => true,
     }
 }
@@ -85,7 +91,8 @@ fn too_many(before: &[Row], [kind, ..]: Row) -> bool {
 }
 
 /// 13: VOICE after a condition; a condition with no figure open or naming a voice not there; END
-/// with no figure open; 7 to 9 with a figure open or fewer than two answers.
+/// with no figure open; 7 to 9 with a figure open or fewer than two answers; 11 with a figure open
+/// or fewer than b answers.
 fn out_of_order(before: &[Row], [kind, a, b, _]: Row) -> bool {
     let vars = open_vars(before);
     let is_open = vars > 0;
@@ -94,6 +101,7 @@ fn out_of_order(before: &[Row], [kind, a, b, _]: Row) -> bool {
         VOICE => count(behind_last_end(before), &PREDICATES) > 0,
         NEAR | BEFORE | SAME_TITLE | APART => !is_open || !is_there(a) || !is_there(b),
         SPAN | END => !is_open,
+        AT_LEAST => is_open || answers(before) < b as usize,
         _ => is_open || answers(before) < 2,
     }
 }

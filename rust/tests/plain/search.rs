@@ -1,9 +1,9 @@
 //! A naive searcher, straight from document 01 ("Plan" and "Calls") and from requests N2 (APART),
-//! N3 (SAME TITLE before the first title), N4 (all the places in a scene) and N8 (title starts
-//! beside the places) of document 02. It shares nothing with the library or its wrappers: in each
-//! document it tries every choice of positions and keeps those that pass; it settles all documents
-//! before the first call, and reads each answer off their rows. SAME TITLE is N3's sentence, and
-//! looks at no title start.
+//! N3 (SAME TITLE before the first title), N4 (all the places in a scene), N8 (title starts beside
+//! the places) and N9 (AT LEAST) of document 02. It shares nothing with the library or its
+//! wrappers: in each document it tries every choice of positions and keeps those that pass; it
+//! settles all documents before the first call, and reads each answer off their rows. SAME TITLE is
+//! N3's sentence, and looks at no title start.
 
 use super::plan::{self, Row};
 use super::{lists, Refused};
@@ -25,6 +25,8 @@ pub struct Searcher {
     plan: Vec<Row>,
     /// The rows of all true documents (01: scenes), rising.
     pub rows: Vec<Vec<u32>>,
+    /// Each AT LEAST of the plan in each document, with how many of its answers are yes.
+    pub counted: Vec<(Row, usize)>,
 }
 
 /// What a listing call answers.
@@ -132,8 +134,13 @@ impl Searcher {
             patterns: checked.patterns.into_iter().map(|part| pattern(&plan[part])).collect(),
             plan: plan.chunks(4).map(row).collect(),
             rows: vec![],
+            counted: vec![],
         };
-        searcher.rows = searcher.docs().into_iter().filter_map(|doc| searcher.row(doc)).collect();
+        for doc in searcher.docs() {
+            let (row, counted) = searcher.settled(doc);
+            searcher.rows.extend(row);
+            searcher.counted.extend(counted);
+        }
         Ok(searcher)
     }
 
@@ -169,11 +176,14 @@ impl Searcher {
         least(&self.passing(pattern, doc))
     }
 
-    /// Whether the one answer left at the end of the plan is yes, where these patterns are found.
-    fn answer(&self, found: &[bool]) -> bool {
+    /// Whether the one answer left at the end of the plan is yes, where these patterns are found,
+    /// and each AT LEAST with how many of its answers are.
+    fn answer(&self, found: &[bool]) -> (bool, Vec<(Row, usize)>) {
         let mut found = found.iter();
-        let mut answers = vec![];
-        for &[kind, ..] in &self.plan {
+        let mut answers: Vec<bool> = vec![];
+        let mut counted = vec![];
+        for &row in &self.plan {
+            let [kind, a, b, _] = row;
             match kind {
                 plan::END => answers.push(*found.next().unwrap()),
                 plan::BOTH | plan::EITHER | plan::FIRST_NOT_SECOND => {
@@ -185,21 +195,33 @@ impl Searcher {
                         _ => first && !second,
                     });
                 }
+                plan::AT_LEAST => {
+                    let top = answers.split_off(answers.len() - b as usize);
+                    let yes = top.into_iter().filter(|&answer| answer).count();
+                    answers.push(yes >= a as usize);
+                    counted.push((row, yes));
+                }
                 _ => {}
             }
         }
         assert!(found.next().is_none() && answers.len() == 1);
-        answers[0]
+        (answers[0], counted)
     }
 
     /// The row of a document, if it is true: the document, then for each pattern 1 and its earliest
     /// positions, each followed by its title start, or 0 and zeros.
     pub fn row(&self, doc: u32) -> Option<Vec<u32>> {
+        self.settled(doc).0
+    }
+
+    /// The row of a document, if it is true, and what each AT LEAST counts there.
+    fn settled(&self, doc: u32) -> (Option<Vec<u32>>, Vec<(Row, usize)>) {
         let earliest: Vec<Option<Vec<u32>>> =
             self.patterns.iter().map(|pattern| self.earliest(pattern, doc)).collect();
         let found: Vec<bool> = earliest.iter().map(Option::is_some).collect();
-        if !self.answer(&found) {
-            return None;
+        let (is_true, counted) = self.answer(&found);
+        if !is_true {
+            return (None, counted);
         }
         let starts = self.positions(0, doc);
         let mut row = vec![doc];
@@ -214,7 +236,7 @@ impl Searcher {
                 None => row.extend(vec![0; 1 + 2 * pattern.lists.len()]),
             }
         }
-        Some(row)
+        (Some(row), counted)
     }
 
     /// What a row shows: for each pattern the position and the title start of each variable, or

@@ -8,7 +8,7 @@ pub type Place = (usize, usize);
 
 /// The names of a plan's rows, their kinds, and what the numbers behind them are: the words a, b
 /// and c, or `<` and `>`, the least and the most of which APART's c is made.
-pub const NAMES: [(&str, u32, &str); 10] = [
+pub const NAMES: [(&str, u32, &str); 11] = [
     ("VOICE", 1, "a"),
     ("NEAR", 2, "abc"),
     ("BEFORE", 3, "ab"),
@@ -19,6 +19,7 @@ pub const NAMES: [(&str, u32, &str); 10] = [
     ("EITHER", 8, ""),
     ("FIRST NOT SECOND", 9, ""),
     ("APART", 10, "ab<>"),
+    ("AT LEAST", 11, "ab"),
 ];
 
 /// The lines of a text with their numbers, or the place of a carriage return that ends none.

@@ -6,6 +6,7 @@ mod plain;
 mod support;
 
 mod plan_apart;
+mod plan_at_least;
 mod plan_document;
 mod plan_exhaustive;
 mod plan_limits;

@@ -79,7 +79,7 @@ fn least_over_most_at_every_row() {
                     assert_eq!(trial.plan(&volume, &rows.concat()), refused, "{}", trial.case);
                 }
                 if at > 0 {
-                    let (fault, number) = [(voice(3), 11), ([11, 0, 0, 0], 10)][at % 2];
+                    let (fault, number) = [(voice(3), 11), ([12, 0, 0, 0], 10)][at % 2];
                     rows[at / 2] = fault;
                     trial.case += &format!(", {fault:?} is row {}", at / 2);
                     let refused = Err((number, at as u32 / 2));

@@ -1,13 +1,13 @@
-//! What document 01 itself says of plans: the kinds, with that of document 02, the limits, the
+//! What document 01 itself says of plans: the kinds, with those of document 02, the limits, the
 //! sample plan, and the plans of its table of cases.
 
 use crate::support::plans::*;
 use crate::support::*;
 use lihambozy::{kind, MAX_PATTERNS, MAX_ROWS, MAX_VARS, ROW_WORDS};
 
-/// Document 01's nine, and APART.
+/// Document 01's nine, APART and AT LEAST.
 #[test]
-fn the_ten_kinds() {
+fn the_eleven_kinds() {
     assert_eq!(
         [
             kind::VOICE,
@@ -20,8 +20,9 @@ fn the_ten_kinds() {
             kind::EITHER,
             kind::FIRST_NOT_SECOND,
             kind::APART,
+            kind::AT_LEAST,
         ],
-        [1, 2, 3, 4, 5, 6, 7, 8, 9, 10]
+        [1, 2, 3, 4, 5, 6, 7, 8, 9, 10, 11]
     );
 }
 

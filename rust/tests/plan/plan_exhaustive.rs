@@ -78,13 +78,16 @@ fn every_row_behind_every_front() {
         ("two answers, a predicate", &[&p, &p, &[v, same_title(0, 0)]]),
         ("two variables, an APART", &[&[v, v, apart(0, 1, 3, 3)]]),
         ("an operator", &[&p, &p, &[EITHER]]),
+        ("an AT LEAST", &[&p, &p, &p, &[at_least(2, 3)]]),
+        ("an answer, an AT LEAST", &[&p, &p, &p, &[at_least(1, 2)]]),
         ("seven answers", &[&p.repeat(7)]),
         ("eight answers", &[&p.repeat(8)]),
         ("the eighth pattern is open", &[&p.repeat(7), &[v]]),
         ("eight patterns, one answer", &[&p.repeat(8), &[BOTH; 7]]),
+        ("eight patterns, one AT LEAST", &[&p.repeat(8), &[at_least(3, 8)]]),
     ];
-    let kinds = [0, 1, 2, 3, 4, 5, 6, 7, 8, 9, 10, 11, 12, 257, 266, u32::MAX];
-    let edges = [0, 1, 2, 3, 6, 7, 8, 65_536, u32::MAX];
+    let kinds = [0, 1, 2, 3, 4, 5, 6, 7, 8, 9, 10, 11, 12, 13, 257, 266, 267, u32::MAX];
+    let edges = [0, 1, 2, 3, 6, 7, 8, 9, 65_536, u32::MAX];
     // As limits of APART: 0 0, 0 1, 0 65535, 1 0, 1 1, 65535 65534, 65535 65535.
     let limits = [0, 1, 65_535, 65_536, 65_537, u32::MAX - 1, u32::MAX];
     let volume = sample().volume();

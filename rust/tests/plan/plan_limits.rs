@@ -51,20 +51,25 @@ fn lengths_before_rows() {
     }
 }
 
-/// The greatest number of variables: 51 in 7 patterns, so that a row of a listing has 110 words.
+/// The greatest number of variables: 56 in 7 patterns, so that a row of a listing has 120 words.
+/// One AT LEAST joins them. Where operators of two answers do, there are 51.
 #[test]
 fn the_largest_plans() {
     let volume = sample().volume();
     let seven = [vec![8; 6], vec![3]].concat();
     let eight = [vec![8; 5], vec![7, 1, 1]].concat();
     let equal = [vec![7; 5], vec![5, 5, 4]].concat();
-    let rows: [(&str, Vec<usize>, (u32, u32)); 6] = [
+    let most = [vec![8; 5], vec![7, 7, 1]].concat();
+    let rows: [(&str, Vec<usize>, (u32, u32)); 9] = [
         ("6 patterns of 8", vec![8; 6], (6, 48)),
         ("7 patterns, the last of 3", seven.clone(), (7, 51)),
         ("7 patterns, the first of 3", seven.into_iter().rev().collect(), (7, 51)),
         ("8 patterns, the last of 1", eight.clone(), (8, 49)),
         ("8 patterns, the first of 1", eight.into_iter().rev().collect(), (8, 49)),
         ("8 patterns, about equal", equal, (8, 49)),
+        ("7 patterns of 8", vec![8; 7], (7, 56)),
+        ("8 patterns, 55 variables", most.clone(), (8, 55)),
+        ("8 patterns, 55 variables, the first of 1", most.into_iter().rev().collect(), (8, 55)),
     ];
     let mut trial = Trial::default();
     for (name, sizes, answer) in rows {
@@ -76,9 +81,15 @@ fn the_largest_plans() {
             patterns[1..].iter().flat_map(|rows| [&rows[..], &[BOTH]].concat()).collect(),
         ]
         .concat();
-        for mut rows in [at_the_end, one_by_one] {
-            assert!(rows.len() <= 64, "{name}");
+        let of_all = sizes.len() as u32;
+        let in_one = [patterns.concat(), vec![at_least(of_all / 2, of_all)]].concat();
+        for mut rows in [at_the_end, one_by_one, in_one] {
             trial.case = name.to_string();
+            if answer.1 > 51 && rows.len() > 64 {
+                assert_eq!(trial.plan(&volume, &rows.concat()), Err((9, 0)), "{name}");
+                continue;
+            }
+            assert!(rows.len() <= 64, "{name}");
             assert_eq!(trial.plan(&volume, &rows.concat()), Ok(answer), "{name}");
 
             // Predicates up to 64 rows, and one more.
@@ -110,6 +121,8 @@ fn the_last_of_64_rows() {
         (V, Err((13, 63))),
         (before(0, 7), Err((13, 63))),
         (BOTH, Err((13, 63))),
+        (at_least(1, 2), Err((13, 63))),
+        (at_least(3, 2), Err((10, 63))),
     ] {
         trial.case = format!("{last:?}");
         let plan = [&front[..], &[last]].concat().concat();

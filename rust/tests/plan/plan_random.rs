@@ -18,14 +18,15 @@ fn volumes(rng: &mut Rng) -> Vec<(Vec<u8>, usize)> {
     all.iter().map(|lists| (lists.volume(), lists.counts.len())).collect()
 }
 
-/// Plans in order are accepted, those of every number of patterns and of 64 rows among them.
+/// Plans in order are accepted, those of every number of patterns and of 64 rows among them, and
+/// those with AT LEAST of every number of answers.
 #[test]
 fn plans_in_order() {
     let seed = 5_101;
     let mut rng = Rng::new(seed);
     let mut trial = Trial::default();
     let volumes = volumes(&mut rng);
-    let mut met = BTreeMap::new();
+    let (mut met, mut taken) = (BTreeMap::new(), BTreeMap::new());
     let (mut largest, mut most_vars) = (0, 0);
     for round in 0..10_000 {
         let (volume, lists) = &volumes[rng.below(volumes.len())];
@@ -35,11 +36,17 @@ fn plans_in_order() {
         let count = |kind| rows.iter().filter(|row| row[0] == kind).count() as u32;
         assert_eq!((patterns, vars), (count(kind::END), count(kind::VOICE)), "{}", trial.case);
         *met.entry(patterns).or_insert(0) += 1;
+        for row in rows.iter().filter(|row| row[0] == kind::AT_LEAST) {
+            *taken.entry((row[1], row[2])).or_insert(0) += 1;
+        }
         largest += usize::from(rows.len() == 64);
         most_vars = vars.max(most_vars);
     }
     assert!(met.keys().copied().eq(1..=8) && met.values().all(|&times| times > 100), "{met:?}");
-    assert!(largest > 100 && most_vars == 51, "{largest} of 64 rows, {most_vars} variables");
+    let numbers = (1..=8).flat_map(|least| (least.max(2)..=8).map(move |of| (least, of)));
+    assert!(taken.keys().copied().eq(numbers), "{taken:?}");
+    assert!(taken.values().all(|&times| times > 5), "{taken:?}");
+    assert!(largest > 100 && most_vars == 56, "{largest} of 64 rows, {most_vars} variables");
 }
 
 /// One to three changes in a plan that is in order.

@@ -138,6 +138,32 @@ fn works_in_a_table() {
             &[],
             2,
         ),
+        // Each work has two of three lists, but not in each of its documents.
+        (
+            "AT LEAST 2 of 3, a list in each work alone",
+            &[&[(3, 4)], &[(2, 1), (3, 3)], &[(3, 5)], &[]],
+            &[&[], &[], &[(0, 4), (1, 4)], &[(0, 9)]],
+            4,
+            &[voice(1), END, voice(2), END, voice(3), END, at_least(2, 3)],
+            &[
+                &[3, 1, 3, NO_START, 1, 5, 4, 0, 0, 0],
+                &[4, 0, 0, 0, 1, 4, NO_START, 1, 9, NO_START],
+            ],
+            6,
+        ),
+        (
+            "AT LEAST 1 of 2, beside AT LEAST 2 of 2",
+            &[&[], &[(2, 1), (3, 3)], &[(3, 5)], &[]],
+            &[&[], &[], &[(0, 4), (1, 4)], &[(0, 9)]],
+            4,
+            &[voice(1), END, voice(2), END, voice(3), END, at_least(2, 2), at_least(1, 2)],
+            &[
+                &[2, 1, 1, NO_START, 0, 0, 0, 0, 0, 0],
+                &[3, 1, 3, NO_START, 1, 5, NO_START, 0, 0, 0],
+                &[4, 0, 0, 0, 1, 4, NO_START, 1, 9, NO_START],
+            ],
+            6,
+        ),
     ];
     let (mut rng, mut trial, mut met) = (Rng::new(7), Trial::default(), Met::default());
     for &(name, first, second, raise, rows, expected, tally) in rows {
@@ -203,11 +229,14 @@ fn random_works_searched() {
         let tuples = trial.enumerate(&joined, 0, doc, 24);
         assert_eq!(trial.enumerate(&work, 0, in_work, 24), tuples, "{}", trial.case);
         met.count("tuples", tuples.len());
+        let is_some = works.rows.iter().any(|row| row[0] == lihambozy::kind::AT_LEAST);
+        met.count("works: rows of AT LEAST", if is_some { rows.len() } else { 0 });
     }
     met.assert_at_least(&[
         ("works: searched", 800),
         ("works: rows", 1_500),
         ("works: rows of both", 150),
+        ("works: rows of AT LEAST", 300),
         ("works: more", 1_000),
         ("tuples", 800),
     ]);
@@ -249,7 +278,7 @@ fn plans_refused_alike() {
         }
         for volume in &volumes {
             let subject = Subject::new(volume, &plan);
-            let listed = trial.list_rows(&subject, 0, 110).map(|_| ());
+            let listed = trial.list_rows(&subject, 0, 120).map(|_| ());
             assert_eq!(listed, answers[0].map(|_| ()), "{}", trial.case);
         }
     }

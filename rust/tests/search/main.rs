@@ -17,6 +17,7 @@ mod matches_random;
 mod matches_refusals;
 mod matches_relations;
 mod search_apart;
+mod search_at_least;
 mod search_document;
 mod search_edges;
 mod search_order;

@@ -389,7 +389,7 @@ fn the_last_of_many_patterns() {
         (0..60).map(|list| if list == 0 { vec![] } else { list_in(&[3], &[list]) }).collect();
     let volume = Lists::new(&lists).volume();
     let mut trial = Trial::default();
-    let subject = Subject::new(&volume, &widest_plan_on(|var| 1 + var, BOTH).concat());
+    let subject = Subject::new(&volume, &widest_plan_on(|var| 1 + var, 7).concat());
     let mut var = 0;
     for (pattern, vars) in (0..).zip(WIDEST) {
         let tuple: Vec<u32> = (1 + var..=vars + var).collect();

@@ -529,11 +529,11 @@ fn empty_lists() {
     }
 }
 
-/// The largest plan: 51 variables in 7 patterns and 64 rows, so that a row has 110 words.
+/// The largest plan: 56 variables in 7 patterns and 64 rows, so that a row has 120 words.
 #[test]
 fn the_widest_row() {
-    let rows = widest_plan_on(|var| var + 1, EITHER);
-    assert_eq!((rows[56], rows[63], rows.len()), (voice(51), EITHER, 64));
+    let rows = widest_plan_on(|var| var + 1, 1);
+    assert_eq!((rows[61], rows[63], rows.len()), (voice(56), at_least(1, 7), 64));
     // Variable i stands at 1,000 + i. Document 9 has all of them, document 10 those of the patterns
     // of even number, document 11 those of the others, document 12 all of each pattern but one. A
     // title starts at every tenth position from 1,010 on, but in document 11.
@@ -547,7 +547,7 @@ fn the_widest_row() {
     let of_var = |var: u32| -> Vec<(u32, u32)> {
         docs.clone().filter(|&doc| in_doc(doc, var)).map(|doc| (doc, 1_000 + var)).collect()
     };
-    let mut lists: Vec<Vec<(u32, u32)>> = (0..51).map(of_var).collect();
+    let mut lists: Vec<Vec<(u32, u32)>> = (0..56).map(of_var).collect();
     let postings = lists.iter().map(|list| list.len() as u32).sum();
     let starts = [9, 10].into_iter().flat_map(|doc| (1..5).map(move |i| (doc, 1_000 + 10 * i)));
     lists.insert(0, starts.collect());
@@ -570,22 +570,22 @@ fn the_widest_row() {
     }
     let subject = Subject::over(&lists, &rows);
     let mut trial = Trial::default();
-    assert_eq!(subject.searcher().width(), 110);
+    assert_eq!(subject.searcher().width(), 120);
     assert_eq!(trial.listing(&subject), (expected.clone(), postings));
     for (room, written, more) in [
-        (110, 1, Some(10)),
-        (111, 1, Some(10)),
-        (219, 1, Some(10)),
-        (220, 2, Some(11)),
-        (329, 2, Some(11)),
-        (330, 3, None),
+        (120, 1, Some(10)),
+        (121, 1, Some(10)),
+        (239, 1, Some(10)),
+        (240, 2, Some(11)),
+        (359, 2, Some(11)),
+        (360, 3, None),
         (900, 3, None),
     ] {
         let (words, listed) = trial.list_rows(&subject, 0, room).unwrap();
         assert_eq!((listed.rows, listed.more), (written, more), "{room} words");
-        assert_eq!(words, expected[..110 * written as usize], "{room} words");
+        assert_eq!(words, expected[..120 * written as usize], "{room} words");
     }
-    for room in [0, 1, 8, 58, 59, 60, 102, 108, 109] {
+    for room in [0, 1, 8, 63, 64, 65, 110, 112, 118, 119] {
         assert_eq!(trial.list_rows(&subject, 0, room), Err((16, 0)), "{room} words");
     }
 }
@@ -781,20 +781,20 @@ fn the_greatest_tally() {
     let list: Vec<u32> = (0..postings).collect();
     let volume = Lists::new(&[&[][..], &list]).volume();
     assert_eq!(volume.len(), 512 * 8_192);
-    let plan = widest_plan_on(|_| 1, BOTH).concat();
+    let plan = widest_plan_on(|_| 1, 7).concat();
     assert_eq!(plan.len(), 256);
     // Documents 0 to 14 have every position, document 15 those up to the last posting.
-    let mut out = vec![9; 110 * 16];
+    let mut out = vec![9; 120 * 16];
     let listing = lihambozy::calls::list(&volume, &plan, 0, &mut out).unwrap();
-    assert_eq!(listing, Listing { rows: 16, tally: 51 * postings, next: Next::Done });
+    assert_eq!(listing, Listing { rows: 16, tally: 56 * postings, next: Next::Done });
     let found = |vars: usize| [&[1][..], &[0, NO_START].repeat(vars)].concat();
-    let patterns = [found(8).repeat(6), found(3)].concat();
-    for (row, doc) in out.chunks(110).zip(0..) {
+    let patterns = found(8).repeat(7);
+    for (row, doc) in out.chunks(120).zip(0..) {
         assert_eq!((row[0], &row[1..]), (doc, &patterns[..]));
     }
-    let listing = lihambozy::calls::list(&volume, &plan, 0, &mut out[..110 * 15]).unwrap();
-    assert_eq!(listing, Listing { rows: 15, tally: 51 * 15 * 65_536, next: Next::More(15) });
+    let listing = lihambozy::calls::list(&volume, &plan, 0, &mut out[..120 * 15]).unwrap();
+    assert_eq!(listing, Listing { rows: 15, tally: 56 * 15 * 65_536, next: Next::More(15) });
     let listing = lihambozy::calls::list(&volume, &plan, 15, &mut out).unwrap();
     let left = postings - 15 * 65_536;
-    assert_eq!(listing, Listing { rows: 1, tally: 51 * left, next: Next::Done });
+    assert_eq!(listing, Listing { rows: 1, tally: 56 * left, next: Next::Done });
 }

@@ -356,13 +356,13 @@ const LISTS_OF_VARS: [fn(u32) -> u32; 7] = [
     |_| 1_023,
     |_| 1,
     |var| 1 + var,
-    |var| 973 + var,
+    |var| 968 + var,
     |var| 1_023 - var,
     |var| 1 + var * 397 % 1_023,
     |var| if var.is_multiple_of(2) { 1_023 } else { 1 },
 ];
 
-/// 51 variables. In document 7 a title starts at 0, in document 9 behind all of them. Catches a
+/// 56 variables. In document 7 a title starts at 0, in document 9 behind all of them. Catches a
 /// list that is taken to start elsewhere, and an order, a position or a title start that a variable
 /// of another pattern gets.
 #[test]
@@ -375,8 +375,8 @@ fn most_variables_over_most_lists() {
         NO_START,
     )]);
     for (volume, list, start) in plans {
-        let subject = Subject::new(volume, &widest_plan_on(list, EITHER).concat());
-        trial.case = format!("51 variables on lists {}, {}, ..", list(0), list(1));
+        let subject = Subject::new(volume, &widest_plan_on(list, 1).concat());
+        trial.case = format!("56 variables on lists {}, {}, ..", list(0), list(1));
         let (rows, _) = listed(&mut trial, &subject);
         let (mut of_7, mut of_9, mut vars) = (vec![7], vec![9], 0..);
         for count in WIDEST {

@@ -12,9 +12,11 @@ fn count_rows(met: &mut Met, subject: &Subject) {
     met.count("more than one block", usize::from(subject.volume().len() > 512));
     met.count("no document matches", usize::from(searcher.rows.is_empty()));
     met.count("rows", searcher.rows.len());
-    let zeros = match subject.plan().chunks(4).any(|row| row[0] == kind::FIRST_NOT_SECOND) {
-        true => "zeros beside FIRST NOT SECOND",
-        false => "zeros under EITHER",
+    let has = |kind: u32| subject.plan().chunks(4).any(|row| row[0] == kind);
+    let zeros = match [kind::FIRST_NOT_SECOND, kind::AT_LEAST].map(has) {
+        [true, _] => "zeros beside FIRST NOT SECOND",
+        [false, true] => "zeros under AT LEAST",
+        [false, false] => "zeros under EITHER",
     };
     for row in &searcher.rows {
         for (pattern, shown) in searcher.patterns.iter().zip(searcher.shown(row)) {
@@ -98,6 +100,7 @@ fn whole_searches() {
         other_starts(&mut rng, &mut trial, &subject, 3);
         count_rows(&mut met, &subject);
         count_starts(&mut met, &subject);
+        count_at_least(&mut met, &subject);
         count_titles(&mut met, subject.searcher());
     }
     trial.assert_met(Call::List, 3_000, &[0, 15, 16]);
@@ -114,6 +117,7 @@ fn whole_searches() {
         ("more than one block", 1_600),
         ("rows", 16_000),
         ("zeros under EITHER", 3_300),
+        ("zeros under AT LEAST", 3_300),
         ("zeros beside FIRST NOT SECOND", 3_300),
         ("found at first positions", 6_600),
         ("found further on", 1_600),
@@ -134,13 +138,14 @@ fn whole_searches() {
         ("documents without titles", 3_300),
         ("SPAN found", 1_600),
         ("SPAN missed", 330),
-        ("APART found", 1_000),
+        ("APART found", 800),
         ("APART missed", 1_000),
     ]);
     let [lead_ins, docs] =
         ["with a lead-in", "with words"].map(|of| met.0[&format!("documents {of}")]);
     assert!(3 * lead_ins >= docs, "{lead_ins} of {docs} documents have a lead-in");
     met.assert_at_least(&STARTS.map(|what| (what, 1_600)));
+    met.assert_at_least(&COUNTED.map(|what| (what, 1_600)));
     let made = trial.made(Call::List);
     assert!(made >= 100_000, "{made} comparisons");
 }
@@ -152,13 +157,14 @@ fn large_archives() {
     let mut rng = Rng::new(seed);
     let mut trial = Trial::default();
     let mut met = Met::default();
-    for round in 0..120 {
+    for round in 0..160 {
         let subject = random_large_subject(&mut rng);
         trial.case = format!("seed {seed}, round {round}, {:?}", subject.plan());
         random_search(&mut rng, &mut trial, &mut met, &subject);
         other_starts(&mut rng, &mut trial, &subject, 3);
         count_rows(&mut met, &subject);
         count_starts(&mut met, &subject);
+        count_at_least(&mut met, &subject);
         count_titles(&mut met, subject.searcher());
     }
     met.assert_at_least(&[
@@ -171,4 +177,5 @@ fn large_archives() {
         ("SAME TITLE found behind a lead-in", 40),
     ]);
     met.assert_at_least(&STARTS.map(|what| (what, 500)));
+    met.assert_at_least(&COUNTED.map(|what| (what, 500)));
 }

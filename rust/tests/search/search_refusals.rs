@@ -107,7 +107,7 @@ fn random_faults() {
         let subject = Subject::new(&volume, &plan);
         for _ in 0..3 {
             let start = rng.pick(&[0, 0, 1, 2, 65_535, 65_536, u32::MAX]);
-            let room = rng.pick(&[0, 3, 4, 6, 12, 30, 110, 220, 500]);
+            let room = rng.pick(&[0, 3, 4, 6, 12, 30, 120, 240, 500]);
             let _ = trial.list_rows(&subject, start, room);
             let (pattern, doc) = (rng.below(3) as u32, rng.pick(&[0, 1, 2, 65_535, 65_536]));
             let given = (0..1 + rng.below(3)).map(|_| rng.pick(&[0, 1, 2, 9, 9, 65_535, 65_536]));

@@ -364,20 +364,20 @@ fn unfound_patterns_stay_zeros() {
     shows(&mut trial, &lists, &titled, &words);
 }
 
-/// 51 variables in 7 patterns: 110 words. Every variable stands in a title of its own, and neither
+/// 56 variables in 7 patterns: 120 words. Every variable stands in a title of its own, and neither
 /// positions nor starts are in the order of the variables. Catches a table of cursors that is
-/// shorter than 51 or is shared by two patterns, a start at another variable's place, and a row
+/// shorter than 56 or is shared by two patterns, a start at another variable's place, and a row
 /// that is measured or written too short.
 #[test]
 fn the_widest_row() {
-    let title = |var: u32| var * 20 % 51;
-    let pos = |var: u32| 100 * title(var) + 50;
+    let title = |var: u32| var * 25 % 56;
+    let pos = |var: u32| 100 * title(var) + 60;
     // Document 20 has a start in front of each variable, document 21 one at each, and one in front
     // of all, document 22 none. In document 21 the patterns of odd number have no words.
     let starts_of = |doc: u32| -> Vec<u32> {
         match doc {
-            20 => (0..51).map(|title| 101 * title).collect(),
-            21 => [3].into_iter().chain((0..51).map(|title| 100 * title + 50)).collect(),
+            20 => (0..56).map(|title| 101 * title).collect(),
+            21 => [3].into_iter().chain((0..56).map(|title| 100 * title + 60)).collect(),
             _ => vec![],
         }
     };
@@ -385,7 +385,7 @@ fn the_widest_row() {
     let docs = [20, 21, 22];
     let mut lists = vec![docs.iter().flat_map(|&doc| list_in(&[doc], &starts_of(doc))).collect()];
     let in_docs = |var: u32| docs.into_iter().filter(move |&doc| is_found(doc, var / 8));
-    lists.extend((0..51).map(|var| in_docs(var).map(|doc| doc * 65_536 + pos(var)).collect()));
+    lists.extend((0..56).map(|var| in_docs(var).map(|doc| doc * 65_536 + pos(var)).collect()));
     let mut words = vec![];
     for doc in docs {
         words.push(doc);
@@ -401,18 +401,18 @@ fn the_widest_row() {
             }
         }
     }
-    assert_eq!(words.len(), 330);
-    let plan = widest_plan_on(|var| var + 1, EITHER).concat();
+    assert_eq!(words.len(), 360);
+    let plan = widest_plan_on(|var| var + 1, 1).concat();
     let subject = Subject::new(&Lists::new::<Vec<u32>>(&lists).volume(), &plan);
     let mut trial = Trial::default();
     assert_eq!(trial.listing(&subject).0, words);
-    for room in (0..=331).filter(|room| room % 11 < 3 || room % 110 > 107) {
+    for room in (0..=361).filter(|room| room % 12 < 3 || room % 120 > 117) {
         let answer = trial.list_rows(&subject, 0, room);
-        match room / 110 {
+        match room / 120 {
             0 => assert_eq!(answer, Err((16, 0)), "{room}"),
             fit => {
                 let (listed, answer) = answer.unwrap();
-                assert_eq!(listed, words[..110 * fit], "{room}");
+                assert_eq!(listed, words[..120 * fit], "{room}");
                 assert_eq!(answer.more, docs.get(fit).copied(), "{room}");
             }
         }
@@ -420,13 +420,13 @@ fn the_widest_row() {
 
     // All on one list: the positions are the same, and each has its own cursor all the same.
     let word: Vec<u32> = docs.iter().map(|doc| doc * 65_536 + 777).collect();
-    let plan = widest_plan_on(|_| 1, BOTH).concat();
+    let plan = widest_plan_on(|_| 1, 7).concat();
     let subject = Subject::new(&Lists::new(&[&lists[0][..], &word]).volume(), &plan);
     let row = |doc: u32, start: u32| {
         let pairs = |vars: u32| [&[1][..], &[777, start].repeat(vars as usize)].concat();
         [vec![doc], WIDEST.iter().flat_map(|&vars| pairs(vars)).collect()].concat()
     };
-    let words = [row(20, 707), row(21, 750), row(22, NO_START)].concat();
+    let words = [row(20, 707), row(21, 760), row(22, NO_START)].concat();
     assert_eq!(trial.listing(&subject).0, words);
 }
 

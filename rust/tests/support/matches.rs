@@ -234,7 +234,8 @@ pub fn random_crowd(rng: &mut Rng) -> Subject {
         rows.extend((0..rng.pick(&[0, 1, 1, 1, 2])).map(|_| small_predicate(rng, vars)));
         rows.push(END);
     }
-    rows.extend(vec![rng.pick(&[BOTH, EITHER, FIRST_NOT_SECOND]); patterns - 1]);
+    let least = at_least(rng.pick(&[1, 2]), 2);
+    rows.extend(vec![rng.pick(&[BOTH, EITHER, FIRST_NOT_SECOND, least]); patterns - 1]);
     Subject::new(&Lists::new(&lists).volume(), &rows.concat())
 }
 

@@ -69,7 +69,9 @@ pub fn in_other_orders(rng: &mut Rng, plan: &[u32]) -> (Vec<Row>, Vec<Vec<usize>
                 orders.push(order);
                 open.clear();
             }
-            kind::BOTH | kind::EITHER | kind::FIRST_NOT_SECOND => moved.append(&mut open),
+            kind::BOTH | kind::EITHER | kind::FIRST_NOT_SECOND | kind::AT_LEAST => {
+                moved.append(&mut open);
+            }
             _ => {}
         }
     }

@@ -11,25 +11,25 @@ pub fn two(predicates: &[Row]) -> Vec<Row> {
     [&[voice(1), voice(2)], predicates, &[END]].concat()
 }
 
-/// The variables of each pattern of the plan of 64 rows with the most of them, 51.
-pub const WIDEST: [u32; 7] = [8, 8, 8, 8, 8, 8, 3];
+/// The variables of each pattern of the plan of 64 rows with the most of them, 56.
+pub const WIDEST: [u32; 7] = [8; 7];
 
-/// That plan, whose rows have 110 words. Each variable has the list given for its number, and the
-/// patterns are joined by this operator.
-pub fn widest_plan_on(list: impl Fn(u32) -> u32, operator: Row) -> Vec<Row> {
+/// That plan, whose rows have 120 words. Each variable has the list given for its number. So many
+/// of the patterns are to be found.
+pub fn widest_plan_on(list: impl Fn(u32) -> u32, least: u32) -> Vec<Row> {
     let mut vars = 0..;
     let mut rows = vec![];
     for count in WIDEST {
         rows.extend(vars.by_ref().take(count as usize).map(|var| voice(list(var))));
         rows.push(END);
     }
-    rows.extend([operator; WIDEST.len() - 1]);
+    rows.push(at_least(least, WIDEST.len() as u32));
     rows
 }
 
-/// The same with all variables on list 1, and EITHER.
+/// The same with all variables on list 1, and AT LEAST 1.
 pub fn widest_plan() -> Vec<Row> {
-    widest_plan_on(|_| 1, EITHER)
+    widest_plan_on(|_| 1, 1)
 }
 
 /// Whether the parts, in order and with operators alone around them, are the whole plan, each of
@@ -37,7 +37,7 @@ pub fn widest_plan() -> Vec<Row> {
 pub fn makes(plan: &[u32], parts: &[&[u32]]) -> bool {
     let kinds = |words: &[u32]| words.chunks(4).map(|row| row[0]).collect::<Vec<u32>>();
     let operators = |words: &[u32]| {
-        let is_operator = |row: &&[u32]| (7..=9).contains(&row[0]);
+        let is_operator = |row: &&[u32]| [7, 8, 9, 11].contains(&row[0]);
         4 * words.chunks(4).take_while(is_operator).count()
     };
     let mut rest = plan;
@@ -78,14 +78,45 @@ fn random_predicate(rng: &mut Rng, vars: usize) -> Row {
     }
 }
 
+/// AT LEAST of two or more of so many answers.
+pub fn random_at_least(rng: &mut Rng, answers: usize) -> Row {
+    let any = 2 + rng.below(answers - 1);
+    let of = rng.pick(&[2, any, answers, answers]);
+    let any = 1 + rng.below(of);
+    at_least(rng.pick(&[1, any, any, of]) as u32, of as u32)
+}
+
+/// What joins the answers of so many patterns to one: the rows behind each of them.
+pub fn random_joins(rng: &mut Rng, patterns: usize) -> Vec<Vec<Row>> {
+    // Out of four rows, so many are AT LEAST. Answers are joined as soon as there are two, or
+    // later.
+    let often = rng.pick(&[0, 0, 1, 4, 4]);
+    let seldom = rng.pick(&[1, 2, 99, 99]);
+    let mut answers = 0;
+    let mut behind = |pattern: usize| {
+        answers += 1;
+        let mut rows = vec![];
+        while answers > 1 && (pattern + 1 == patterns || rng.below(seldom) == 0) {
+            let operator = rng.pick(&[BOTH, EITHER, EITHER, FIRST_NOT_SECOND]);
+            let row = if rng.below(4) < often { random_at_least(rng, answers) } else { operator };
+            // An operator has 0 for the answers that it takes, and takes two.
+            answers -= (row[2] as usize).max(2) - 1;
+            rows.push(row);
+        }
+        rows
+    };
+    (0..patterns).map(&mut behind).collect()
+}
+
 /// A plan in order, over a volume of so many lists, two at least: 1 to 8 patterns in 2 to 64 rows.
 pub fn random_plan(rng: &mut Rng, lists: usize) -> Vec<Row> {
     let any = 1 + rng.below(8);
     let count = rng.pick(&[1, 2, 3, 7, 8, any]);
+    let joins = random_joins(rng, count);
     // The variables and the predicates of each pattern.
     let mut sizes = vec![(1, 0); count];
-    // A VOICE and an END for each pattern, and an operator for each but one, are there already.
-    let room = 64 - (3 * count - 1);
+    // A VOICE and an END for each pattern, and what joins them, are there already.
+    let room = 64 - 2 * count - joins.iter().map(Vec::len).sum::<usize>();
     let more = rng.pick(&[0, 1, 5, room / 2, room - 3, room]);
     // Out of four rows more, so many are VOICE.
     let voices = rng.pick(&[0, 1, 2, 3, 4, 4]);
@@ -100,16 +131,11 @@ pub fn random_plan(rng: &mut Rng, lists: usize) -> Vec<Row> {
     }
 
     let mut rows = Vec::new();
-    let mut answers = 0;
-    for (i, (vars, predicates)) in sizes.into_iter().enumerate() {
+    for ((vars, predicates), joins) in sizes.into_iter().zip(joins) {
         rows.extend((0..vars).map(|_| voice(1 + rng.below(lists - 1) as u32)));
         rows.extend((0..predicates).map(|_| random_predicate(rng, vars)));
         rows.push(END);
-        answers += 1;
-        while answers > 1 && (i + 1 == count || rng.below(2) == 0) {
-            rows.push(rng.pick(&[BOTH, EITHER, FIRST_NOT_SECOND]));
-            answers -= 1;
-        }
+        rows.extend(joins);
     }
     rows
 }
@@ -121,7 +147,11 @@ pub fn random_row(rng: &mut Rng, lists: usize) -> Row {
         3 => random_predicate(rng, 8),
         4 => random_predicate(rng, 2),
         5 | 6 => END,
-        _ => rng.pick(&[BOTH, EITHER, FIRST_NOT_SECOND]),
+        _ => {
+            let most = rng.pick(&[2, 2, 3, 8]);
+            let some = random_at_least(rng, most);
+            rng.pick(&[BOTH, EITHER, FIRST_NOT_SECOND, some])
+        }
     }
 }
 
@@ -138,7 +168,7 @@ pub fn spoil(rng: &mut Rng, rows: &mut Vec<Row>, lists: usize) {
             let edges = [0, 1, 2, 7, 8, 65_535, 65_536, 65_537, t - 1, t, 1 << 31, u32::MAX];
             rows[at][1 + rng.below(3)] = rng.pick(&edges);
         }
-        2 => rows[at][0] = rng.pick(&[0, 1, 2, 3, 4, 5, 6, 7, 8, 9, 10, 11, 257, u32::MAX]),
+        2 => rows[at][0] = rng.pick(&[0, 1, 2, 3, 4, 5, 6, 7, 8, 9, 10, 11, 12, 257, u32::MAX]),
         3 => rows[at] = random_row(rng, lists),
         4 => {
             rows.remove(at);
@@ -173,7 +203,7 @@ pub fn spoiled_plan(rng: &mut Rng, lists: usize, changes: usize) -> Vec<u32> {
 pub fn nonsense_plan(rng: &mut Rng, lists: usize) -> Vec<u32> {
     let any = 1 + rng.below(70);
     let count = rng.pick(&[1, 2, 3, 4, 6, any]);
-    let small_row = |rng: &mut Rng| [12, 3, 3, 3].map(|end| rng.below(end) as u32);
+    let small_row = |rng: &mut Rng| [13, 3, 3, 3].map(|end| rng.below(end) as u32);
     let mixed_row = |rng: &mut Rng| match rng.below(12) {
         0 => small_row(rng),
         1 => random_row(rng, lists),

@@ -51,13 +51,14 @@ pub fn volumes() -> Vec<(Vec<u8>, Refused)> {
 /// A plan over the sample volume for each of 10 to 14, or several.
 pub fn plans() -> Vec<(Vec<Row>, Refused)> {
     let mut last_row = widest_plan();
-    last_row[63] = [11, 0, 0, 0];
+    last_row[63] = [12, 1, 7, 0];
     let ninth_pattern = [voice(1), END].repeat(9);
     vec![
         (vec![[0; 4]], (10, 0)),
         (vec![voice(1), [2, 0, 0, 65_536], END], (10, 1)),
         (vec![voice(1), span(0), END], (10, 1)),
         (vec![voice(1), voice(2), apart(0, 1, 9, 8), END], (10, 2)),
+        (vec![voice(1), END, voice(2), END, at_least(3, 2)], (10, 4)),
         (vec![voice(1), [6, 0, 0, 1]], (10, 1)),
         (last_row, (10, 63)),
         (vec![voice(0), END], (11, 0)),
@@ -69,6 +70,7 @@ pub fn plans() -> Vec<(Vec<Row>, Refused)> {
         (vec![voice(1), apart(0, 1, 0, 9), END], (13, 1)),
         (vec![voice(1), span(1), voice(1), END], (13, 2)),
         (vec![voice(1), END, BOTH], (13, 2)),
+        (vec![voice(1), END, voice(2), END, at_least(1, 3)], (13, 4)),
         (vec![voice(1), END, voice(2), END], (14, 0)),
         (vec![voice(1), END, voice(2)], (14, 0)),
         // Two faults: rows go upward, 10 to 13 in order in each, then 14.

@@ -462,6 +462,28 @@ pub fn count_starts(met: &mut Met, subject: &Subject) {
     }
 }
 
+/// How many of the answers that an AT LEAST takes are yes: each of these a search is to meet.
+pub const COUNTED: [&str; 4] = [
+    "AT LEAST: none is yes",
+    "AT LEAST: some are, too few",
+    "AT LEAST: enough are, not all",
+    "AT LEAST: all are yes",
+];
+
+/// Counts these in all documents of a subject.
+pub fn count_at_least(met: &mut Met, subject: &Subject) {
+    for &([_, least, of, _], yes) in &subject.searcher().counted {
+        let [none, too_few, enough, all] = COUNTED;
+        let what = match yes as u32 {
+            0 => none,
+            yes if yes == of => all,
+            yes if yes < least => too_few,
+            _ => enough,
+        };
+        met.count(what, 1);
+    }
+}
+
 /// An archive of few documents, with up to `most` positions of a list in each.
 pub fn random_archive(rng: &mut Rng, most: usize) -> Archive {
     let (docs, window) = (random_docs(rng), random_window(rng));
@@ -580,8 +602,8 @@ pub fn random_query(rng: &mut Rng) -> (Vec<Row>, usize) {
     let any = 1 + rng.below(8);
     let count = rng.pick(&[1, 1, 1, 2, 2, 3, 3, 4, any]);
     let most_vars = rng.pick(&[1, 2, 2, 3, 3, 4, 8]);
-    let (mut rows, mut largest, mut answers) = (vec![], 0, 0);
-    for i in 0..count {
+    let (mut rows, mut largest) = (vec![], 0);
+    for joins in random_joins(rng, count) {
         // All rows together, operators too, are 63 at most.
         let vars = (1 + rng.below(most_vars)).min(48 / count - 1).min(8);
         let predicates = rng.pick(&[0, 1, 1, 1, 2, 3]).min(56 / count - 1 - vars);
@@ -589,11 +611,7 @@ pub fn random_query(rng: &mut Rng) -> (Vec<Row>, usize) {
         rows.extend((0..vars).map(|_| voice(0)));
         rows.extend((0..predicates).map(|_| small_predicate(rng, vars)));
         rows.push(END);
-        answers += 1;
-        while answers > 1 && (i + 1 == count || rng.below(2) == 0) {
-            rows.push(rng.pick(&[BOTH, EITHER, EITHER, FIRST_NOT_SECOND]));
-            answers -= 1;
-        }
+        rows.extend(joins);
     }
     (rows, largest)
 }
@@ -677,7 +695,7 @@ pub fn random_run(rng: &mut Rng) -> Subject {
         }
         1 => {
             let at = rng.below(plan.len());
-            plan[at] = rng.pick(&[0, 1, 2, 7, 8, 9, 10, 65_536]);
+            plan[at] = rng.pick(&[0, 1, 2, 7, 8, 9, 10, 11, 65_536]);
         }
         _ => return subject,
     }
