@@ -11,14 +11,14 @@ ghost use Rattle.block.specs.Inner.Sums.{plain_of, weighted_of, AtMost};
 use super::rows::{Row, RowSums, columns, four_at, half_rows, tilted};
 
 // The two sums of a block.
-#[derive(Drop)]
+#[derive(Clone, Copy)]
 pub struct Sums {
     pub a: u32,
     pub b: u32,
 }
 
 // The sums of a half: its bytes, and each byte i of the block 508 - i times.
-#[derive(Drop)]
+#[derive(Clone, Copy)]
 pub struct Half {
     pub plain: u32,
     pub weighted: u32,

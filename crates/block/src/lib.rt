@@ -3,6 +3,8 @@
 // `read16`, `read32`, `put16`, `put32` and `block_sums` ask that the bytes stand inside the slice.
 // `first_half`, `second_half` and `sums_of` ask nothing: they are for whoever has a block's halves
 // apart, in whatever order they come.
+#![tactic(auto)]
+
 mod bytes;
 mod checksum;
 mod rows;

@@ -9,7 +9,7 @@ ghost use Rattle.std.specs.Prelude.{◌≡◌, ◌+◌, ◌*◌, ◌≤◌, leng
 ghost use Rattle.block.specs.Inner.Sums.{row_at, four_at, zeros, plus, tilted, columns, AtMost, Room, Rows, Eights};
 
 // A row of eight columns.
-#[derive(Drop)]
+#[derive(Clone, Copy)]
 pub struct Row {
     pub a: u16,
     pub b: u16,
@@ -22,14 +22,14 @@ pub struct Row {
 }
 
 // The sum of some rows, and `near` behind them.
-#[derive(Drop)]
+#[derive(Clone, Copy)]
 pub struct Stretch {
     pub more: Row,
     pub near: Row,
 }
 
 // The sums of the rows so far.
-#[derive(Drop)]
+#[derive(Clone, Copy)]
 pub struct RowSums {
     pub all: Row,
     pub near: Row,

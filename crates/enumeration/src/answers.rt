@@ -2,7 +2,7 @@
 use plan::{MOST_PATTERN_VARS, Refusal};
 
 // What writing the matches of a pattern answers.
-#[derive(Drop)]
+#[derive(Clone, Copy)]
 pub enum Enumerated {
     // DONE: the matches written.
     Done(u64),
@@ -18,7 +18,7 @@ pub enum Enumerated {
 }
 
 // The answer, and beside it MORE's match, with zeros behind it; zeros where there is none.
-#[derive(Drop)]
+#[derive(Clone, Copy)]
 pub struct Matched {
     pub answer: Enumerated,
     pub next: [u32; MOST_PATTERN_VARS],

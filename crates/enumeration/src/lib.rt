@@ -10,6 +10,8 @@
 // the rarest variable there first: an attempt ends at the first one that has no such position.
 // Where there is no match, `next` moves the bounds on, as an odometer carries. `enumerate` writes
 // match by match.
+#![tactic(auto)]
+
 mod answers;
 mod attempts;
 mod enumerate;

@@ -1,7 +1,7 @@
 // What the conditions of a typed line are made of, and what joins its answers.
 
 // What a condition begins with: one letter for each kind of condition.
-#[derive(Drop)]
+#[derive(Clone, Copy)]
 pub enum Word {
     // `n`: NEAR
     Near,
@@ -16,14 +16,14 @@ pub enum Word {
 }
 
 // A number as far as it has been read: its first digit is still to come, or its value so far.
-#[derive(Drop)]
+#[derive(Clone, Copy)]
 pub enum Number {
     Fresh,
     Digits(u32),
 }
 
 // What joins two answers: one byte for each.
-#[derive(Drop)]
+#[derive(Clone, Copy)]
 pub enum Connective {
     // `&`: BOTH
     And,

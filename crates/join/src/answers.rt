@@ -1,7 +1,7 @@
 // What joining answers. `specs/Answers.antt` gives document 02's number and values for each case.
 use volume::Refusal;
 
-#[derive(Drop)]
+#[derive(Clone, Copy)]
 pub enum Joined {
     // The number of blocks of the joined volume, which are at the front of the output.
     Blocks(u32),

@@ -10,7 +10,7 @@ use volume::{Posting, count_at, lead, posting_at};
 
 // The documents of some postings: the lowest one, 65,536 where there is no posting; and the number
 // behind the last one, 0 where there is no posting.
-#[derive(Drop)]
+#[derive(Clone, Copy)]
 pub struct DocRange {
     pub low: u32,
     pub past: u32,

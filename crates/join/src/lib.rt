@@ -5,6 +5,8 @@
 // and the last posting of each list. The joined volume is then made block by block: `reading` brings
 // the next words of its stream from the two volumes into a buffer of one block, and the writer of
 // `volume` stores them (`volume::put_made`).
+#![tactic(auto)]
+
 mod answers;
 mod docs;
 mod joining;

@@ -12,7 +12,7 @@ use volume::{BLOCK_WORDS, count_at, entry, lead, word_behind};
 // How far both volumes are read: how many lists have been entered, and of the last of these the
 // stream index of the next posting in the first volume, where the list stops there, the index of the
 // next posting in the second volume, and where the list ends there.
-#[derive(Drop)]
+#[derive(Clone, Copy)]
 pub struct Merge {
     pub lists: usize,
     pub first: usize,

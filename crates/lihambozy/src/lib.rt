@@ -4,6 +4,8 @@
 // but for the 64-bit count of `lhz_list_matches`: refusal 0 and then the values, or the number of a
 // refusal and its place and zeros. No call has a `requires`; each promise is that of the call below
 // it, told as a struct.
+#![tactic(auto)]
+
 ghost use Rattle.std.specs.Prelude.{◌≡◌, cond, length};
 ghost use Rattle.volume.specs.Check.{verdict};
 ghost use Rattle.volume.specs.Read.{read_answer, read_out};
@@ -29,7 +31,7 @@ use volume::{Checked, ListRead, Posting, Written};
 
 // What `lhz_check_volume` answers: the number of lists and of postings.
 #[repr(C)]
-#[derive(Drop)]
+#[derive(Clone, Copy)]
 pub struct CheckVolumeAnswer {
     pub refusal: u32,
     pub at: u32,
@@ -39,7 +41,7 @@ pub struct CheckVolumeAnswer {
 
 // What `lhz_read_list` answers: the number of postings at the front of the buffer.
 #[repr(C)]
-#[derive(Drop)]
+#[derive(Clone, Copy)]
 pub struct ReadListAnswer {
     pub refusal: u32,
     pub at: u32,
@@ -48,7 +50,7 @@ pub struct ReadListAnswer {
 
 // What `lhz_write_volume` answers: the number of blocks at the front of the output.
 #[repr(C)]
-#[derive(Drop)]
+#[derive(Clone, Copy)]
 pub struct WriteVolumeAnswer {
     pub refusal: u32,
     pub at: u32,
@@ -58,7 +60,7 @@ pub struct WriteVolumeAnswer {
 // What `lhz_join_volumes` answers: the number of blocks at the front of the output. `volume` is 1 or 2
 // where the refusal is that of the first or of the second volume, and else 0.
 #[repr(C)]
-#[derive(Drop)]
+#[derive(Clone, Copy)]
 pub struct JoinVolumesAnswer {
     pub refusal: u32,
     pub at: u32,
@@ -69,7 +71,7 @@ pub struct JoinVolumesAnswer {
 // What `lhz_check_plan` answers: the number of patterns (01: figures) and of their variables
 // (01: voices).
 #[repr(C)]
-#[derive(Drop)]
+#[derive(Clone, Copy)]
 pub struct CheckPlanAnswer {
     pub refusal: u32,
     pub at: u32,
@@ -80,7 +82,7 @@ pub struct CheckPlanAnswer {
 // What `lhz_pattern_rows` answers: where the rows of a pattern lie, in words of the plan; 0 and 0 on
 // a refusal.
 #[repr(C)]
-#[derive(Drop)]
+#[derive(Clone, Copy)]
 pub struct PatternRowsAnswer {
     pub start: u32,
     pub len: u32,
@@ -88,7 +90,7 @@ pub struct PatternRowsAnswer {
 
 // What `lhz_test_positions` answers: 1 where the positions match (01: pass), and 0 where they do not.
 #[repr(C)]
-#[derive(Drop)]
+#[derive(Clone, Copy)]
 pub struct TestPositionsAnswer {
     pub refusal: u32,
     pub at: u32,
@@ -98,7 +100,7 @@ pub struct TestPositionsAnswer {
 // What `lhz_list` answers: the number of rows at the front of the buffer, the tally, and the document
 // to go on from (01: MORE); 65,536 where none is left (01: DONE).
 #[repr(C)]
-#[derive(Drop)]
+#[derive(Clone, Copy)]
 pub struct ListAnswer {
     pub refusal: u32,
     pub at: u32,
@@ -109,7 +111,7 @@ pub struct ListAnswer {
 
 // What `lhz_line_to_plan` answers: the number of words at the front of the buffer.
 #[repr(C)]
-#[derive(Drop)]
+#[derive(Clone, Copy)]
 pub struct LineToPlanAnswer {
     pub refusal: u32,
     pub at: u32,
@@ -118,7 +120,7 @@ pub struct LineToPlanAnswer {
 
 // What `lhz_plan_to_line` answers: the number of bytes at the front of the buffer.
 #[repr(C)]
-#[derive(Drop)]
+#[derive(Clone, Copy)]
 pub struct PlanToLineAnswer {
     pub refusal: u32,
     pub at: u32,
@@ -129,7 +131,7 @@ pub struct PlanToLineAnswer {
 // buffer; 1 where one is left (01: MORE), and then the first one left, with zeros behind it; 0 where
 // none is left (01: DONE), and zeros.
 #[repr(C)]
-#[derive(Drop)]
+#[derive(Clone, Copy)]
 pub struct ListMatchesAnswer {
     pub refusal: u32,
     pub at: u32,

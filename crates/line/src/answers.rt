@@ -1,6 +1,6 @@
 // What reading a line answers. `specs/Answers.antt` gives the number and the values of each case.
 
-#[derive(Drop)]
+#[derive(Clone, Copy)]
 pub enum Read {
     // So many words are written: the rows of the line.
     Words(u32),

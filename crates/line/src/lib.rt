@@ -2,6 +2,8 @@
 //
 // It has no `requires`. What it answers, and each lent word afterwards, is an equation with a
 // definition of `specs/`.
+#![tactic(auto)]
+
 mod answers;
 mod figure;
 mod reader;

@@ -11,7 +11,7 @@ use super::steps::Words;
 
 // How far the reading comes: behind what was read, with the number of rows so far; or a byte that
 // breaks the grammar, or that opens a bracket inside eight.
-#[derive(Drop)]
+#[derive(Clone, Copy)]
 pub enum Reached {
     At(usize, usize),
     Broken(usize),
@@ -19,7 +19,7 @@ pub enum Reached {
 }
 
 // The operator that waits for its second side.
-#[derive(Drop)]
+#[derive(Clone, Copy)]
 pub enum Pending {
     Nothing,
     Both,

@@ -8,7 +8,7 @@ use grammar::{Number, Word};
 use plan::LEAST_UNIT;
 
 // Where in a pattern the reading is.
-#[derive(Drop)]
+#[derive(Clone, Copy)]
 pub enum State {
     // In its list numbers.
     Listing(Number),
@@ -22,7 +22,7 @@ pub enum State {
 }
 
 // The words of a row.
-#[derive(Drop)]
+#[derive(Clone, Copy)]
 pub struct Words {
     pub kind: u32,
     pub a: u32,
@@ -31,7 +31,7 @@ pub struct Words {
 }
 
 // What a byte makes of a state.
-#[derive(Drop)]
+#[derive(Clone, Copy)]
 pub enum Next {
     Goes(State),
     // A row is whole.
@@ -43,7 +43,7 @@ pub enum Next {
 }
 
 // A number with one more digit, or none.
-#[derive(Drop)]
+#[derive(Clone, Copy)]
 pub enum Grown {
     Value(u32),
     Not,

@@ -7,7 +7,7 @@ ghost use Rattle.lister.specs.Inner.Stored.{Stored};
 ghost use Rattle.lister.specs.Inner.Files.{Within};
 
 // What a read gives: bytes at the front of the buffer, the end of the file, or a failure.
-#[derive(Drop)]
+#[derive(Clone, Copy)]
 pub enum Got {
     Bytes(usize),
     End,

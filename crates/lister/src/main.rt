@@ -3,6 +3,8 @@
 // `specs/Printed.antt` says what is printed. A turn gives a part of it in a buffer, by a listing
 // call into a page. The parts that are written and those still to come are together the whole
 // (`specs/Demands.antt`). What is here opens, reads, calls and writes.
+#![tactic(auto)]
+
 ghost use Rattle.lister.specs.Turns.{Due};
 
 mod files;

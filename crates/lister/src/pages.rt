@@ -24,7 +24,7 @@ pub const TEXT: usize = 17 * PAGE + 30;
 
 // What a turn gives: how many bytes are to be printed, and nothing behind them, or the document and
 // the sum of the tallies that the next turn starts with.
-#[derive(Drop)]
+#[derive(Clone, Copy)]
 pub enum Paged {
     Last(usize),
     More(usize, u32, u64),

@@ -2,7 +2,7 @@
 use plan::Refusal;
 
 // What testing positions answers.
-#[derive(Drop)]
+#[derive(Clone, Copy)]
 pub enum Tested {
     // Whether they match.
     Answer(bool),

@@ -7,7 +7,7 @@ ghost use Rattle.matcher.specs.Inner.Cursors.{seek_from, list_cursor, Stretch, s
 use volume::Posting;
 
 // A place in a posting list: a stream index, and the index behind the list.
-#[derive(Drop)]
+#[derive(Clone, Copy)]
 pub struct Cursor {
     pub at: usize,
     pub end: usize,
@@ -15,14 +15,14 @@ pub struct Cursor {
 
 // The stream index that a cursor has come to, and the posting there; 0 where that is behind the
 // list.
-#[derive(Drop)]
+#[derive(Clone, Copy)]
 pub struct Reached {
     pub at: usize,
     pub bits: u32,
 }
 
 // A document, and a cursor on list 0 that has not passed it.
-#[derive(Drop)]
+#[derive(Clone, Copy)]
 pub struct Document {
     pub doc: u32,
     pub starts: Cursor,

@@ -5,6 +5,8 @@
 // serve the crates above, on a volume and a plan that they have checked: cursors and their moves,
 // the order of a pattern's variables (`rarest_first`), its least match in a document (`match_from`),
 // the start of a position's paragraph (`para_near`), and `jump`, `put_row` and `in_document`.
+#![tactic(auto)]
+
 mod answers;
 mod cursor;
 mod least;

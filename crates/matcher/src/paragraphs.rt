@@ -13,14 +13,14 @@ use volume::{BLOCK_WORDS, LAST_WORD, Posting};
 
 // The paragraph of a position: its start, 65,536 where there is none, and the stream index of the
 // first start behind the position.
-#[derive(Drop)]
+#[derive(Clone, Copy)]
 pub struct Para {
     pub start: u32,
     pub at: usize,
 }
 
 // The start of a position's paragraph, and the block of the first start behind the position.
-#[derive(Drop)]
+#[derive(Clone, Copy)]
 pub struct ParaInBlock {
     pub start: u32,
     pub block: usize,
@@ -28,7 +28,7 @@ pub struct ParaInBlock {
 
 // Blocks of list 0: each one from `first` on in front of `last`, and the one behind it, has starts
 // alone.
-#[derive(Drop)]
+#[derive(Clone, Copy)]
 pub struct Blocks {
     pub first: usize,
     pub last: usize,

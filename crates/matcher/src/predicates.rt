@@ -18,7 +18,7 @@ use volume::Posting;
 
 // What a predicate says of some positions: that it holds, or a variable that stands before a position
 // which it needs at least.
-#[derive(Drop)]
+#[derive(Clone, Copy)]
 pub enum Shortfall {
     Holds,
     Short(usize, u32),

@@ -2,7 +2,7 @@
 use volume::Refusal as VolumeRefusal;
 
 // Why a row is refused.
-#[derive(Drop)]
+#[derive(Clone, Copy)]
 pub enum Fault {
     // Its kind is unknown, a word that it does not use is not 0, c is out of its range, or its
     // numbers do not fit each other.
@@ -16,7 +16,7 @@ pub enum Fault {
 }
 
 // Why a volume and a plan are refused.
-#[derive(Drop)]
+#[derive(Clone, Copy)]
 pub enum Refusal {
     // The volume is refused.
     Volume(VolumeRefusal),
@@ -29,7 +29,7 @@ pub enum Refusal {
 }
 
 // What checking a plan answers: the number of its patterns and of its variables, or why not.
-#[derive(Drop)]
+#[derive(Clone, Copy)]
 pub enum Checked {
     Accepted(u32, u32),
     Refused(Refusal),

@@ -8,7 +8,7 @@ use super::limits::{LAST_KIND, LEAST_TAKEN, MOST_TAKEN};
 use super::row::{Kind, Operator, Predicate, row_of};
 
 // Whether a, b and c are used, and the range of c; 0 to 0 where c is not used.
-#[derive(Drop)]
+#[derive(Clone, Copy)]
 pub struct Uses {
     pub a: bool,
     pub b: bool,

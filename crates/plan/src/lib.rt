@@ -6,6 +6,8 @@
 // with a definition of `specs/`. `row_at`, `list_at`, `predicate_at`, `lay_out`, `outline_at` and
 // `answer_of` serve the crates above, on a plan that they have checked, and so does `is_voice`, on
 // any row.
+#![tactic(auto)]
+
 mod answers;
 mod checking;
 mod codes;

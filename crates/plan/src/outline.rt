@@ -8,7 +8,7 @@ use super::showing::span_at;
 
 // A pattern's number, its first variable among those of the plan, how many it has, the row of its
 // first condition, and that of its END.
-#[derive(Drop)]
+#[derive(Clone, Copy)]
 pub struct Outline {
     pub pattern: usize,
     pub first: usize,

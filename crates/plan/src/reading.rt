@@ -10,7 +10,7 @@ ghost use Rattle.plan.specs.Inner.Reading.{is_of};
 use super::row::{Kind, Predicate, row_at};
 
 // A sort of rows that is looked for.
-#[derive(Drop)]
+#[derive(Clone, Copy)]
 pub enum Sort {
     Voice,
     // Any row but a VOICE.

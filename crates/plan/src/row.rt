@@ -6,7 +6,7 @@ ghost use Rattle.plan.specs.Rows.{row_count, row_of, row_at, form_wrong_at};
 use super::limits::LEAST_UNIT;
 
 // A position predicate (01: condition) on the variables of a pattern, which are numbered from 0.
-#[derive(Drop)]
+#[derive(Clone, Copy)]
 pub enum Predicate {
     // NEAR: at most `limit` positions lie between a and b.
     Distance {
@@ -39,7 +39,7 @@ pub enum Predicate {
 }
 
 // What makes one answer of several.
-#[derive(Drop)]
+#[derive(Clone, Copy)]
 pub enum Operator {
     Both,
     Either,
@@ -48,7 +48,7 @@ pub enum Operator {
     AtLeast { least: u32, of: u32 },
 }
 
-#[derive(Drop)]
+#[derive(Clone, Copy)]
 pub enum Kind {
     // A variable (01: voice) over this list.
     Voice(u32),
@@ -58,7 +58,7 @@ pub enum Kind {
     Operator(Operator),
 }
 
-#[derive(Drop)]
+#[derive(Clone, Copy)]
 pub struct Row {
     pub kind: Kind,
 }

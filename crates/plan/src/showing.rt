@@ -8,7 +8,7 @@ use super::checking::check;
 use super::reading::{Sort, first_of};
 
 // Where the rows of a pattern lie in the plan, in words.
-#[derive(Drop)]
+#[derive(Clone, Copy)]
 pub struct Span {
     pub start: usize,
     pub len: usize,

@@ -16,7 +16,7 @@ const MOST_VARS: u32 = limits::MOST_PATTERN_VARS as u32;
 const MOST_PATTERNS: u32 = limits::MOST_PATTERNS as u32;
 
 // The state in front of a row.
-#[derive(Drop)]
+#[derive(Clone, Copy)]
 pub struct State {
     // The variables of the open pattern; 0 where none is open.
     pub vars: u32,
@@ -42,7 +42,7 @@ impl State {
 }
 
 // What a row does: the state behind it, or why it is refused.
-#[derive(Drop)]
+#[derive(Clone, Copy)]
 pub enum Step {
     Stands(State),
     Faulty(Fault),

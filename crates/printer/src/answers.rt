@@ -2,7 +2,7 @@
 // each case.
 use plan::Refusal;
 
-#[derive(Drop)]
+#[derive(Clone, Copy)]
 pub enum Written {
     // So many bytes are written: the line.
     Bytes(u32),

@@ -3,6 +3,8 @@
 //
 // It has no `requires`. What it answers, and each lent byte afterwards, is an equation with a
 // definition of `specs/`.
+#![tactic(auto)]
+
 mod answers;
 mod bytes;
 mod patterns;

@@ -10,7 +10,7 @@ use super::bytes::{put_byte, put_number};
 use plan::{Kind, Predicate, is_voice, list_at, row_at};
 
 // Where rows begin, and where their text does.
-#[derive(Drop)]
+#[derive(Clone, Copy)]
 pub struct Back {
     pub row: usize,
     pub at: usize,

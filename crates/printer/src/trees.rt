@@ -15,7 +15,7 @@ use grammar::Connective;
 use plan::{Kind, Operator, row_at};
 
 // What a tree is written as: a line, a part of one, or an item of a part.
-#[derive(Drop)]
+#[derive(Clone, Copy)]
 pub enum Level {
     Line,
     Part,

@@ -2,7 +2,7 @@
 use plan::Refusal;
 
 // What listing answers.
-#[derive(Drop)]
+#[derive(Clone, Copy)]
 pub enum Listed {
     // DONE: the rows written, and the tally.
     Done(u32, u32),

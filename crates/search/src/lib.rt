@@ -9,6 +9,8 @@
 // pattern to the next document in which it can be found (`align`) and settles it there
 // (`matcher::match_from`). `listing` asks the plan's answer for the patterns found
 // (`plan::answer_of`), and `rows` writes the row of a true document into the buffer.
+#![tactic(auto)]
+
 mod align;
 mod answers;
 mod listing;

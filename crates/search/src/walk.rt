@@ -13,7 +13,7 @@ use volume::Posting;
 
 // Where a walk goes on: the document from which on, whether no pattern has a document yet, and a
 // cursor on list 0 that has not passed it.
-#[derive(Drop)]
+#[derive(Clone, Copy)]
 pub struct Walk {
     pub from: u32,
     pub fresh: bool,
@@ -21,7 +21,7 @@ pub struct Walk {
 }
 
 // A document, and a bit for each pattern, 1 where it is found there, pattern 0 the lowest.
-#[derive(Drop)]
+#[derive(Clone, Copy)]
 pub struct Seen {
     pub doc: u32,
     pub found: u32,

@@ -1,7 +1,7 @@
 // What the calls answer. `specs/Answers.antt` gives document 01's number and values for each case.
 
 // Why a volume is refused.
-#[derive(Drop)]
+#[derive(Clone, Copy)]
 pub enum Refusal {
     // The length is 0, no multiple of 512, or over 8,192 blocks.
     Length,
@@ -22,14 +22,14 @@ pub enum Refusal {
 }
 
 // What checking a volume answers: the number of its lists and of its postings, or why not.
-#[derive(Drop)]
+#[derive(Clone, Copy)]
 pub enum Checked {
     Accepted(u32, u32),
     Refused(Refusal),
 }
 
 // What reading a list answers.
-#[derive(Drop)]
+#[derive(Clone, Copy)]
 pub enum ListRead {
     // The number of its postings, which are at the front of the buffer.
     Read(u32),
@@ -42,7 +42,7 @@ pub enum ListRead {
 }
 
 // What writing a volume answers.
-#[derive(Drop)]
+#[derive(Clone, Copy)]
 pub enum Written {
     // The number of its blocks, which are at the front of the output.
     Blocks(u32),

@@ -10,7 +10,7 @@ use super::order::{fall_at, falls_in};
 use block::{block_sums, read16, read32};
 
 // The lowest block that is wrong, or the number of blocks; and the falls in front of it.
-#[derive(Drop)]
+#[derive(Clone, Copy)]
 pub struct Pass {
     pub bad: usize,
     pub falls: usize,

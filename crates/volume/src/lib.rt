@@ -8,6 +8,8 @@
 // the crates above, on a volume that they have checked, and so does `below`; `entry`, `lead` and
 // `extent_of` say where its parts stand. `put_made` stores a block of a volume whose words are made
 // on the way.
+#![tactic(auto)]
+
 mod answers;
 mod blocks;
 mod checking;

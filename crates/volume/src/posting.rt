@@ -3,7 +3,7 @@ ghost use Rattle.std.specs.Prelude.{◌≡◌};
 ghost use Rattle.volume.specs.Posting.{posting_of, doc_of, pos_of};
 
 // A posting: a document (01: scene) and a position in it (01: place), as one number.
-#[derive(Drop)]
+#[derive(Clone, Copy)]
 pub struct Posting {
     pub bits: u32,
 }
