@@ -34,7 +34,7 @@ use Rattle.matcher.specs.Inner.Shortfall.{InDocument, Largest, LeftShort}
 use Rattle.matcher.specs.Inner.Order.{Order}
 use Rattle.matcher.specs.declared.cursor.Document.{Document}
 use Rattle.matcher.specs.Inner.Cursors.{AtDocument}
-use Rattle.fulltext.proofs.Laws.Goals.{distance-needs-first, distance-needs-second, ordered-needs, samepara-holds, samepara-turned, samepara-needs, samepara-needs-start, window-holds, window-needs, proximity-needs-first, proximity-needs-second, proximity-never}
+use Rattle.fulltext.proofs.Laws.Needs.{distance-needs-first, distance-needs-second, ordered-needs, samepara-holds, samepara-turned, samepara-needs, samepara-needs-start, window-holds, window-needs, proximity-needs-first, proximity-needs-second, proximity-never}
 use Rattle.matcher.proofs.Laws.Paragraphs.{Needed, needed-told}
 
 module _ (ss ps : List ℕ) (small : InDocument ps) where

@@ -4,7 +4,7 @@ use native.Mathlib.Omega.{arith}
 use mathlib.Core.Path.{◌≡◌, sym, subst}
 use borrow.Author.Rules.{rules}
 use Rattle.fulltext.specs.Calculus.{at}
-use Rattle.fulltext.proofs.Laws.Goals.{distance-holds}
+use Rattle.fulltext.proofs.Laws.Needs.{distance-holds}
 use Rattle.matcher.specs.Inner.Shortfall.{LeftShort}
 use Rattle.plan.specs.declared.row.Predicate.TheVariants.{Distance}
 use Rattle.matcher.proofs.Laws.Shortfall.{distance-first, distance-second}

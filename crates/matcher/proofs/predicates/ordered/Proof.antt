@@ -1,6 +1,6 @@
 -- `predicates::ordered` meets its contract. Assumes nothing.
 use native.Mathlib.Omega.{arith}
-use Rattle.fulltext.proofs.Laws.Goals.{ordered-holds}
+use Rattle.fulltext.proofs.Laws.Needs.{ordered-holds}
 use Rattle.matcher.proofs.Laws.Shortfall.{ordered-second}
 use Rattle.matcher.proofs.predicates.ordered.Statement.{statement}
 use Rattle.matcher.proofs.predicates.ordered.Tie as tie

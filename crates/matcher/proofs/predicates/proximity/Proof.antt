@@ -2,7 +2,7 @@
 use native.Mathlib.Omega.{arith}
 use mathlib.Core.Logic.{⊎_elim}
 use borrow.Author.Tests.{ltb-true, ltb-false}
-use Rattle.fulltext.proofs.Laws.Goals.{proximity-holds}
+use Rattle.fulltext.proofs.Laws.Needs.{proximity-holds}
 use Rattle.matcher.proofs.Laws.Shortfall.{proximity-alone, proximity-behind, proximity-second, proximity-first}
 use Rattle.matcher.proofs.predicates.proximity.Statement.{statement}
 use Rattle.matcher.proofs.predicates.proximity.Tie as tie
