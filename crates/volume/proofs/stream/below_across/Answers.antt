@@ -1,0 +1,36 @@
+use native.Mathlib.Omega.{arith}
+use Prim.Native.Nat.{ℕ, ◌+◌, ◌-◌}
+use mathlib.Core.Path.{◌≡◌, refl, ap, ◌∙◌}
+use mathlib.Core.List.{List}
+use Rattle.seq.specs.Numbers.{sum_to}
+use Rattle.seq.proofs.Laws.Numbers.{sum_step}
+use Rattle.volume.specs.Layout.{word}
+use Rattle.volume.specs.Inner.Below.{below_of, below_count}
+use Rattle.volume.proofs.stream.below_across.Goals as goal
+
+pub loop-j-preserved : goal.loop-j-preserved
+loop-j-preserved c =
+    let l = c.loop-j in
+    let a = c.args in
+    let v = a.volume.now in
+    let one = c.below-n.ensures.value ∙ ap (λ (x : ℕ). below_of x a.target) c.word_at.ensures in
+    let step = sum_step (λ (j : ℕ). below_of (word v (a.i + j)) a.target) (l.j - 1) in
+    let e : l.j - 1 + 1 ≡ l.j = omega arith in
+    let whole = rw e at step in
+    (omega arith, omega (arith, one, whole, l.invariant.1))
+
+none_below : (v : List ℕ) (target i : ℕ) → below_count v target i 0 ≡ 0
+unfolding sum_to
+none_below v target i = refl
+
+pub returns : goal.returns
+returns c =
+    let l = c.loop-j in
+    let a = c.args in
+    let none = none_below a.volume.now a.target a.i in
+    let e : l.j ≡ 0 = omega arith in
+    let all = rw e at l.invariant.1 in
+    record {
+      value = omega (arith, all, none);
+      upper_bound = omega arith;
+    }

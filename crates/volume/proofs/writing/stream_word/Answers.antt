@@ -1,0 +1,28 @@
+-- `volume::writing::stream_word` meets its contract: each way through it is a part of the stream.
+-- Assumes nothing.
+use Prim.Native.Nat.{◌-◌}
+use native.Mathlib.Omega.{arith}
+use mathlib.Core.Path.{sym}
+use Rattle.volume.proofs.Laws.Write.{stream-count, stream_posting, stream-zero}
+use Rattle.volume.proofs.writing.stream_word.Goals as goal
+
+pub returns-then-i-eq0 : goal.returns-then-i-eq0
+returns-then-i-eq0 c = rw c.if-i-eq0.true
+
+pub returns-then-i-eq1 : goal.returns-then-i-eq1
+returns-then-i-eq1 c = rw c.if-i-eq1.true
+
+pub returns-then-i-front : goal.returns-then-i-front
+returns-then-i-front c =
+    let a = c.args in
+    rw c.entry.ensures (sym (stream-count a.counts.now a.postings.now a.i (omega arith) (omega arith)))
+
+pub returns-then-j-postings : goal.returns-then-j-postings
+returns-then-j-postings c =
+    let a = c.args in
+    sym (stream_posting a.counts.now a.postings.now a.i _ (omega arith))
+
+pub returns : goal.returns
+returns c =
+    let a = c.args in
+    sym (stream-zero a.counts.now a.postings.now a.i (a.i - c.lead-front.result) (omega arith) (omega arith))
