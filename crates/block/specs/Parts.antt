@@ -1,9 +1,9 @@
 -- The checksum of a block from sums of its parts (02, N1), added up in any order. Assumes nothing.
---     weighed                  each byte i of a block 508 − i times
+--     weighed                    each byte i of a block 508 − i times
 --     part_of, parts_of          the sums of a part that begins at byte o; of parts that stand one behind another
 --     first_half, second_half    the sums of a block's halves, 256 bytes each
---     sums_of                   A and B from the sums of all parts
---     checksum_of               A and B as document 01 has them
+--     sums_of                    A and B from the sums of all parts
+--     checksum_of                A and B as document 01 has them
 use Rattle.std.specs.Prelude.{ℕ, suc, ◌+◌, ◌*◌, ◌-◌, ◌%◌, List, [], ◌∷◌, length, take}
 use Rattle.seq.specs.Lists.{total}
 use Rattle.block.specs.declared.checksum.Half.{Half}

@@ -1,7 +1,7 @@
 -- A plan as a tree, and the line of a tree with no bracket that could be dropped. Assumes nothing.
 --     Query, query_rows, query_holds     a tree, its rows and its answer
 --     query_of, line_query               the tree of rows, and of a line
---     typed                            a tree as a line
+--     typed                              a tree as a line
 --     plan_line, plan_text               the line of a plan, and its text
 use Rattle.std.specs.Prelude.{ℕ, zero, suc, Bool, not, ◌&&◌, ◌||◌, List, [], ◌∷◌, ◌++◌, map, get_or, take, drop, leb}
 use Rattle.plan.specs.declared.row.Predicate.{Predicate}

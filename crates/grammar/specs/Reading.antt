@@ -1,6 +1,6 @@
 -- Reading a text byte by byte: `step` reads one more byte, or finds that no line of the grammar has it there. Assumes nothing.
 --     Number, Partial, Config     what has been read so far: of a number, of a figure, of the text
---     step_in, step                one more byte of a figure, of the text
+--     step_in, step               one more byte of a figure, of the text
 --     outcome, reading            how the reading of a text ends
 --     shown                       the text of what has been read
 use Rattle.std.specs.Prelude.{ℕ, suc, ◌+◌, ◌-◌, ◌*◌, max, Bool, true, cond, ◌&&◌, List, [], ◌∷◌, ◌++◌, eqb, leb, ltb, length}

@@ -1,5 +1,5 @@
 -- Numbers as a line has them: in base ten, with one byte in front of each. Assumes nothing.
---     lead          the text of numbers
+--     lead           the text of numbers
 --     gap_after      the byte in front of the next one
 use Rattle.std.specs.Prelude.{ℕ, List, [], ◌∷◌, ◌++◌}
 use Rattle.seq.specs.Decimal.{decimal}

@@ -1,6 +1,6 @@
 -- A plan over two volumes, and over one in which they are joined (02: double bill). Assumes nothing.
 --     raised_row, rows_of_both     a row with its document raised; the rows of two works, the second's raised
---     Evening                   what holds of the plan and of every search by it
+--     Evening                      what holds of the plan and of every search by it
 use Rattle.std.specs.Prelude.{ℕ, ◌+◌, ◌-◌, ◌≡◌, List, [], ◌∷◌, ◌++◌, map}
 use Rattle.seq.specs.Lists.{joined}
 use Rattle.seq.specs.Calls.{Call}

@@ -1,7 +1,7 @@
 -- Reading a line as the rows of a plan. Assumes nothing.
 --     size_of_line     how many words there are
---     read_answer     the answer
---     read_out        the lent words afterwards
+--     read_answer      the answer
+--     read_out         the lent words afterwards
 use Rattle.std.specs.Prelude.{ℕ, ◌*◌, cond, List, length, ltb}
 use Rattle.seq.specs.Refusals.{Said, refused, answered, laid}
 use Rattle.grammar.specs.Meaning.{line_rows}

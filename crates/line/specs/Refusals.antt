@@ -1,7 +1,7 @@
 -- The refusals of reading a line as relations, which know no reader: one line for each number. Assumes nothing.
 --     Breaks, Deep     a text breaks the grammar at a byte; a bracket there is too deep
 --     ReadApplies      a refusal applies
---     read_stages       the order in which they are told
+--     read_stages      the order in which they are told
 use Rattle.std.specs.Prelude.{ℕ, ◌+◌, ◌*◌, ◌<◌, ◌≤◌, ◌≡◌, ◌⊎◌, List, [], ◌∷◌, length, get_or, take}
 use Rattle.grammar.specs.Grammar.{Line, Fits, written, LineText, Begins}
 use Rattle.grammar.specs.Brackets.{opens, closes}

@@ -3,9 +3,9 @@
 -- The volume is the bytes that the writer's definition gives for the sample's lists, a plan is the words that a caller lends, and every
 -- word of a buffer is 99 before the call, which no row holds. Above its rows stands the paper's line with its star; the line without one
 -- has the buffer of a row and the one that is a word short of it. What else the paper does not star is tested (`rust/tests`).
---     Question, Result, told      what is asked, and what the definitions say
+--     Question, Result, told        what is asked, and what the definitions say
 --     voice .. first_not_second     the words of a plan's rows
---     table                       the cases
+--     table                         the cases
 -- Assumes nothing.
 use Rattle.std.specs.Prelude.{ℕ, List, [], ◌∷◌, ◌++◌, map, length, replicate}
 use Rattle.seq.specs.Lists.{joined}

@@ -51,12 +51,16 @@ fn read_to_end(file: &mut impl Read, buf: &mut [u8]) -> usize
 }
 
 // The bytes of a file, as many as fit, at the front of buf: how many there are. A file that cannot
-// be opened or read counts as empty. Under a bound `Files` in place of the runtime's own type the
-// program would reach every call of the system on files, and not these three alone: open, read, close.
-pub fn read_file(rt: &HostRuntime, path: &str, buf: &mut [u8]) -> usize
+// be opened or read counts as empty, and so does one whose path is no UTF-8, which std cannot open.
+// Under a bound `Files` in place of the runtime's own type the program would reach every call of the
+// system on files, and not these three alone: open, read, close.
+pub fn read_file(rt: &HostRuntime, path: &[u8], buf: &mut [u8]) -> usize
     ensures { IsPrefixLen result buf.new }
 {
-    match rt.open_file(OpenOptions::new().read(true), path) {
+    let Ok(name) = str::from_utf8(path) else {
+        return 0;
+    };
+    match rt.open_file(OpenOptions::new().read(true), name) {
         Ok(mut file) => read_to_end(&mut file, buf),
         Err(_) => 0,
     }

@@ -53,8 +53,8 @@ fn print(rt: &impl Print, volume: &[u8], file: &[u8]) -> io::Result<()> {
 fn main(rt: HostRuntime) -> io::Result<()> {
     // One byte more than the longest file in order, so that a longer one is seen to be longer.
     let mut volume = [0u8; VOLUME + 1];
-    let n = read_file(&rt, "titles.vol", &mut volume);
+    let n = read_file(&rt, b"titles.vol", &mut volume);
     let mut file = [0u8; PLAN_BYTES + 1];
-    let m = read_file(&rt, "titles.plan", &mut file);
+    let m = read_file(&rt, b"titles.plan", &mut file);
     print(&rt, &volume[..n], &file[..m])
 }

@@ -5,7 +5,7 @@
 --     Totals     sums over a list
 --     Keep       the elements that pass a test
 --     Members    elements, and facts of each, by recursion
---     Numbers    first_from, run and sumTo
+--     Numbers    first_from, run and sum_to
 --     Decimal    numbers in base ten
 --     Runs       runs, sums and searches of lists
 --     Slices     parts of lists, as runs of their values

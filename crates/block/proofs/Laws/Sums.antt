@@ -1,11 +1,11 @@
 -- The laws of `specs/Inner/Sums.antt`. No contract cites this file.
 --     columns-plus, slope-plus, at_most-plus, at_most-up, room_of     two rows added: their sums, bounds and room
---     at_most-zeros                                                  the columns of zeros
---     tot-row, weigh-row                                            eight bytes of a list, as a row, in front of the rest
---     rows-first, rows_again                                        `Rows` with no row, and with one more
---     rows-room-more, rows-room-near                                the two additions of that row have room
---     eights-first, eights_again                                    `Eights` with seven rows, and with eight more
---     eights-near, eights-room-far, eights-room-all                 these eight start small enough, and their additions have room
+--     at_most-zeros                                                   the columns of zeros
+--     tot-row, weigh-row                                              eight bytes of a list, as a row, in front of the rest
+--     rows-first, rows_again                                          `Rows` with no row, and with one more
+--     rows-room-more, rows-room-near                                  the two additions of that row have room
+--     eights-first, eights_again                                      `Eights` with seven rows, and with eight more
+--     eights-near, eights-room-far, eights-room-all                   these eight start small enough, and their additions have room
 -- Assumes nothing.
 use Prim.Native.Nat.{ℕ, suc, ◌+◌, ◌*◌, ◌-◌, ◌<◌, ◌≤◌}
 use native.Mathlib.Nat.{add-suc, suc-mul}

@@ -1,12 +1,12 @@
 -- The sums of bytes by columns of eight: what `src/rows.rt` computes with. No call's promise rests on this file alone.
---     tot, weigh           the bytes of a list added up; each byte as often as there are bytes from it on
+--     tot, weigh             the bytes of a list added up; each byte as often as there are bytes from it on
 --     row_at, four_at        eight bytes as a row of columns; four bytes, behind zeros
---     zeros, plus          a row of zeros; two rows added
---     tilted               each column as often as there are columns from it on
---     columns, slope       the columns added up; those of the tilted row
---     AtMost, Room         each column is at most m; two rows can be added
---     tri                  the numbers below i added up
---     Rows, Eights         the sums after so many rows; after seven rows and so many times eight
+--     zeros, plus            a row of zeros; two rows added
+--     tilted                 each column as often as there are columns from it on
+--     columns, slope         the columns added up; those of the tilted row
+--     AtMost, Room           each column is at most m; two rows can be added
+--     tri                    the numbers below i added up
+--     Rows, Eights           the sums after so many rows; after seven rows and so many times eight
 --     plain_of, weighted_of  the two sums of a row and 31 rows, from their columns
 -- Assumes nothing.
 use Rattle.std.specs.Prelude.{ℕ, ◌+◌, ◌*◌, ◌-◌, ◌≤◌, ◌<◌, ◌≡◌, List, [], ◌∷◌, length, get_or, drop}

@@ -1,6 +1,6 @@
 -- An answer is known from its number and values and the words beside it. No contract cites this file.
 --     heard_matched, heard-matched     the answer with a number and values
---     one-to-one                      no two answers are told alike
+--     one-to-one                       no two answers are told alike
 -- Assumes nothing.
 use Prim.Native.Nat.{ℕ}
 use mathlib.Core.Path.{◌≡◌, refl, sym, ap, ap₂, ◌∙◌}

@@ -1,7 +1,7 @@
 -- The laws of `specs/Answers.antt`: an answer is known from its number, its values and the volume told. No contract cites this file.
 --     heard_own, heard_joined     the answer with these
---     heard-joined              what is heard is what was said
---     one-to-one                no two answers are said alike
+--     heard-joined                what is heard is what was said
+--     one-to-one                  no two answers are said alike
 -- Assumes nothing.
 use Prim.Native.Nat.{ℕ}
 use mathlib.Core.Path.{◌≡◌, refl}

@@ -1,9 +1,9 @@
 -- Joining answers the first refusal that applies. No contract cites this file.
 --     list_counts_decides, docs_decides     what the tests of 24 and 25 decide
---     join-sound                           the answer is the first refusal that applies
---     join-number                          no refusal has the number 0
---     Answered, answered-of                what an answer says of both volumes
---     join_call                            the first refusal, the volume it is of, and what becomes of the output
+--     join-sound                            the answer is the first refusal that applies
+--     join-number                           no refusal has the number 0
+--     Answered, answered-of                 what an answer says of both volumes
+--     join_call                             the first refusal, the volume it is of, and what becomes of the output
 -- Assumes nothing.
 use Prim.Native.Nat.{ℕ, ◌+◌, ◌*◌, ◌<◌, ◌≤◌}
 use native.Mathlib.Omega.{arith}

@@ -1,5 +1,5 @@
 -- Rows stored in a lent buffer, each where it fits, and the rows of what has been read. Assumes nothing.
---     put_words, stored            one row, and many
+--     put_words, stored             one row, and many
 --     open_rows, partial_rows       the rows of a pattern without END, and of a pattern so far
 use Rattle.std.specs.Prelude.{ℕ, ◌+◌, ◌*◌, cond, List, [], ◌∷◌, ◌++◌, map, leb, length, set}
 use Rattle.plan.specs.declared.row.Predicate.{Predicate}

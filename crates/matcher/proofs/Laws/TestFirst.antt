@@ -1,5 +1,5 @@
 -- Testing positions answers the first refusal that applies. No contract cites this file.
---     out_of_range_decides         what the test of 17 decides
+--     out_of_range_decides       what the test of 17 decides
 --     test-sound, test-first     the answer is the first refusal that applies
 -- Assumes nothing.
 use Prim.Native.Nat.{ℕ, ◌<◌, ◌≤◌}

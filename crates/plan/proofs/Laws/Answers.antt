@@ -1,5 +1,5 @@
 -- The laws of `specs/Answers.antt`: an answer is known from its number and values. No contract cites this file.
---     heard, heard_checked              the answer with a number and values
+--     heard, heard_checked             the answer with a number and values
 --     heard-refusal, heard-checked     what is heard is what was said
 --     one-to-one                       no two answers are said alike
 -- Assumes nothing.

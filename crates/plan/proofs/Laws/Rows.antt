@@ -7,7 +7,7 @@
 --     form-below, form-above       the form of a row of unknown kind
 --     form-a .. form-pair          the form of a row of a known kind, word by word
 --     never_decides                a test that is always false
---     form_wrong_decides            the test of the form decides document 01's sentence
+--     form_wrong_decides           the test of the form decides document 01's sentence
 --     rows_slice, words_slice      in a plan that passes every test: the rows of a slice of whole rows; it is their words
 --     plan-words                   the plan is the words of its rows
 -- Assumes nothing.

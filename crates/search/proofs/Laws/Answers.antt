@@ -1,5 +1,5 @@
 -- The laws of `specs/Answers.antt`: an answer is known from its number and values. No contract cites this file.
---     heard_listed      the answer with a number and values
+--     heard_listed     the answer with a number and values
 --     heard-listed     what is heard is what was said
 --     one-to-one       no two answers are said alike
 -- Assumes nothing.

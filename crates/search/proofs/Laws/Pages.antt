@@ -1,5 +1,5 @@
 -- What a page says and which rows it has, by the number of rows that fit. No contract cites this file.
---     page_by_lem, rows_by          by the portion of the true documents that fits
+--     page_by_lem, rows_by      by the portion of the true documents that fits
 --     page-done, rows-done      no more true documents remain than fit
 --     page-more, rows_more      more remain
 -- Assumes nothing.

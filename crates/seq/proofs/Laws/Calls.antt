@@ -1,5 +1,5 @@
 -- The laws of `specs/Calls.antt`: calls one after another, and the one of them that closes. No contract cites this file.
---     heard_call                   a call of any form, as what it says
+--     heard_call                  a call of any form, as what it says
 --     Closes                      a fact of each call behind enough others that are not refused
 --     closes-none                 of no calls
 --     closes-refused              a refused call in front

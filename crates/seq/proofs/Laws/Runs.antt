@@ -1,9 +1,9 @@
 -- More laws of runs, sums and searches. No contract cites this file.
---     first-is, first_past                a search that ends at k; one that finds nothing
+--     first-is, first_past                  a search that ends at k; one that finds nothing
 --     map-run, run-get_or, joined_runs      runs under map and joined; the values of a list
---     run-front, run-behind               runs over a list in two parts
---     sum_cons, sum-total                 the sum of a list's elements, over its indices
---     total_differs                       the sums of two lists that differ at one index
+--     run-front, run-behind                 runs over a list in two parts
+--     sum_cons, sum-total                   the sum of a list's elements, over its indices
+--     total_differs                         the sums of two lists that differ at one index
 -- Assumes nothing.
 use Prim.Native.Nat.{ℕ, zero, suc, ◌+◌, ◌<◌, ◌≤◌}
 use native.Mathlib.Nat.{zero-add, add_assoc}

@@ -1,7 +1,7 @@
 -- Slices of a list, as takes and drops and as runs of its values. No contract cites this file.
 --     slice-run       a slice is the run of the list's values there
 --     length_slice    its length
---     get_or_slice      its values
+--     get_or_slice    its values
 --     take_slice      what stands in front of a slice, and the slice
 --     joined-takes    pieces that each lengthen the front of a list are that front
 --     all-run         a test that passes at each index passes for all of a run

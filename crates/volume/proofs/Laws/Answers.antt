@@ -1,7 +1,7 @@
 -- The laws of `specs/Answers.antt`: an answer is known from its number and values. No contract cites this file.
 --     heard_refusal, heard_checked, heard_read, heard_written     the answer with a number and values
---     heard-refusal .. heard-written                          what is heard is what was said
---     one-to-one                                              no two answers are said alike
+--     heard-refusal .. heard-written                              what is heard is what was said
+--     one-to-one                                                  no two answers are said alike
 -- Assumes nothing.
 use Prim.Native.Nat.{ℕ}
 use mathlib.Core.Path.{◌≡◌, refl, ap}

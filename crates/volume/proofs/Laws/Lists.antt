@@ -1,7 +1,7 @@
 -- Lists, their lengths and their postings back to back: cutting and joining undo one another. No contract cites this file.
 --     given-counts, given-postings        the lengths and the join of the given lists are the given counts and postings
 --     given-lists                         the lists that lengths and join give are the lists
---     written-volume_of                    writing counts and postings gives the volume of the given lists
+--     written-volume_of                   writing counts and postings gives the volume of the given lists
 -- Assumes nothing.
 use Prim.Native.Nat.{ℕ, zero, suc, ◌+◌, ◌<◌}
 use native.Mathlib.Nat.{zero-add}

@@ -1,7 +1,7 @@
 -- The laws of `specs/Read.antt`: the answer of reading a list, and the buffer afterwards. No contract cites this file.
 --     read-volume              the volume is refused
 --     read_none, read_short    there is no such list; the buffer is too short
---     read_answer_lem              the number of postings
+--     read_answer_lem          the number of postings
 --     read_kept, read-laid     the buffer after a refusal, and after an answer
 -- Assumes nothing.
 use Prim.Native.Nat.{ℕ, ◌<◌, ◌≤◌}

@@ -1,7 +1,7 @@
 -- Bytes whose blocks are in order are the blocks of the stream that is read from them. No contract cites this file.
 --     covered_of, block_of     block k, from its words
 --     rebuild                  all blocks
---     blocks_from_ext           blocks of streams that agree
+--     blocks_from_ext          blocks of streams that agree
 -- Assumes nothing.
 use Prim.Native.Nat.{ℕ, zero, suc, ◌+◌, ◌*◌, ◌<◌, ◌≤◌}
 use native.Mathlib.Nat.{add-zero, add-suc}

@@ -1,9 +1,9 @@
 -- Where the words of the stream stand, and what stands behind them. No contract cites this file.
 --     offset_in_block, word_in_block_lem    word i of block k
---     offset-is, word-near              word i by one division, and the words behind it in its block
---     word-of_block                     word k of a block
---     word-behind                       behind the last block stand zeros
---     word_lt                           a word fits 32 bits
+--     offset-is, word-near                  word i by one division, and the words behind it in its block
+--     word-of_block                         word k of a block
+--     word-behind                           behind the last block stand zeros
+--     word_lt                               a word fits 32 bits
 -- Assumes nothing.
 use Prim.Native.Nat.{ℕ, ◌+◌, ◌*◌, ◌/◌, ◌%◌, ◌<◌, ◌≤◌}
 use native.Mathlib.Omega.{arith}

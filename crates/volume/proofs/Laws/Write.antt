@@ -1,9 +1,9 @@
 -- The laws of `specs/Write.antt`: the bytes of words and of blocks, and the stream by its parts. No contract cites this file.
 --     length-word_bytes, word_bytes_append, word_bytes-snoc, word_bytes_ext           the bytes of words
---     length-block_body, length-sealed                                             a block
---     length-blocks_from, blocks_from_append, blocks_from-snoc                       blocks
---     stream-count, stream_posting, stream-zero                                   the stream by its parts
---     word_bytes-postings                                                          behind the counts the stream is the postings
+--     length-block_body, length-sealed                                                a block
+--     length-blocks_from, blocks_from_append, blocks_from-snoc                        blocks
+--     stream-count, stream_posting, stream-zero                                       the stream by its parts
+--     word_bytes-postings                                                             behind the counts the stream is the postings
 -- Assumes nothing.
 use Prim.Native.Nat.{ℕ, zero, suc, ◌+◌, ◌*◌, ◌-◌, ◌<◌, ◌≤◌}
 use native.Mathlib.Nat.{add-zero, zero-add, add-suc, suc-add}

@@ -1,10 +1,10 @@
 -- The writer's answer: the rungs of `write_answer`, what its tests decide, and each way out of the writer. No contract cites this file.
---     write-list_count .. write-answer                 write_answer by its first test that fails
+--     write-list_count .. write-answer                  write_answer by its first test that fails
 --     counts_wrong_decides .. short_output_decides      what each test decides
---     given-clear, given-found                        no given list is wrong; one is
---     given_wrong-is                                   the test of a given list by whether it rises
---     write_kept                                      a refusal leaves the output
---     refuses-counts .. refuses-short, answers        the answer with the output afterwards
+--     given-clear, given-found                          no given list is wrong; one is
+--     given_wrong-is                                    the test of a given list by whether it rises
+--     write_kept                                        a refusal leaves the output
+--     refuses-counts .. refuses-short, answers          the answer with the output afterwards
 -- Assumes nothing.
 use Prim.Native.Nat.{ℕ, ◌+◌, ◌*◌, ◌-◌, ◌<◌, ◌≤◌}
 use native.Mathlib.Nat.{add-sub_cancel_left}

@@ -109,7 +109,6 @@ overflow_cast-patterns c = let m = many (goal.at.overflow_cast-patterns c).Start
 pub overflow_cast-firsts : goal.overflow_cast-firsts
 overflow_cast-firsts c = let e = c.requires.firsts_len in let f = (few (goal.at.overflow_cast-firsts c).Start).1 in omega arith
 
-
 pub starts_of-list-requires : goal.starts_of-list-requires
 starts_of-list-requires c = (given _ _ c.requires.walks.accepted).volume-accepted
 
