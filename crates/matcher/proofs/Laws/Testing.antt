@@ -33,7 +33,7 @@ use Rattle.plan.specs.Limits.{most_rows}
 use Rattle.plan.specs.Rows.{row_at}
 use Rattle.plan.specs.Patterns.{Pattern}
 use Rattle.plan.specs.Answers.{Sizes}
-use Rattle.plan.specs.Check.{verdict, Accepted}
+use Rattle.plan.specs.Check.{verdict}
 use Rattle.plan.specs.Accepted.{pattern_at, Given}
 use Rattle.plan.specs.declared.outline.Outline.{Outline}
 use Rattle.plan.proofs.Laws.Accepted.{given}

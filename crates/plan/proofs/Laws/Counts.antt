@@ -14,7 +14,6 @@ use Rattle.seq.specs.Lists.{keep, all, total}
 use Rattle.seq.specs.Numbers.{run}
 use Rattle.seq.proofs.Laws.Lists.{total-snoc, all_snoc, keep_snoc}
 use Rattle.seq.proofs.Laws.Numbers.{run_end, run-snoc}
-use Rattle.plan.specs.declared.row.Operator.{Operator}
 use Rattle.plan.specs.declared.row.Kind.{Kind}
 use Rattle.plan.specs.declared.row.Kind.TheVariants as kind
 use Rattle.plan.specs.declared.row.Row.{Row}

@@ -11,7 +11,7 @@ use mathlib.Core.Logic.{◌⊎◌, inl, inr, ⊎_elim, ◌≢◌}
 use mathlib.Core.List.{List, ◌++◌, map}
 use lib.ListN.{length, drop, length-map}
 use borrow.Author.Tests.{not-false}
-use Rattle.seq.specs.Lists.{at, total, joined, rises}
+use Rattle.seq.specs.Lists.{total, joined, rises}
 use Rattle.seq.specs.Refusals.{Said, refused, answered}
 use Rattle.seq.proofs.Laws.Tests.{true_or}
 use Rattle.seq.proofs.Laws.Lists.{length-joined}

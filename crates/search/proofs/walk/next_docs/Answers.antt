@@ -4,7 +4,6 @@ use mathlib.Core.Path.{◌≡◌, ap}
 use mathlib.Core.Bool.{true}
 use mathlib.Core.Logic.{◌⊎◌, inl, inr}
 use lib.ListN.{length, get_or}
-use borrow.Author.Tests.{not-false}
 use Rattle.plan.specs.Check.{sizes}
 use Rattle.plan.specs.declared.outline.Outline.{Outline}
 use Rattle.search.proofs.Laws.Walk.{walk-within, walk-few, walk_first, walk-order, walk-stretch, bringing-first, bringing-kept, bringing-due, bringing-next}

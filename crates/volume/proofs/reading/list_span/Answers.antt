@@ -2,7 +2,7 @@
 use native.Mathlib.Omega.{arith}
 use Prim.Native.Nat.{ℕ, ◌+◌}
 use mathlib.Core.Path.{ap, ap₂, ◌∙◌}
-use Rattle.volume.specs.Layout.{lead, start, count}
+use Rattle.volume.specs.Layout.{lead}
 use Rattle.volume.specs.declared.layout.ListSpan.{ListSpan}
 use Rattle.volume.proofs.Laws.Check.{Good, good}
 use Rattle.volume.proofs.reading.list_span.Goals as goal
