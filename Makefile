@@ -106,15 +106,9 @@ uninstall:
 clean:
 	rm -rf target build rust/target crates/*/out
 
-# What the program is proved over: the C functions of the kit. The first six stand in its code, the
-# others in what std's files are proved by.
-ASSUMED := \
-    libc::close libc::read libc::write os::c::__xpg_strerror_r os::c::open os::c::rattle_errno \
-    libc::chmod libc::chown libc::fchmod libc::fdatasync libc::flock libc::fsync libc::ftruncate \
-    libc::futimens libc::lchown libc::link libc::lseek libc::mkdir libc::net::bind libc::pipe2 \
-    libc::readlink libc::realpath libc::rename libc::rmdir libc::statx libc::symlink libc::unlink \
-    os::c::fcntl os::c::getdents64 os::c::rattle_open_dir_at os::c::rattle_set_errno \
-    os::c::unlinkat
+# What the program is proved over: the C functions of the kit that std calls for it.
+ASSUMED := libc::close libc::read libc::write os::c::__xpg_strerror_r os::c::open \
+    os::c::rattle_errno os::c::rattle_set_errno
 
 # Reads crates.txt, the gate's log, and those of the library and of the program. In the gate's log a
 # crate's verdict stands above its line `rt: NAME proved`. In the others the last verdict is that of

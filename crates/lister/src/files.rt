@@ -1,10 +1,13 @@
 // The two files: their bytes, and the words of a plan file.
 ghost use Rattle.std.specs.Prelude.{◌≤◌, length};
 ghost use Rattle.plan.specs.Limits.{most_words};
-ghost use Rattle.io.specs.Counts.{IsPrefixLen};
 ghost use Rattle.lister.specs.Printed.{plan_words};
 ghost use Rattle.lister.specs.Inner.Stored.{Stored};
-ghost use Rattle.lister.specs.Inner.Files.{Within};
+ghost use Rattle.lister.specs.Inner.Files.{Within, IsPrefixLen};
+
+use std::fs::OpenOptions;
+use std::io::Read;
+use std::rt::Files;
 
 // What a read gives: bytes at the front of the buffer, the end of the file, or a failure.
 #[derive(Clone, Copy)]
@@ -14,28 +17,24 @@ pub enum Got {
     Failed,
 }
 
-fn read_some(fd: i32, buf: &mut [u8]) -> Got
+fn read_some(file: &mut impl Read, buf: &mut [u8]) -> Got
     ensures { Within (length buf.old) result }
 {
-    let got = libc::read(fd, buf);
-    if got < 0 {
-        return Got::Failed;
+    match file.read(buf) {
+        Ok(0) => Got::End,
+        Ok(n) => Got::Bytes(n),
+        Err(_) => Got::Failed,
     }
-    let n = io::count(got, buf);
-    if n == 0 {
-        return Got::End;
-    }
-    Got::Bytes(n)
 }
 
 // Reads until the file ends or buf is full, and answers how many bytes it put at the front of buf;
 // 0 where a read fails.
-fn read_to_end(fd: i32, buf: &mut [u8]) -> usize
+fn read_to_end(file: &mut impl Read, buf: &mut [u8]) -> usize
     ensures { IsPrefixLen result buf.new }
 {
     let mut n: usize = 0;
     while n < buf.len() {
-        let got = read_some(fd, &mut buf[n..]);
+        let got = read_some(file, &mut buf[n..]);
         match got {
             Got::Bytes(more) => {
                 n += more;
@@ -52,17 +51,15 @@ fn read_to_end(fd: i32, buf: &mut [u8]) -> usize
 }
 
 // The bytes of a file, as many as fit, at the front of buf: how many there are. A file that cannot
-// be opened or read counts as empty.
-pub fn read_file(path: &[u8], buf: &mut [u8]) -> usize
+// be opened or read counts as empty. Under a bound `Files` in place of the runtime's own type the
+// program would reach every call of the system on files, and not these three alone: open, read, close.
+pub fn read_file(rt: &HostRuntime, path: &str, buf: &mut [u8]) -> usize
     ensures { IsPrefixLen result buf.new }
 {
-    let fd = os::open_read(path);
-    if fd < 0 {
-        return 0;
+    match rt.open_file(OpenOptions::new().read(true), path) {
+        Ok(mut file) => read_to_end(&mut file, buf),
+        Err(_) => 0,
     }
-    let n = read_to_end(fd, buf);
-    libc::close(fd);
-    n
 }
 
 // The bytes of a plan's row, and the most bytes of a plan file.

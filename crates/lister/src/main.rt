@@ -13,17 +13,25 @@ mod text;
 
 use files::{PLAN_BYTES, read_file};
 use pages::{Paged, TEXT, VOLUME, turn_text};
+use std::io;
 
 // Writes the text of the turn that starts at document `from` with the sum `tally`; no other text may
 // be handed to it.
-fn write_turn(volume: &[u8], file: &[u8], from: u32, tally: u64, text: &[u8]) -> bool
+fn write_turn(
+    rt: &impl Print,
+    volume: &[u8],
+    file: &[u8],
+    from: u32,
+    tally: u64,
+    text: &[u8],
+) -> io::Result<()>
     requires { Due volume.now file.now from tally text.now }
 {
-    io::write_all(libc::STDOUT_FILENO, text)
+    rt.write_all(text)
 }
 
 // Writes the text of each turn, until nothing is left or a write fails.
-fn print(volume: &[u8], file: &[u8]) {
+fn print(rt: &impl Print, volume: &[u8], file: &[u8]) -> io::Result<()> {
     let mut text = [0u8; TEXT];
     let mut from: u32 = 0;
     let mut tally: u64 = 0;
@@ -31,13 +39,10 @@ fn print(volume: &[u8], file: &[u8]) {
         let turn = turn_text(volume, file, from, tally, &mut text);
         match turn {
             Paged::Last(n) => {
-                write_turn(volume, file, from, tally, &text[..n]);
-                return;
+                return write_turn(rt, volume, file, from, tally, &text[..n]);
             }
             Paged::More(n, next, sum) => {
-                if !write_turn(volume, file, from, tally, &text[..n]) {
-                    return;
-                }
+                write_turn(rt, volume, file, from, tally, &text[..n])?;
                 from = next;
                 tally = sum;
             }
@@ -45,11 +50,11 @@ fn print(volume: &[u8], file: &[u8]) {
     }
 }
 
-fn main() {
+fn main(rt: HostRuntime) -> io::Result<()> {
     // One byte more than the longest file in order, so that a longer one is seen to be longer.
     let mut volume = [0u8; VOLUME + 1];
-    let n = read_file(b"titles.vol", &mut volume);
+    let n = read_file(&rt, "titles.vol", &mut volume);
     let mut file = [0u8; PLAN_BYTES + 1];
-    let m = read_file(b"titles.plan", &mut file);
-    print(&volume[..n], &file[..m]);
+    let m = read_file(&rt, "titles.plan", &mut file);
+    print(&rt, &volume[..n], &file[..m])
 }

@@ -5,6 +5,8 @@ ghost use Rattle.lister.specs.Text.{spaced, line, scene_word, done_word};
 ghost use Rattle.lister.specs.Inner.Stored.{Stored};
 ghost use Rattle.lister.specs.Inner.Pages.{row_lines};
 
+use itoa::Buffer;
+
 // These bytes.
 pub fn put_bytes(bytes: &[u8], at: usize, out: &mut [u8]) -> usize
     requires { at + length bytes.now ≤ length out.old }
@@ -23,10 +25,9 @@ fn put_number(n: u64, at: usize, out: &mut [u8]) -> usize
     requires { at + length (spaced n) ≤ length out.old }
     ensures { Stored out.old at (spaced n) out.new result }
 {
-    let mut digits = [0u8; 20];
-    let k = io::decimal(n, &mut digits);
+    let mut digits = Buffer::new();
     out[at] = b' ';
-    put_bytes(&digits[..k], at + 1, out)
+    put_bytes(digits.format(n).as_bytes(), at + 1, out)
 }
 
 // A space and a number, for each of several.

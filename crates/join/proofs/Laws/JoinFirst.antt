@@ -13,7 +13,7 @@ use mathlib.Core.Logic.{◌⊎◌, inl, inr, ⊎_elim, ◌≢◌, ◌↔◌}
 use mathlib.Core.List.{List, ◌++◌}
 use lib.ListN.{length, drop}
 use lib.Dec.{ltb}
-use Rattle.seq.specs.Refusals.{Said, refused, answered, stage_in, Precedes, FirstOf, FirstRefusalOf, Staged, laid}
+use Rattle.seq.specs.Refusals.{Said, refused, answered, stage_in, Precedes, FirstOf, FirstRefusalOf, Staged}
 use Rattle.seq.proofs.Laws.Refusals.{SoundOf, end_of, told_of, first-refusal-of, staged, laid-refused, laid-answered, not-both, same_answer}
 use Rattle.seq.proofs.Laws.Decides.{Decides, fails, stable, eqb_decides, not_decides, ltb_decides}
 use Rattle.seq.proofs.Laws.Ladder.{ClearOf, single_of}

@@ -21,7 +21,7 @@ use Rattle.seq.proofs.Laws.Tests.{true_or, either}
 use Rattle.grammar.specs.Grammar.{Line, Fits, written, LineText, Begins}
 use Rattle.grammar.specs.Brackets.{depth}
 use Rattle.line.specs.Refusals.{Breaks, Deep}
-use Rattle.grammar.specs.Reading.{Config, after, start, step, open_in, whole, shown}
+use Rattle.grammar.specs.Reading.{Config, after, start, step, open_in, shown}
 use Rattle.grammar.proofs.Laws.Reading.{line-text, line-fits}
 use Rattle.grammar.proofs.Laws.Steps.{Steps, hop, steps_append, front_of, last_of}
 use Rattle.grammar.proofs.Laws.Balance.{opening, closing, one, Balanced, step_balanced, steps_balanced}

@@ -10,7 +10,7 @@ use mathlib.Core.List.{List}
 use lib.Dec.{ltb}
 use lib.ListN.{length}
 use borrow.Author.Tests.{ltb-false}
-use Rattle.seq.specs.Refusals.{refused, answered, laid}
+use Rattle.seq.specs.Refusals.{refused, answered}
 use Rattle.seq.proofs.Laws.Refusals.{laid-refused, laid-answered, past, not-both, same_answer}
 use Rattle.plan.specs.Rows.{rows_of, plan_of}
 use Rattle.fulltext.specs.Documents.{work}

@@ -1,44 +1,42 @@
 -- The laws of `decimal`. No contract cites this file.
---     digits_decimal      the fewest digits that hold a number are those of `decimal`
+--     printed_decimal      the library's decimal text of a number of 64 bits is `decimal`
 -- Assumes nothing.
-use Prim.Native.Nat.{ℕ, zero, suc, ◌-◌, ◌*◌, ◌/◌, ◌%◌, ◌^◌, ◌<◌, ◌≤◌}
-use native.Mathlib.Nat.{pow-suc, mod-eq_of_lt}
+use Prim.Native.Nat.{ℕ, zero, suc, ◌*◌, ◌/◌, ◌%◌, ◌^◌, ◌<◌, ◌≤◌}
+use native.Mathlib.Nat.{pow-suc}
 use native.Mathlib.Omega.{arith}
-use mathlib.Core.Path.{◌≡◌, sym, ap, ap₂, ◌∙◌}
-use mathlib.Core.List.{List, [], ◌∷◌, ◌++◌}
-use borrow.Author.Tests.{lt-ltb}
-use Rattle.io.specs.Digits.{last_digits, hex_digit_ascii, IsDigitCount}
-use Rattle.seq.specs.Decimal.{digit, decimal_f, decimal}
-use Rattle.seq.proofs.Laws.Decimal.{decimal-one, decimal-more}
+use mathlib.Core.Path.{◌≡◌, ◌∙◌}
+use mathlib.Core.Bool.{false}
+use mathlib.Core.Logic.{⊎_elim}
+use mathlib.Core.List.{List, [], ◌∷◌, ◌++◌, append_assoc, append-nil}
+use borrow.Author.Tests.{lt-ltb, eq-eqb, ne_eqb}
+use Rattle.std.specs.Fmt as library
+use Rattle.std.specs.Fmt.{digit_glyph, digits_onto, digits}
+use Rattle.seq.specs.Decimal.{digit, decimal}
+use Rattle.seq.proofs.Laws.Decimal.{decimal_digit, decimal_tens}
+use Rattle.seq.proofs.Laws.Tests.{below_or}
 
 -- a digit below 10 as it is written
-glyph-digit : (d : ℕ) → d < 10 → hex_digit_ascii d ≡ digit d
+glyph-digit : (d : ℕ) → d < 10 → digit_glyph false d ≡ digit d
 glyph-digit d h = rw (lt-ltb d 10 h)
 
-pow_pos : (k : ℕ) → 0 < 10 ^ k
-pow_pos zero = omega arith
-pow_pos (suc k) = let a = pow_pos k in let b = pow-suc 10 k in omega arith
+-- a number of one digit, and of more
+onto-one : (k n : ℕ) (acc : List ℕ) → n < 10 → digits_onto (suc k) 10 false n acc ≡ decimal n ++ acc
+onto-one k n acc h =
+    let e : n / 10 ≡ 0 = omega arith in
+    let r : n % 10 ≡ n = omega arith in
+    rw (eq-eqb (n / 10) 0 e, r, glyph-digit n h, decimal_digit n h)
 
-digits-enough : (k f n : ℕ) → IsDigitCount 10 1 n (suc k) → n < f → last_digits 10 (suc k) n ≡ decimal_f f n
-digits-enough zero zero n w h = absurd (let z : ⊥ = omega arith in z)
-digits-enough zero (suc f) n w h =
-    let l : n < 10 = omega (arith, w.1) in
-    ap (λ (x : ℕ). x ∷ []) (ap hex_digit_ascii (mod-eq_of_lt l) ∙ glyph-digit n l) ∙ sym (decimal-one f n l)
-digits-enough (suc k) zero n w h = absurd (let z : ⊥ = omega arith in z)
-digits-enough (suc k) (suc f) n w h =
-    let p = 10 ^ k in
-    let up : 10 ^ suc k ≡ p * 10 = pow-suc 10 k in
+digits-enough : (k n : ℕ) (acc : List ℕ) → n < 10 ^ suc k → digits_onto (suc k) 10 false n acc ≡ decimal n ++ acc
+digits-enough zero n acc h = onto-one zero n acc (omega arith)
+digits-enough (suc k) n acc h =
+    ⊎_elim
+    (λ (l : n < 10). onto-one (suc k) n acc l)
+    (λ (l : 10 ≤ n).
     let top : 10 ^ suc (suc k) ≡ 10 ^ suc k * 10 = pow-suc 10 (suc k) in
-    let less : suc (suc k) - 1 ≡ suc k = omega arith in
-    let low : 10 ^ suc k ≤ n = rw less at (w.2 (omega arith)) in
-    let least : suc k - 1 ≡ k = omega arith in
-    let pos : 0 < p = pow_pos k in
-    ap₂ (λ (xs : List ℕ) (x : ℕ). xs ++ (x ∷ []))
-    (digits-enough k f (n / 10) (omega arith, omega (arith, w.1), λ l. rw least (omega arith)) (omega arith))
-    (glyph-digit (n % 10) (omega arith))
-    ∙ sym (decimal-more f n (omega arith))
+    rw (ne_eqb (n / 10) 0 (λ e. omega arith), decimal_tens n l, append_assoc, glyph-digit (n % 10) (omega arith))
+    (digits-enough k (n / 10) (digit (n % 10) ∷ acc) (omega arith)))
+    (below_or n 10)
 
-pub digits_decimal : (k n : ℕ) → IsDigitCount 10 1 n k → last_digits 10 k n ≡ decimal n
-unfolding decimal
-digits_decimal zero n w = absurd (let a = w.0 in let z : ⊥ = omega arith in z)
-digits_decimal (suc k) n w = digits-enough k (suc n) n w (omega arith)
+pub printed_decimal : (n : ℕ) → n < 2 ^ 64 → library.decimal n ≡ decimal n
+unfolding digits
+printed_decimal n h = digits-enough 63 n [] (omega arith) ∙ append-nil (decimal n)

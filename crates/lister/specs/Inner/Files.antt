@@ -1,5 +1,5 @@
 -- What the contracts of `files` cite. Assumes nothing.
-use Rattle.std.specs.Prelude.{ℕ, ◌≤◌}
+use Rattle.std.specs.Prelude.{ℕ, ◌≤◌, ◌≡◌, List, length, take}
 use Rattle.lister.specs.declared.files.Got.{Got}
 use Rattle.lister.specs.declared.files.Got.TheVariants.{Bytes, End, Failed}
 
@@ -8,3 +8,7 @@ abbrev pub Within : ℕ → Got → Type 0
 Within room (Bytes n) = (1 ≤ n) × (n ≤ room)
 Within room End = Unit
 Within room Failed = Unit
+
+-- so many bytes stand at the front of a buffer
+abbrev pub IsPrefixLen : ℕ → List ℕ → Type 0
+IsPrefixLen n xs = (n ≤ length xs) × (n ≡ length (take n xs))

@@ -11,7 +11,7 @@ use mathlib.Core.List.{List, [], ◌∷◌}
 use lib.ListN.{length}
 use lib.Dec.{ltb}
 use Rattle.seq.specs.Lists.{elem}
-use Rattle.seq.specs.Refusals.{Said, refused, answered, stage_in, laid, FirstRefusal}
+use Rattle.seq.specs.Refusals.{Said, refused, answered, stage_in, FirstRefusal}
 use Rattle.seq.proofs.Laws.Refusals.{Sound, end, first-refusal, laid-refused, laid-answered}
 use Rattle.seq.proofs.Laws.Decides.{ltb_decides}
 use Rattle.seq.proofs.Laws.Ladder.{Clear, single}

@@ -19,7 +19,7 @@ use Rattle.plan.proofs.Laws.Check.{verdict-passed}
 use Rattle.plan.proofs.Laws.Accepted.{given}
 use Rattle.volume.specs.Layout.{list_count}
 use Rattle.grammar.specs.declared.tokens.Connective.TheVariants as c
-use Rattle.grammar.specs.Grammar.{written, Fits, PartFits, ItemFits, LinesFit}
+use Rattle.grammar.specs.Grammar.{Fits, PartFits, ItemFits, LinesFit}
 use Rattle.grammar.specs.Query.{Query, leaf, node, threshold, Queries, empty, push, query_of, stack_rows, typed, typed_lines, plan_line}
 use Rattle.grammar.specs.Query.{plan_text}
 use Rattle.grammar.proofs.Laws.Written.{plan-tree}

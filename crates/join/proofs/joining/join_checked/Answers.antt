@@ -1,0 +1,115 @@
+-- `joining::join_checked` meets its contract: each return is a rung of `join_rest`, and only the last one comes behind a store. Assumes
+-- nothing.
+use native.Mathlib.Omega.{arith}
+use Prim.Native.Nat.{◌≤◌}
+use mathlib.Core.Path.{◌≡◌, sym, ap, ap₂, ◌∙◌}
+use Rattle.volume.specs.Layout.{list_count, posting_count, blocks_for}
+use Rattle.volume.specs.Check.{Accepted}
+use Rattle.volume.proofs.Laws.Check.{good}
+use Rattle.join.specs.Refusals.{extent_of_both}
+use Rattle.join.specs.Inner.Docs.{clash}
+use Rattle.join.specs.declared.docs.DocRange.{DocRange}
+use Rattle.join.proofs.Laws.Calls.{found, refuses-docs, refuses_large, refuses-short, can-join, can_lift, answers}
+use Rattle.join.proofs.joining.join_checked.Goals as goal
+use Rattle.join.proofs.joining.join_checked.Goals.{After-docs_clash, After-extent_of-words, Start}
+
+-- what is given: both volumes are accepted, of as many lists, and their sizes
+given : (c : Start) → let v = c.args.first.now in let w = c.args.second.now in
+    record {
+      first : Accepted v;
+      second : Accepted w;
+      same : list_count w ≡ list_count v;
+      lists : c.args.lists ≡ list_count v;
+      postings : c.args.postings ≡ posting_count v;
+      more : c.args.more ≡ posting_count w;
+      few-lists : list_count v ≤ 1024;
+      few-postings : posting_count v ≤ 1032192;
+      few-more : posting_count w ≤ 1032192;
+    }
+given c =
+    let p = c.requires in
+    let g = good c.args.first.now p.accepted in
+    let f = g.fits in
+    let m = g.blocks-most in
+    let h = good c.args.second.now p.accepted_2 in
+    let k = h.fits in
+    let n = h.blocks-most in
+    record {
+      first = p.accepted;
+      second = p.accepted_2;
+      same = sym p.lists_value_2 ∙ p.lists_value;
+      lists = p.lists_value;
+      postings = p.postings_value;
+      more = p.more_value;
+      few-lists = g.lists-most;
+      few-postings = omega arith;
+      few-more = omega arith;
+    }
+
+-- what the test of 25 finds
+clash-is : (c : After-docs_clash)
+    → c.docs_clash.result ≡ found c.args.raise c.args.first.now c.args.second.now c.args.out.now
+clash-is c = c.docs_clash.ensures ∙ ap₂ (λ (a b : DocRange). clash c.args.raise a b) c.doc_range.ensures c.doc_range-2.ensures
+
+-- the number of stream words
+words_are : (c : After-extent_of-words) → c.extent_of-words.result ≡ extent_of_both c.args.first.now c.args.second.now
+words_are c = let e = c.extent_of-words.ensures in omega arith
+
+pub returns-then-docs_clash : goal.returns-then-docs_clash
+returns-then-docs_clash c =
+    let g = given (goal.at.returns-then-docs_clash c).Start in
+    let test = sym (clash-is (goal.at.returns-then-docs_clash c).After-docs_clash) ∙ c.if-docs_clash.true in
+    let w = refuses-docs _ _ _ _ g.first g.second g.same test in
+    record { result_value = w.0; out_after = w.1 }
+
+pub overflow_add-postings : goal.overflow_add-postings
+overflow_add-postings c = let g = given (goal.at.overflow_add-postings c).Start in omega arith
+
+pub extent_of-words-requires : goal.extent_of-words-requires
+extent_of-words-requires c = let g = given (goal.at.extent_of-words-requires c).Start in omega arith
+
+pub returns-then-words-gt-MAX_WORDS : goal.returns-then-words-gt-MAX_WORDS
+returns-then-words-gt-MAX_WORDS c =
+    let g = given (goal.at.returns-then-words-gt-MAX_WORDS c).Start in
+    let test = sym (clash-is (goal.at.returns-then-words-gt-MAX_WORDS c).After-docs_clash) ∙ c.if-docs_clash.false in
+    let large = rw (words_are (goal.at.returns-then-words-gt-MAX_WORDS c).After-extent_of-words) at c.if-words-gt-MAX_WORDS.true in
+    let w = refuses_large _ _ _ _ g.first g.second g.same test large in
+    record { result_value = w.0; out_after = w.1 }
+
+pub returns-then-out-size : goal.returns-then-out-size
+returns-then-out-size c =
+    let g = given (goal.at.returns-then-out-size c).Start in
+    let e = words_are (goal.at.returns-then-out-size c).After-extent_of-words in
+    let test = sym (clash-is (goal.at.returns-then-out-size c).After-docs_clash) ∙ c.if-docs_clash.false in
+    let w = refuses-short _ _ _ _ g.first g.second g.same test (rw e at c.if-words-gt-MAX_WORDS.false) (rw e at c.if-out-size.true) in
+    record { result_value = w.0; out_after = w.1 }
+
+pub put_joined-requires : goal.put_joined-requires
+put_joined-requires c =
+    let g = given (goal.at.put_joined-requires c).Start in
+    let e = words_are (goal.at.put_joined-requires c).After-extent_of-words in
+    let x = c.extent_of.ensures in
+    let y = c.extent_of-2.ensures in
+    let z = g.same in
+    let fits = rw e at c.if-words-gt-MAX_WORDS.false in
+    let clear = sym (clash-is (goal.at.put_joined-requires c).After-docs_clash) ∙ c.if-docs_clash.false in
+    let can = can-join _ _ _ c.args.out.now g.first g.second g.same clear fits in
+    let lift = can_lift _ _ _ c.args.out.now g.first g.second g.same clear fits _ c.lift_of.ensures in
+    record {
+      joinable = can;
+      lists_value = g.lists;
+      all_value = omega arith;
+      n_value = ap blocks_for e;
+      n_in_bounds = c.if-out-size.false;
+      lifts = lift;
+    }
+
+pub returns : goal.returns
+returns c =
+    let g = given (goal.at.returns c).Start in
+    let e = words_are (goal.at.returns c).After-extent_of-words in
+    let fits = rw e at c.if-words-gt-MAX_WORDS.false in
+    let test = sym (clash-is (goal.at.returns c).After-docs_clash) ∙ c.if-docs_clash.false in
+    let w = answers _ _ _ _ g.first g.second g.same test fits _ c.lift_of.ensures _ _ (ap blocks_for e)
+    c.if-out-size.false c.put_joined.ensures in
+    record { result_value = w.0; out_after = w.1 }

@@ -1,0 +1,17 @@
+-- `join::joining::put_joined` meets its contract. The loop's invariant: the first k blocks are stored, and the merge stands in front of block k.
+-- The measure is what is left of the blocks. Assumes nothing.
+use Prim.Native.Nat.{◌-◌}
+use mathlib.Core.Path.{◌≡◌}
+use lib.ListN.{length}
+use Rattle.volume.proofs.Laws.Storing.{Laying}
+use Rattle.join.specs.Inner.Reading.{joined_word, StandsBefore}
+use Rattle.join.proofs.joining.put_joined.Given as goal
+
+abbrev pub invariant-loop-k : goal.invariant-loop-k
+invariant-loop-k l =
+    Laying (joined_word l.lift l.first l.second) 0 l.n l.initial.out l.out l.k
+    × StandsBefore l.first l.second l.merge l.k
+    × (length l.words ≡ 126)
+
+abbrev pub decreases-loop-k : goal.decreases-loop-k
+decreases-loop-k l = l.n - l.k

@@ -1,0 +1,81 @@
+use native.Mathlib.Omega.{arith}
+use Prim.Native.Nat.{ℕ, ◌+◌}
+use mathlib.Core.Path.{refl, sym, ap, ◌∙◌, subst}
+use mathlib.Core.List.{List}
+use Rattle.line.specs.declared.reading.Reached.TheVariants.{At}
+use Rattle.line.specs.Inner.Reads.{FigureRead}
+use Rattle.line.specs.Inner.Store.{put_words}
+use Rattle.line.proofs.Laws.Figure.{Within, within_first, within-length, within-most, within_end, within-goes, within_emits}
+use Rattle.line.proofs.Laws.Figure.{within-closes, within-stuck}
+use Rattle.line.proofs.figure.figure.Goals as goal
+use Rattle.line.proofs.figure.figure.Goals.{in-Goes, in-Emits}
+
+pub loop-at-init : goal.loop-at-init
+loop-at-init c =
+    let a = c.args in
+    within_first a.text.now a.from a.first a.out.now (omega arith) (omega arith)
+
+pub step-next-requires : goal.step-next-requires
+step-next-requires c =
+    let a = c.args in
+    let l = c.loop-at in
+    within-most a.text.now a.from a.first a.out.now l.at l.state l.rows l.out l.invariant
+
+pub shape_of-out-in-Closes : goal.shape_of-out-in-Closes
+shape_of-out-in-Closes c =
+    let a = c.args in
+    let l = c.loop-at in
+    c.put-in-Closes-2.auto.out
+    ∙ c.put-in-Closes.auto.out
+    ∙ within-length a.text.now a.from a.first a.out.now l.at l.state l.rows l.out l.invariant
+
+pub returns-in-Closes : goal.returns-in-Closes
+returns-in-Closes c =
+    let a = c.args in
+    let l = c.loop-at in
+    let closes = sym c.step-next.ensures ∙ c.in-Closes.is in
+    let row = ap (λ (o : List ℕ). put_words o (l.rows + 1) (record { kind = 6; a = 0; b = 0; c = 0 })) c.put-in-Closes.ensures in
+    subst (λ (o : List ℕ). FigureRead a.text.now a.from a.first a.out.now o (At (l.at + 1) (l.rows + 2)))
+    (sym (c.put-in-Closes-2.ensures ∙ row))
+    (within-closes a.text.now a.from a.first a.out.now l.at l.state l.rows l.out l.invariant (omega arith)
+    c.in-Closes.words (record { kind = 6; a = 0; b = 0; c = 0 }) refl closes)
+
+pub shape_of-out-in-Stuck : goal.shape_of-out-in-Stuck
+shape_of-out-in-Stuck c =
+    let a = c.args in
+    let l = c.loop-at in
+    within-length a.text.now a.from a.first a.out.now l.at l.state l.rows l.out l.invariant
+
+pub returns-in-Stuck : goal.returns-in-Stuck
+returns-in-Stuck c =
+    let a = c.args in
+    let l = c.loop-at in
+    within-stuck a.text.now a.from a.first a.out.now l.at l.state l.rows l.out l.invariant (omega arith)
+    (sym c.step-next.ensures ∙ c.in-Stuck.is)
+
+pub loop-at-preserved : goal.loop-at-preserved
+loop-at-preserved c =
+    let a = c.args in
+    let l = c.loop-at in
+    elim c.match-next.branch [
+      | in-Goes w ↦ rw (w.state-is, w.rows-is, w.out-is)
+          (within-goes a.text.now a.from a.first a.out.now l.at l.state l.rows l.out l.invariant (omega arith) _
+          (sym c.step-next.ensures ∙ w.in-Goes.is))
+      | in-Emits w ↦ rw (w.state-is, w.rows-is, w.out-is)
+          (subst (λ (o : List ℕ). Within a.text.now a.from a.first a.out.now (l.at + 1) w.in-Emits.goes (l.rows + 1) o)
+          (sym w.put.ensures)
+          (within_emits a.text.now a.from a.first a.out.now l.at l.state l.rows l.out l.invariant (omega arith)
+          w.in-Emits.words w.in-Emits.goes (sym c.step-next.ensures ∙ w.in-Emits.is)))
+    ]
+
+pub shape_of-out : goal.shape_of-out
+shape_of-out c =
+    let a = c.args in
+    let l = c.loop-at in
+    within-length a.text.now a.from a.first a.out.now l.at l.state l.rows l.out l.invariant
+
+pub returns : goal.returns
+returns c =
+    let a = c.args in
+    let l = c.loop-at in
+    within_end a.text.now a.from a.first a.out.now l.at l.state l.rows l.out l.invariant c.loop-at-test.false

@@ -1,0 +1,11 @@
+-- `pages::put_refusal` meets its contract. Assumes nothing.
+use native.Mathlib.Omega.{arith}
+use Rattle.lister.specs.Text.{refused_word}
+use Rattle.lister.proofs.Laws.Lengths.{pair-short}
+use Rattle.lister.proofs.pages.put_refusal.Goals as goal
+
+pub put_line-requires : goal.put_line-requires
+put_line-requires c = let a = c.args in omega (arith, pair-short refused_word a.number a.at (omega arith) (omega arith))
+
+pub returns : goal.returns
+returns c = c.put_line.ensures

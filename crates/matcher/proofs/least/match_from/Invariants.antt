@@ -1,0 +1,13 @@
+-- All predicates hold of the positions but so many in turn, `largest` is the largest position, and no match from the first positions on is in front of
+-- them (`Tried`). A jump moves a position on; else one predicate less is left. `paras` keeps its length. Assumes nothing.
+use Prim.Native.Nat.{◌+◌, ◌*◌}
+use mathlib.Core.Path.{◌≡◌}
+use lib.ListN.{length}
+use Rattle.matcher.proofs.Laws.Tried.{slack, Tried}
+use Rattle.matcher.proofs.least.match_from.Given as goal
+
+abbrev pub invariant-loop-left : goal.invariant-loop-left
+invariant-loop-left l = Tried l.volume l.plan l.outline l.document.doc l.held l.initial.here l.initial.positions l.here l.positions l.largest l.turn l.left × (length l.paras ≡ length l.initial.paras)
+
+abbrev pub decreases-loop-left : goal.decreases-loop-left
+decreases-loop-left l = 128 * slack l.positions + l.left

@@ -1,0 +1,23 @@
+-- `paragraphs::find_para` meets its contract, by the first start behind the position. Assumes nothing.
+use Rattle.matcher.proofs.Laws.Starts.{past-from, past_to}
+use Rattle.matcher.proofs.paragraphs.find_para.Goals as goal
+
+pub para_start-start-requires : goal.para_start-start-requires
+para_start-start-requires c =
+    let p = c.requires in
+    let e = c.past_start-at.ensures in
+    record {
+      accepted = p.accepted;
+      at_document = p.at_document;
+      at_le_at = past-from p.accepted p.at_document p.pos_bound e;
+      at_le_end = past_to p.accepted p.at_document p.pos_bound e;
+    }
+
+pub returns : goal.returns
+returns c =
+    let p = c.requires in
+    let e = c.past_start-at.ensures in
+    record {
+      start_value = c.para_start-start.ensures _ p.pos_bound e;
+      at_value = e;
+    }

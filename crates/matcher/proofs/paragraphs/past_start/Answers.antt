@@ -1,0 +1,28 @@
+-- `paragraphs::past_start` meets its contract: from where the cursor may go on, it comes to the same start. Assumes nothing.
+use native.Mathlib.Omega.{arith}
+use mathlib.Core.Path.{ap, ◌∙◌}
+use Rattle.matcher.specs.declared.cursor.Cursor.{Cursor}
+use Rattle.matcher.proofs.Laws.Cursors.{galloped-end, galloped_on, stretch-within}
+use Rattle.matcher.proofs.Laws.Starts.{stands-stretch}
+use Rattle.matcher.proofs.paragraphs.past_start.Goals as goal
+
+pub resume-at-requires : goal.resume-at-requires
+resume-at-requires c = let p = c.requires in stands-stretch p.accepted p.at_document
+
+pub resume-from-requires : goal.resume-from-requires
+resume-from-requires c =
+    let p = c.requires in
+    let g = c.resume-at.ensures in
+    stretch-within _ _ _ _ _ (stands-stretch p.accepted p.at_document) g.from g.to (omega arith)
+
+pub advance_past-next-requires : goal.advance_past-next-requires
+advance_past-next-requires c =
+    let p = c.requires in
+    let g = galloped_on c.resume-at.ensures c.resume-from.ensures in
+    stretch-within _ _ _ _ _ (stands-stretch p.accepted p.at_document) g.from g.to (omega arith)
+
+pub returns : goal.returns
+returns c =
+    let p = c.requires in
+    ap (λ (r : Cursor). r.at) c.advance_past-next.ensures.value
+    ∙ galloped-end _ _ _ _ (stands-stretch p.accepted p.at_document) _ (galloped_on c.resume-at.ensures c.resume-from.ensures)

@@ -1,0 +1,99 @@
+use Prim.Native.Nat.{◌<◌, ◌≤◌}
+use native.Mathlib.Omega.{arith}
+use mathlib.Core.Path.{refl, ◌∙◌}
+use mathlib.Core.Logic.{⊎_elim}
+use Rattle.plan.specs.Check.{sizes}
+use Rattle.plan.proofs.Laws.Accepted.{given}
+use Rattle.search.proofs.Laws.Settling.{settling-first, settling-small, settling-away, settling-ready}
+use Rattle.search.proofs.Laws.Settling.{settling-yes, settling-no, settling-done}
+use Rattle.search.proofs.walk.settle_all.Goals as goal
+use Rattle.search.proofs.walk.settle_all.Goals.{then-docs-k+then-settle, then-docs-k+else-settle, else-docs-k}
+use Rattle.search.proofs.walk.settle_all.Goals.{In-loop-k}
+
+-- pattern k is one of the plan's, and its bit fits the bits
+inside : (c : In-loop-k) → c.loop-k.k < (sizes c.args.plan.now).patterns
+inside c = let e = c.requires.docs_len in let t = c.loop-k-test.true in omega arith
+
+small : (c : In-loop-k) → (c.loop-k.weight ≤ 256) × (c.loop-k.bits < 256)
+small c =
+    let l = c.loop-k in
+    settling-small _ _ _ _ _ _ _ l.ats l.positions l.bits l.weight l.k l.invariant.0 (inside c)
+    (given _ _ c.requires.walks.accepted).most-patterns
+
+pub loop-k-init : goal.loop-k-init
+loop-k-init c =
+    (settling-first _ _ _ _ _ _ _ c.requires.by_index, refl)
+
+pub bounds-docs-k : goal.bounds-docs-k
+bounds-docs-k c = let t = c.loop-k-test.true in omega arith
+
+pub outline_at-outline-requires : goal.outline_at-outline-requires
+outline_at-outline-requires c =
+    let r = c.requires.walks.table-room in
+    let i = inside (goal.at.outline_at-outline-requires c).In-loop-k in
+    omega arith
+
+pub settle-requires : goal.settle-requires
+settle-requires c =
+    let l = c.loop-k in
+    let p = c.requires in
+    let r = p.plan_in_bounds_3 in
+    let e = l.invariant.1 in record {
+      ready = rw c.outline_at-outline.ensures
+          (settling-ready _ _ _ _ _ _ _ l.ats l.positions l.bits l.weight l.k l.invariant.0 (inside (goal.at.settle-requires c).In-loop-k) c.if-docs-k.true
+          _ _ p.walks c.args.document refl p.at_document p.plan_in_bounds p.plan_in_bounds_2);
+      plan_in_bounds = omega arith;
+    }
+
+pub overflow_add-bits : goal.overflow_add-bits
+overflow_add-bits c =
+    let s = small (goal.at.overflow_add-bits c).In-loop-k in
+    omega arith
+
+pub overflow_mul-weight : goal.overflow_mul-weight
+overflow_mul-weight c = let s = small (goal.at.overflow_mul-weight c).In-loop-k in omega arith
+
+pub overflow_add-k : goal.overflow_add-k
+overflow_add-k c = let t = c.loop-k-test.true in omega arith
+
+pub loop-k-smaller : goal.loop-k-smaller
+loop-k-smaller c = let t = c.loop-k-test.true in omega arith
+
+pub loop-k-preserved : goal.loop-k-preserved
+loop-k-preserved c =
+    let l = c.loop-k in
+    let room = c.requires.plan_in_bounds_2 in
+    let i = inside (goal.at.loop-k-preserved c).In-loop-k in
+    elim c.if-docs-k.branch [
+      | then-docs-k+then-settle w ↦ rw (w.ats-is, w.positions-is, w.paras-is, w.bits-is) (
+        settling-yes _ _ _ _ _ _ _ l.ats l.positions l.bits l.weight l.k l.invariant.0 i w.if-docs-k.true room w.settle.result
+            w.settle.new.ats w.settle.new.positions (rw w.outline_at-outline.ensures at w.settle.ensures.settled) w.if-settle.true,
+        w.settle.ensures.paras_len_unchanged ∙ l.invariant.1,
+      )
+      | then-docs-k+else-settle w ↦ rw (w.ats-is, w.positions-is, w.paras-is, w.bits-is) (
+        settling-no _ _ _ _ _ _ _ l.ats l.positions l.bits l.weight l.k l.invariant.0 i w.if-docs-k.true room w.settle.result
+            w.settle.new.ats w.settle.new.positions (rw w.outline_at-outline.ensures at w.settle.ensures.settled) w.if-settle.false,
+        w.settle.ensures.paras_len_unchanged ∙ l.invariant.1,
+      )
+      | else-docs-k w ↦ rw (w.ats-is, w.positions-is, w.paras-is, w.bits-is)
+          (settling-away _ _ _ _ _ _ _ l.ats l.positions l.bits l.weight l.k l.invariant.0 i w.if-docs-k.false, l.invariant.1)
+    ]
+
+pub shape_of-ats : goal.shape_of-ats
+shape_of-ats c = c.loop-k.invariant.0.ats-length
+
+pub shape_of-positions : goal.shape_of-positions
+shape_of-positions c = c.loop-k.invariant.0.positions-length
+
+pub shape_of-paras : goal.shape_of-paras
+shape_of-paras c = c.loop-k.invariant.1
+
+pub returns : goal.returns
+returns c =
+    let l = c.loop-k in
+    let e = c.requires.docs_len in
+    let t = c.loop-k-test.false in
+    record {
+      settled_all = settling-done _ _ _ _ _ _ _ l.ats l.positions l.bits l.weight l.k l.invariant.0 (omega arith);
+      paras_len_unchanged = l.invariant.1;
+    }
