@@ -10,7 +10,7 @@
 #               says
 # make install  copies the command, the header and the library to bin/, include/ and lib/ of PREFIX,
 #               below DESTDIR if that is given; make uninstall removes them
-# make clean    removes all that these made
+# make clean    removes all that these made, and what rt keeps of the crates
 
 SHELL := bash
 .SHELLFLAGS := -euo pipefail -c
@@ -26,17 +26,21 @@ PACKAGE := --manifest-path rust/Cargo.toml --offline --locked
 COMMAND := rust/target/release/lhz
 HEADER := include/lihambozy.h
 LIBRARY := target/staticlib/liblihambozy.a
-# What the library is made of. A folder is newer than the library where a file has gone.
-SOURCES := crates.txt $(shell find crates \( -name must-fail -o -name mutants \) -prune -o -print)
+# What the library is made of. A folder is newer than the library where a file has gone. A crate's
+# own folder does not count, since `rt` makes and removes out/ there.
+SOURCES := crates.txt $(shell find crates -mindepth 2 \
+    \( -name must-fail -o -name mutants -o -name out \) -prune -o -print)
 WARNINGS := -Wall -Wextra -Werror
 GATE_LOG := build/ci.log
-LIBRARY_LOG := build/staticlib.log
+LIBRARY_LOG := build/library.log
+PROGRAM_LOG := build/program.log
 SECONDS := 600
 CRATES :=
 
 all: tools proved $(LIBRARY)
 	$(CARGO) build --release $(PACKAGE)
-	cd crates/lister/data && ../../../target/bin/lister
+	cd crates/lister && rt run >/dev/null
+	cd crates/lister/data && ../out/lister
 	@echo 'the command: rust/target/release/lhz'
 
 # Says which tools are missing, before anything is proved.
@@ -52,19 +56,26 @@ tools:
 
 # Proves the crates that have changed since they were proved last.
 proved:
-	rt check
+	rt all check
 
-# `rt staticlib` proves its crate each time.
+# `rt lib` proves what has changed, and leaves the library in its crate's out/.
 $(LIBRARY): $(SOURCES)
-	rt staticlib lihambozy
+	cd crates/lihambozy && rt lib
+	mkdir -p $(@D)
+	cp crates/lihambozy/out/$(@F) $@
 
-# `rt ci` removes target/: its log is kept in build/, and the library is built after it.
+# The gate builds no library, and prints no verdict on what it passed before on this machine. So the
+# library is built after it, and the program is checked once more, each with a verdict of its own.
 test: tools
 	mkdir -p build
 	rt ci 2>&1 | tee $(GATE_LOG) || { echo 'rt ci failed'; exit 1; }
-	awk -v assumed='$(ASSUMED)' "$$ASSUME_NOTHING" crates.txt $(GATE_LOG)
-	rt staticlib lihambozy 2>&1 | tee $(LIBRARY_LOG)
-	grep -q '^logic=proved ' $(LIBRARY_LOG) && ! grep -E ' (foreign=|axioms=[1-9])' $(LIBRARY_LOG)
+	(cd crates/lihambozy && rt lib) 2>&1 | tee $(LIBRARY_LOG)
+	(cd crates/lister && rt check --list-axioms) 2>&1 | \
+	    grep -vE '^ +[A-Za-z0-9_:]+$$' | tee $(PROGRAM_LOG)
+	awk -v assumed='$(ASSUMED)' "$$ASSUME_NOTHING" crates.txt \
+	    of=gate $(GATE_LOG) of=library $(LIBRARY_LOG) of=program $(PROGRAM_LOG)
+	mkdir -p $(dir $(LIBRARY))
+	cp crates/lihambozy/out/$(notdir $(LIBRARY)) $(LIBRARY)
 	$(CC) -std=c99 $(WARNINGS) -fsyntax-only -x c $(HEADER)
 	if $(CC) -fsyntax-only -x c++ /dev/null; then $(CC) $(WARNINGS) -fsyntax-only -x c++ $(HEADER); fi
 	$(CARGO) test --release $(PACKAGE)
@@ -93,36 +104,45 @@ uninstall:
 	rm -f $(INTO)/bin/$(notdir $(COMMAND)) $(INTO)/include/$(notdir $(HEADER)) $(INTO)/lib/$(notdir $(LIBRARY))
 
 clean:
-	rm -rf target build rust/target
+	rm -rf target build rust/target crates/*/out
 
-# What the program is proved over: the C functions of the kit that it calls.
-ASSUMED := libc::close libc::read libc::write os::c::rattle_open_to_read os::c::rattle_set_errno
+# What the program is proved over: the C functions of the kit that std calls for it.
+ASSUMED := libc::close libc::read libc::write os::c::__xpg_strerror_r os::c::open \
+    os::c::rattle_errno os::c::rattle_set_errno
 
-# Reads crates.txt, then the gate's log, where a crate's verdict and the axioms it counts stand
-# above its line `rt: NAME proved`. Fails unless the log ends as that of a passed gate, every listed
-# crate has its verdict there, no verdict names a foreign function, no crate but a program has an
-# axiom, and the axioms of a program are those assumed.
+# Reads crates.txt, the gate's log, and those of the library and of the program. In the gate's log a
+# crate's verdict stands above its line `rt: NAME proved`. In the others the last verdict is that of
+# the library or the program, and the axioms that it counts stand above it. Fails unless the gate's
+# log ends as that of a passed gate, its line `rt: ok` tells of no bad edit, every listed crate has
+# its verdict there or was passed by an earlier run of the gate, library and program have theirs, no
+# verdict names a foreign function, none but the program's counts axioms, and those of the program
+# are among the assumed.
 define ASSUME_NOTHING
 BEGIN { split(assumed, words, " "); for (word in words) known[words[word]] }
-FNR == NR { sub(/#.*/, ""); if (sub(/:.*/, "")) { gsub(/[ \t]/, ""); listed[$$0] }; next }
-{ last = $$0 }
-/^axioms / { sub(/^axioms [^:]*: /, ""); sub(/ \(.*/, ""); axioms = axioms ", " $$0 }
-/^logic=proved / { verdict = $$0 }
-/^rt: [A-Za-z0-9_]+ proved / { verdicts[$$2] = verdict; of[$$2] = substr(axioms, 3); verdict = axioms = "" }
-function fail(why) { print FILENAME ": " why; failed = 1 }
+!of { sub(/#.*/, ""); if (sub(/:.*/, "")) listed[$$1]; next }
+/^logic=/ { verdict[of] = $$0; if (/ foreign=/) fail("a foreign function: " $$0) }
+of == "gate" { last = $$0 }
+/^rt: ok; / { ok = $$0 }
+/^rt: [a-z0-9_]+ proved$$/ { verdicts[$$2] = verdict[of]; verdict[of] = "" }
+/^rt: [a-z0-9_]+ is kept: an earlier run on this machine proved / { kept[$$2] }
+/^ +[A-Za-z0-9_:]+ +reached$$/ { axioms[of] = axioms[of] " " $$1 }
+function fail(why) { print "make: " why; failed = 1 }
+function axioms_of(verdict) { return sub(/.* axioms=/, "", verdict) ? verdict + 0 : 0 }
 function program(crate) { return system("test -f crates/" crate "/src/main.rt") == 0 }
+function hold(what, verdict, may_assume) {
+    if (verdict !~ /^logic=proved /) fail(what " has no verdict")
+    if (axioms_of(verdict) && !may_assume) fail(what " assumes something: " verdict)
+}
 END {
-    if (last !~ /^[1-9][0-9]* passed, 0 failed$$/) fail("it does not end as the log of a passed gate")
-    for (crate in listed) {
-        verdict = verdicts[crate]
-        if (verdict == "") fail(crate " has no verdict")
-        if (verdict ~ / foreign=/) fail(crate " has a foreign function: " verdict)
-        told = match(verdict, / axioms=[0-9]+/) ? substr(verdict, RSTART + 8, RLENGTH - 8) + 0 : 0
-        count = split(of[crate], names, ", ")
-        if (told != count) fail(crate " counts " told " axioms and names " count)
-        if (told && !program(crate)) fail(crate " assumes something: " verdict)
-        for (name in names) if (!(names[name] in known)) fail(crate " assumes " names[name])
-    }
+    if (last !~ /^[1-9][0-9]* passed, 0 failed$$/) fail("the gate did not pass: " last)
+    if (ok == "" || ok ~ /, [0-9]+ bad/) fail("not every edit was tried: " ok)
+    for (crate in listed) if (!(crate in kept)) hold(crate, verdicts[crate], program(crate))
+    hold("the library", verdict["library"])
+    hold("the program", verdict["program"], 1)
+    told = axioms_of(verdict["program"])
+    count = split(axioms["program"], names, " ")
+    if (told != count) fail("the program counts " told " axioms and names " count)
+    for (name in names) if (!(names[name] in known)) fail("the program assumes " names[name])
     exit failed
 }
 endef

@@ -1,5 +1,4 @@
-//! Links the proved library, which `rt staticlib lihambozy` writes to `target/staticlib` of the
-//! repository.
+//! Links the proved library, which `make` puts into `target/staticlib` of the repository.
 
 use std::path::Path;
 use std::{env, process};
@@ -10,10 +9,7 @@ fn main() {
     let library = folder.join("liblihambozy.a");
     println!("cargo:rerun-if-changed={}", library.display());
     if !library.is_file() {
-        eprintln!(
-            "{} is absent: run `rt staticlib lihambozy` in the repository first",
-            library.display()
-        );
+        eprintln!("{} is absent: run `make` in the repository first", library.display());
         process::exit(1);
     }
     println!("cargo:rustc-link-search=native={}", folder.display());

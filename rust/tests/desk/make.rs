@@ -170,7 +170,7 @@ fn the_library_is_built_again_where_a_crate_has_changed() {
     let is_built = |goal: &str| {
         let ended = run(make(&folder.0).args(["--dry-run", goal]));
         assert_eq!(ended.status, 0, "{}", ended.stderr);
-        ended.told().1.contains("rt staticlib lihambozy")
+        ended.told().1.contains("cd crates/lihambozy && rt lib")
     };
     let as_built = || folder.write(LIBRARY, "");
     let edit = || folder.write("crates/one/must-fail/second.edit", "");
@@ -178,9 +178,14 @@ fn the_library_is_built_again_where_a_crate_has_changed() {
     let remove = || fs::remove_file(folder.path("crates/one/src/other.rt")).unwrap();
     let list = || folder.write("crates.txt", "one: two\n");
     let lose = || fs::remove_file(folder.path(LIBRARY)).unwrap();
-    let cases: [(&str, &dyn Fn(), bool); 6] = [
+    let keep = || {
+        fs::create_dir(folder.path("crates/one/out")).unwrap();
+        folder.write("crates/one/out/one", "");
+    };
+    let cases: [(&str, &dyn Fn(), bool); 7] = [
         ("nothing", &|| {}, false),
         ("an edit", &edit, false),
+        ("what rt keeps", &keep, false),
         ("a file", &change, true),
         ("a file less", &remove, true),
         ("the list of crates", &list, true),
@@ -195,7 +200,7 @@ fn the_library_is_built_again_where_a_crate_has_changed() {
             assert_eq!(is_built(goal), expected, "{what}, {goal}");
         }
     }
-    // The gate has removed it.
+    // Behind the gate it is built in any case.
     as_built();
     assert!(is_built("test"));
 }
@@ -203,7 +208,7 @@ fn the_library_is_built_again_where_a_crate_has_changed() {
 /// `rt` as `make mutants` calls it: edits named `refused` are refused, others are not.
 const RT: &str = r#"
 case $1 in
-check) mkdir -p target/rlib target/stamp ;;
+check) mkdir -p out ;;
 must-fail)
     echo "$@" >>"$LOG"
     for edit in crates/*/must-fail/*.edit; do

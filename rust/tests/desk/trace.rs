@@ -22,7 +22,7 @@ const LINES: [Line; 4] = [Said, Proved, Edit, Test];
 const LABELS: [&str; 4] = ["said by: ", "proved by: ", "edit: ", "test: "];
 
 /// The libraries of the Rattle kit that the page names functions of.
-const KIT: [&str; 3] = ["io", "libc", "os"];
+const KIT: [&str; 2] = ["libc", "os"];
 
 /// A sentence of document 01 or 02: its id, its words, and what the lines under it say.
 #[derive(Default)]
@@ -301,13 +301,27 @@ fn has_promise(of: &str, name: &str) -> bool {
     matches!(&named[..], [function] if function.head.contains(" ensures "))
 }
 
+/// The paths that a library's `lib.rt` hands on, each by itself.
+fn handed_on(of: &str) -> BTreeSet<String> {
+    let text = read_if_there(&format!("crates/{of}/src/lib.rt"));
+    let mut handed = BTreeSet::new();
+    for item in text.split("\npub use ").skip(1) {
+        let (item, _) = item.split_once(';').expect("an end");
+        let (module, names) = match item.strip_suffix('}') {
+            Some(several) => several.split_once("::{").expect("names in brackets"),
+            None => item.rsplit_once("::").expect("a path"),
+        };
+        let names = names.split(',').map(str::trim).filter(|name| !name.is_empty());
+        handed.extend(names.map(|name| format!("{module}::{name}")));
+    }
+    assert!(!handed.iter().any(|path| path.contains(['{', '*', ' '])), "{of} hands on {handed:?}");
+    handed
+}
+
 /// The functions that a library opens to other crates or to C: those of its modules that its
 /// `lib.rt` hands on, the open methods of the types that it hands on, and those with a C name.
 fn open_functions(of: &str) -> Vec<Function> {
-    let text = read_if_there(&format!("crates/{of}/src/lib.rt"));
-    let handed = text.lines().filter_map(|line| line.strip_prefix("pub use ")?.strip_suffix(';'));
-    let handed: BTreeSet<&str> = handed.collect();
-    assert!(!handed.iter().any(|path| path.contains(['{', '*', ' '])), "{of} hands on {handed:?}");
+    let handed = handed_on(of);
     let is_open = |Function { name, module, marks, .. }: &Function| match name.split_once("::") {
         Some((of_type, _)) => marks == "pub" && handed.contains(&*format!("{module}::{of_type}")),
         None => handed.contains(&*format!("{module}::{name}")) || marks.contains("extern"),
@@ -470,15 +484,15 @@ fn every_requires_is_told() {
 
 #[test]
 fn the_axioms_are_those_that_the_gate_allows() {
-    let makefile = read("Makefile");
+    let makefile = read("Makefile").replace("\\\n", "");
     let assumed = makefile.lines().find_map(|line| line.strip_prefix("ASSUMED := "));
-    let assumed: BTreeSet<&str> = assumed.expect("the gate's list").split(' ').collect();
+    let assumed: BTreeSet<&str> = assumed.expect("the gate's list").split_whitespace().collect();
     let prose = page().prose;
     let lines = prose.iter().filter_map(|line| line.strip_prefix("    axioms "));
     let named: BTreeSet<&str> = lines
         .flat_map(|line| {
             let (_, names) = line.split_once(": ").expect("a library in front of the names");
-            names.split(" (").next().unwrap_or_default().split(", ")
+            names.split(", ")
         })
         .collect();
     assert_eq!(named, assumed);

@@ -52,14 +52,10 @@ pub fn text(path: impl AsRef<Path>) -> String {
     text.unwrap_or_else(|_| panic!("{} is no text", path.as_ref().display()))
 }
 
-/// The program `lister`, which `rt check lister` writes to `target/bin` of the repository.
+/// The program `lister`, which `make` and the gate leave in the folder `out` of its crate.
 pub fn lister() -> PathBuf {
-    let path = repository("target/bin/lister");
-    assert!(
-        path.is_file(),
-        "{} is absent: run `rt check lister` in the repository first",
-        path.display()
-    );
+    let path = repository("crates/lister/out/lister");
+    assert!(path.is_file(), "{} is absent: run `make` in the repository first", path.display());
     path
 }
 
