@@ -60,7 +60,7 @@ module _ (s : List ℕ) (room : ℕ) where
   -- whatever applies is one of them
   of-read : (m q : ℕ) → ReadApplies s room m q → OfRead m q
   of-read m q (too_long h) = inl (refl, (refl, h))
-  of-read m q (breaks e l h) = inr (inl (refl, (l, h)))
+  of-read m q (breaks e l h) = inr (inl (refl, (omega arith, h)))
   of-read m q (too_deep e l h) = inr (inr (inl (refl, (l, h))))
   of-read m q (too_many x f t h) = inr (inr (inr (inl (refl, (refl, (x, f, t, h))))))
   of-read m q (short x f t h) = inr (inr (inr (inr (refl, (refl, (x, f, t, h))))))

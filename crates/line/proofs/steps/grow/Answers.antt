@@ -44,7 +44,7 @@ returns-then-most-value c =
     let w = c.wide-d in
     let d : w.result - 48 ≡ a.byte - 48 = ap (λ (n : ℕ). n - 48) w.ensures in
     sym (ap (λ (x : Number). grown_by a.most x a.byte) c.in-Digits.is
-    ∙ grow-over a.most a.byte (omega arith) (omega arith) _ _ d c.if-n-eq0.false c.if-most-value.true)
+    ∙ grow-over a.most a.byte (omega arith) (omega arith) _ _ d (omega arith) c.if-most-value.true)
 
 pub returns-else-most-d : goal.returns-else-most-d
 returns-else-most-d c =
@@ -60,4 +60,4 @@ returns-else-most-value c =
     let w = c.wide-d in
     let d : w.result - 48 ≡ a.byte - 48 = ap (λ (n : ℕ). n - 48) w.ensures in
     sym (ap (λ (x : Number). grown_by a.most x a.byte) c.in-Digits.is
-    ∙ grow-digits a.most a.byte (omega arith) (omega arith) _ _ d c.if-n-eq0.false c.if-most-value.false)
+    ∙ grow-digits a.most a.byte (omega arith) (omega arith) _ _ d (omega arith) c.if-most-value.false)
