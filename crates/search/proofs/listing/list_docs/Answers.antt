@@ -21,18 +21,15 @@ use Rattle.search.proofs.Laws.Walk.{walk-within}
 use Rattle.search.proofs.Laws.Visits.{visiting-first, visiting-part, part_length, visit-reached, visit-wide, visit-passed}
 use Rattle.search.proofs.Laws.Visits.{visit-small, visit-put, visit-room, visit-words, visit-rows, visit-few, visit-done, visit-more}
 use Rattle.search.proofs.listing.list_docs.Goals as goal
-use Rattle.search.proofs.listing.list_docs.Goals.{After-answer_of, After-row_words-width, After-visit-seen, Else-doc-eq-DOCS, Start}
+use Rattle.search.proofs.listing.list_docs.Goals.{After-answer_of, After-row_words-width, After-visit-seen, Start}
 
 -- the number of patterns, and the words of a row
 many : (c : Start) → length c.args.table.now / 4 ≡ (sizes c.args.plan.now).patterns
 many c = let t = c.requires.table_len in omega arith
 
-many' : (c : After-row_words-width) → length c.args.table.now / 4 ≡ (sizes c.args.plan.now).patterns
-many' c = let t = c.requires.table_len in omega arith
-
 wide : (c : After-row_words-width) →
     c.row_words-width.result ≡ row_words (sizes c.args.plan.now).patterns (sizes c.args.plan.now).vars
-wide c = let e = c.row_words-width.ensures in let m = many' c in let f = c.requires.firsts_len in omega arith
+wide c = let e = c.row_words-width.ensures in let t = c.requires.table_len in let f = c.requires.firsts_len in omega arith
 
 few : (c : Start)
     → ((sizes c.args.plan.now).patterns ≤ most_patterns)
@@ -43,10 +40,6 @@ few c = visit-few _ _ _ _ _ c.requires.walks
 reached : (c : After-visit-seen) →
     Progress (work c.args.volume.now c.args.plan.now) c.args.start c.args.out.now c.visit-seen.result.doc c.loop-starts.rows c.loop-starts.out
 reached c = visit-reached _ _ _ _ _ _ _ _ _ _ _ c.visit-seen.ensures.visited _ _ c.loop-starts.invariant.0.progress
-
--- it is a document
-inside : (c : Else-doc-eq-DOCS) → c.visit-seen.result.doc < 65536
-inside c = let l = c.visit-seen.ensures.visited.most in let n = c.if-doc-eq-DOCS.false in omega arith
 
 -- the arrays keep their lengths
 docs-size : (c : After-visit-seen) →
@@ -63,42 +56,25 @@ positions-size c = c.visit-seen.auto.positions ∙ c.loop-starts.invariant.1.1.1
 paras-size : (c : After-visit-seen) → length c.visit-seen.new.paras ≡ most_vars
 paras-size c = c.visit-seen.ensures.paras_len_unchanged ∙ c.loop-starts.invariant.1.1.1.1.1.1.0
 
-few' : (c : Else-doc-eq-DOCS)
-    → ((sizes c.args.plan.now).patterns ≤ most_patterns)
-    × (row_words (sizes c.args.plan.now).patterns (sizes c.args.plan.now).vars ≤ most_row_words)
-few' c = visit-few _ _ _ _ _ c.requires.walks
-
--- the bits of the found patterns are below 256
-bits_small : (c : Else-doc-eq-DOCS) → c.visit-seen.result.found < most_found_sets
-bits_small c =
-    rw (c.visit-seen.ensures.visited.found_are (inside c)) (found-small _ c.args.plan.now (few' c).0)
-
-inside' : (c : After-answer_of) → c.visit-seen.result.doc < 65536
-inside' c = let l = c.visit-seen.ensures.visited.most in let n = c.if-doc-eq-DOCS.false in omega arith
-
 -- whether the document is true
 told : (c : After-answer_of) →
     (work c.args.volume.now c.args.plan.now).is_true c.visit-seen.result.doc ≡ c.answer_of.result
 told c =
     seen_true c.args.volume.now c.args.plan.now c.visit-seen.result.found c.visit-seen.result.doc
-    c.answer_of.result c.answer_of.ensures.value (c.visit-seen.ensures.visited.found_are (inside' c))
+    c.answer_of.result c.answer_of.ensures.value (c.visit-seen.ensures.visited.found_are (omega (arith, c.visit-seen.ensures.visited.most)))
 
 -- one answer more is known
 known-size : (c : After-answer_of) → length c.answer_of.new.known ≡ most_found_sets
 known-size c = c.answer_of.auto.known ∙ c.loop-starts.invariant.1.1.1.0
 
-few'' : (c : After-answer_of)
-    → ((sizes c.args.plan.now).patterns ≤ most_patterns)
-    × (row_words (sizes c.args.plan.now).patterns (sizes c.args.plan.now).vars ≤ most_row_words)
-few'' c = visit-few _ _ _ _ _ c.requires.walks
-
-bits_small' : (c : After-answer_of) → c.visit-seen.result.found < most_found_sets
-bits_small' c =
-    rw (c.visit-seen.ensures.visited.found_are (inside' c)) (found-small _ c.args.plan.now (few'' c).0)
+-- the bits of the found patterns are below 256
+bits_small : (c : After-answer_of) → c.visit-seen.result.found < most_found_sets
+bits_small c =
+    rw (c.visit-seen.ensures.visited.found_are (omega (arith, c.visit-seen.ensures.visited.most))) (found-small _ c.args.plan.now (visit-few _ _ _ _ _ c.requires.walks).0)
 
 remembers : (c : After-answer_of) → Remembers c.args.plan.now c.answer_of.new.known
 remembers c =
-    let b = bits_small' c in
+    let b = bits_small c in
     let l = c.loop-starts.invariant.1.1.1.0 in
     subst (Remembers c.args.plan.now) (sym c.answer_of.ensures.known_after)
     (remembers-next _ _ c.loop-starts.invariant.1.1.1.1.0 _ (omega arith) _ c.answer_of.ensures.value)
@@ -191,17 +167,18 @@ shape_of-out-then-doc-eq-DOCS c =
 pub returns-then-doc-eq-DOCS : goal.returns-then-doc-eq-DOCS
 returns-then-doc-eq-DOCS c =
     let p = c.requires in
-    visit-done _ _ _ _ _ p.walks _ _ p.start_bound p.plan_in_bounds_2 _ _ _ (reached (goal.at.returns-then-doc-eq-DOCS c).After-visit-seen) c.tally-passed.result c.tally-passed.ensures c.if-doc-eq-DOCS.true
+    visit-done _ _ _ _ _ p.walks _ _ p.start_bound p.plan_in_bounds_2 _ _ _ (reached (goal.at.returns-then-doc-eq-DOCS c).After-visit-seen) c.tally-passed.result c.tally-passed.ensures (omega arith)
 
 pub overflow_add-from : goal.overflow_add-from
-overflow_add-from c = let l = c.visit-seen.ensures.visited.most in let n = c.if-doc-eq-DOCS.false in omega arith
+overflow_add-from c = let l = c.visit-seen.ensures.visited.most in omega arith
 
 pub slice_bounds-answer_of-end : goal.slice_bounds-answer_of-end
 slice_bounds-answer_of-end c = sym c.loop-starts.invariant.1.1.1.0
 
 pub answer_of-requires : goal.answer_of-requires
 answer_of-requires c =
-    let b = bits_small (goal.at.answer_of-requires c).Else-doc-eq-DOCS in
+    let b : c.visit-seen.result.found < most_found_sets =
+    rw (c.visit-seen.ensures.visited.found_are (omega (arith, c.visit-seen.ensures.visited.most))) (found-small _ c.args.plan.now (few (goal.at.answer_of-requires c).Start).0) in
     let l = c.loop-starts.invariant.1.1.1.0 in
     record {
       by_index = (c.args.volume.now, c.requires.walks.accepted);
@@ -211,7 +188,7 @@ answer_of-requires c =
 
 pub loop-starts-smaller-then-not-answer_of : goal.loop-starts-smaller-then-not-answer_of
 loop-starts-smaller-then-not-answer_of c =
-    let l = inside (goal.at.loop-starts-smaller-then-not-answer_of c).Else-doc-eq-DOCS in
+    let l = c.visit-seen.ensures.visited.most in
     let f = c.visit-seen.ensures.visited.later in
     omega arith
 
@@ -219,7 +196,7 @@ pub loop-starts-preserved-then-not-answer_of : goal.loop-starts-preserved-then-n
 loop-starts-preserved-then-not-answer_of c =
     let within = c.loop-starts.invariant.1.1.1.1.1.1.1 in (
       visiting-part _ _ _ _ _ _ _ _ _ _ _ _ _ _ (many (goal.at.loop-starts-preserved-then-not-answer_of c).Start)
-          (visit-passed _ _ _ _ _ _ _ _ _ _ _ c.visit-seen.ensures.visited _ _ c.loop-starts.invariant.0.progress (inside (goal.at.loop-starts-preserved-then-not-answer_of c).Else-doc-eq-DOCS)
+          (visit-passed _ _ _ _ _ _ _ _ _ _ _ c.visit-seen.ensures.visited _ _ c.loop-starts.invariant.0.progress (omega (arith, c.visit-seen.ensures.visited.most))
           (told (goal.at.loop-starts-preserved-then-not-answer_of c).After-answer_of ∙ c.if-not-answer_of.true)),
       (
         part_length c.loop-starts.docs c.visit-seen.new.docs (length c.args.table.now / 4)
@@ -258,19 +235,7 @@ shape_of-out-then-rows-room c =
 pub returns-then-rows-room : goal.returns-then-rows-room
 returns-then-rows-room c =
     let p = c.requires in
-    visit-more _ _ _ _ _ p.walks _ _ p.start_bound p.plan_in_bounds_2 _ _ _ (reached (goal.at.returns-then-rows-room c).After-visit-seen) c.tally-passed-then-rows-room.result c.tally-passed-then-rows-room.ensures (inside (goal.at.returns-then-rows-room c).Else-doc-eq-DOCS) (told (goal.at.returns-then-rows-room c).After-answer_of ∙ c.if-not-answer_of.false) _ (wide (goal.at.returns-then-rows-room c).After-row_words-width) c.if-rows-room.true
-
-many'' : (c : Else-doc-eq-DOCS) → length c.args.table.now / 4 ≡ (sizes c.args.plan.now).patterns
-many'' c = let t = c.requires.table_len in omega arith
-
--- the row has as many words as a row of the plan
-row-wide : (c : Else-doc-eq-DOCS)
-    → let table = c.args.table.now in let r = c.visit-seen.result in
-    length (row_by (starts_in (lists_of c.args.volume.now) r.doc) table r.doc r.found
-    c.visit-seen.new.positions (length table / 4))
-    ≡ row_words (sizes c.args.plan.now).patterns (sizes c.args.plan.now).vars
-row-wide c =
-    visit-wide _ _ _ _ _ c.requires.walks _ _ _ _ _ _ c.visit-seen.ensures.visited (inside c) _ (many'' c)
+    visit-more _ _ _ _ _ p.walks _ _ p.start_bound p.plan_in_bounds_2 _ _ _ (reached (goal.at.returns-then-rows-room c).After-visit-seen) c.tally-passed-then-rows-room.result c.tally-passed-then-rows-room.ensures (omega (arith, c.visit-seen.ensures.visited.most)) (told (goal.at.returns-then-rows-room c).After-answer_of ∙ c.if-not-answer_of.false) _ (wide (goal.at.returns-then-rows-room c).After-row_words-width) (omega arith)
 
 pub overflow_mul-rows : goal.overflow_mul-rows
 overflow_mul-rows c =
@@ -284,18 +249,19 @@ pub write_row-block-requires : goal.write_row-block-requires
 write_row-block-requires c =
     let walking = c.loop-starts.invariant.0.walking in
     let w = wide (goal.at.write_row-block-requires c).After-row_words-width in
-    let l = row-wide (goal.at.write_row-block-requires c).Else-doc-eq-DOCS in
-    let r = visit-room _ _ _ _ _ _ c.loop-starts.rows _ w c.loop-starts.invariant.0.progress c.if-rows-room.false in
-    let reach = (c.visit-seen.ensures.visited.walking (inside (goal.at.write_row-block-requires c).Else-doc-eq-DOCS)).positions-room in
+    -- the row has as many words as a row of the plan
+    let l = visit-wide _ _ _ _ _ c.requires.walks _ _ _ _ _ _ c.visit-seen.ensures.visited (omega (arith, c.visit-seen.ensures.visited.most)) _ (many (goal.at.write_row-block-requires c).Start) in
+    let r = visit-room _ _ _ _ _ _ c.loop-starts.rows _ w c.loop-starts.invariant.0.progress (λ e. omega arith) in
+    let reach = (c.visit-seen.ensures.visited.walking (omega (arith, c.visit-seen.ensures.visited.most))).positions-room in
     let m = many (goal.at.write_row-block-requires c).Start in
     let t = c.requires.table_len in record {
       accepted = (given _ _ c.requires.walks.accepted).volume-accepted;
-      at_document = at-document _ _ _ _ c.visit-seen.ensures.visited.later (inside (goal.at.write_row-block-requires c).Else-doc-eq-DOCS) walking.starts-at walking.starts-end;
+      at_document = at-document _ _ _ _ c.visit-seen.ensures.visited.later (omega (arith, c.visit-seen.ensures.visited.most)) walking.starts-at walking.starts-end;
       whole = rw c.blocks_of-blocks.ensures (blocks-whole _);
       block_bound = c.loop-starts.invariant.1.1.1.1.1.1.1;
       patterns_in_bounds = omega arith;
       by_index = λ k h. let v = walk-within _ _ _ _ _ c.requires.walks k (omega arith) in omega arith;
-      by_index_2 = visit-small _ _ _ _ _ c.requires.walks _ _ _ _ _ _ c.visit-seen.ensures.visited (inside (goal.at.write_row-block-requires c).Else-doc-eq-DOCS) _ (many (goal.at.write_row-block-requires c).Start);
+      by_index_2 = visit-small _ _ _ _ _ c.requires.walks _ _ _ _ _ _ c.visit-seen.ensures.visited (omega (arith, c.visit-seen.ensures.visited.most)) _ (many (goal.at.write_row-block-requires c).Start);
       patterns_in_bounds_2 = omega arith;
     }
 
@@ -304,7 +270,7 @@ overflow_add-rows c = let n = visit-rows _ _ _ _ _ _ _ (reached (goal.at.overflo
 
 pub loop-starts-smaller : goal.loop-starts-smaller
 loop-starts-smaller c =
-    let l = inside (goal.at.loop-starts-smaller c).Else-doc-eq-DOCS in
+    let l = c.visit-seen.ensures.visited.most in
     let f = c.visit-seen.ensures.visited.later in
     omega arith
 
@@ -312,9 +278,9 @@ pub loop-starts-preserved : goal.loop-starts-preserved
 loop-starts-preserved c =
     let wrote = c.write_row-block.ensures in (
       visiting-part _ _ _ _ _ _ _ _ _ _ _ _ _ _ (many (goal.at.loop-starts-preserved c).Start)
-          (visit-put _ _ _ _ _ _ _ _ _ _ _ c.visit-seen.ensures.visited _ _ c.loop-starts.invariant.0.progress (inside (goal.at.loop-starts-preserved c).Else-doc-eq-DOCS)
+          (visit-put _ _ _ _ _ _ _ _ _ _ _ c.visit-seen.ensures.visited _ _ c.loop-starts.invariant.0.progress (omega (arith, c.visit-seen.ensures.visited.most))
           (told (goal.at.loop-starts-preserved c).After-answer_of ∙ c.if-not-answer_of.false) _ (wide (goal.at.loop-starts-preserved c).After-row_words-width)
-          c.if-rows-room.false _ _ c.requires.walks _ (many (goal.at.loop-starts-preserved c).Start) _ wrote.out_after),
+          (λ e. omega arith) _ _ c.requires.walks _ (many (goal.at.loop-starts-preserved c).Start) _ wrote.out_after),
       (
         part_length c.loop-starts.docs c.visit-seen.new.docs (length c.args.table.now / 4)
             most_patterns (docs-size (goal.at.loop-starts-preserved c).After-visit-seen) c.loop-starts.invariant.1.0,
