@@ -1,6 +1,6 @@
 -- Words for functions of an index: the first index at which a test holds, the values as a list, and their sum.
 -- Assumes nothing.
-use Rattle.std.specs.Prelude.{ℕ, zero, suc, ◌+◌, Bool, cond, List, [], ◌∷◌}
+use Rattle.std.specs.Prelude.{ℕ, zero, suc, ◌+◌, Bool, cond, ltb, List, [], ◌∷◌, Option, Some, None}
 
 -- the least j with k ≤ j < k + m at which the test holds; k + m where there is none
 unfoldable pub first_from : (ℕ → Bool) → ℕ → ℕ → ℕ
@@ -16,3 +16,7 @@ run f k (suc m) = f k ∷ run f (suc k) m
 unfoldable pub sum_to : (ℕ → ℕ) → ℕ → ℕ
 sum_to f zero = 0
 sum_to f (suc m) = sum_to f m + f m
+
+-- the index k where it is below n; nothing where it is not
+abbrev pub index_below : ℕ → ℕ → Option ℕ
+index_below n k = cond (ltb k n) (Some k) None

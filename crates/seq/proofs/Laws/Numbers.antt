@@ -3,6 +3,7 @@
 --     first-none                           no index passes the test: the search ends at its end
 --     first-le, first_ge, first-at, first-before     where it ends; the test holds there; and at no index before
 --     search-found, search-clear           a search that ends in front of n, and one that does not
+--     index-found, index-none              an index below n as an answer, and n itself or one behind it
 --     run_end, run_step, run-snoc, run_append, run_ext, length_run, get_or-run
 --     sum_step, sum-front, sum_more, sum-le, sum_mono, sum-within, sum_ext, sum_add
 -- Assumes nothing.
@@ -16,8 +17,10 @@ use mathlib.Core.Logic.{⊎_elim}
 use mathlib.Core.List.{List, [], ◌∷◌, ◌++◌}
 use lib.Dec.{ltb}
 use borrow.Author.Tests.{ltb-true, ltb-false}
+use Rattle.std.proofs.lemmas.Bool.{lt-ltb, le-ltb}
+use Rattle.std.specs.Prelude.{Option, Some, None}
 use lib.ListN.{length, get_or}
-use Rattle.seq.specs.Numbers.{first_from, run, sum_to}
+use Rattle.seq.specs.Numbers.{first_from, run, sum_to, index_below}
 use Rattle.seq.proofs.Laws.Tests.{contrary, below_or}
 
 sub-step : (k n : ℕ) → k < n → n - k ≡ suc (n - (k + 1))
@@ -174,3 +177,9 @@ pub sum_add : (f g : ℕ → ℕ) (m : ℕ) → sum_to (λ i. f i + g i) m ≡ s
 unfolding sum_to
 sum_add f g zero = refl
 sum_add f g (suc m) = let e = sum_add f g m in omega arith
+
+pub index-found : (n k : ℕ) → k < n → index_below n k ≡ Some k
+index-found n k h = ap (λ (t : Bool). cond t (Some k) None) (lt-ltb k n h)
+
+pub index-none : (n k : ℕ) → n ≤ k → index_below n k ≡ None
+index-none n k h = ap (λ (t : Bool). cond t (Some k) None) (le-ltb k n h)
