@@ -28,9 +28,9 @@ pub enum Refusal {
     Unfinished,
 }
 
-// What checking a plan answers: the number of its patterns and of its variables, or why not.
-#[derive(Clone, Copy)]
-pub enum Checked {
-    Accepted(u32, u32),
-    Refused(Refusal),
+// What an accepted plan gives: the number of its patterns and of its variables.
+#[derive(Clone, Copy, Debug, PartialEq, Eq)]
+pub struct Sizes {
+    pub patterns: u32,
+    pub vars: u32,
 }
