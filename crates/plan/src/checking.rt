@@ -8,7 +8,6 @@ ghost use Rattle.plan.specs.Check.{rows_verdict, plan_verdict, verdict};
 use super::answers::{Refusal, Sizes};
 use super::limits::MOST_WORDS;
 use super::state::{State, row_step};
-use volume::Checked as VolumeChecked;
 
 // The rows of a plan, over a volume of so many lists.
 fn check_rows(plan: &[u32], lists: u32) -> Result<Sizes, Refusal>
@@ -45,9 +44,6 @@ fn check_plan(plan: &[u32], lists: u32) -> Result<Sizes, Refusal>
 pub fn check(volume: &[u8], plan: &[u32]) -> Result<Sizes, Refusal>
     ensures { said_checked result ≡ verdict volume.now plan.now }
 {
-    let checked = volume::check(volume);
-    match checked {
-        VolumeChecked::Refused(why) => Err(Refusal::Volume(why)),
-        VolumeChecked::Accepted(lists, _) => check_plan(plan, lists),
-    }
+    let sizes = volume::check(volume)?;
+    check_plan(plan, sizes.lists)
 }

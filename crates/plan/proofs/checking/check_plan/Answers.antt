@@ -8,9 +8,9 @@ use Rattle.plan.proofs.checking.check_plan.Goals.{then-plan-eq0-via-then-plan-eq
 
 pub returns-then-plan-eq0 : goal.returns-then-plan-eq0
 returns-then-plan-eq0 c = sym (plan-length _ _ (elim c.then-plan-eq0.branch [
-    | then-plan-eq0-via-then-plan-eq0 w ↦ inl w.if-plan-eq0.true
-    | then-plan-eq0-via-else-plan-eq0+then-plan-ne0 w ↦ inr (inl w.if-plan-ne0.true)
-    | then-plan-eq0-via-else-plan-eq0+else-plan-ne0+then-plan-gt-MOST_WORDS w ↦ inr (inr (omega arith))
+  | then-plan-eq0-via-then-plan-eq0 w ↦ inl w.if-plan-eq0.true
+  | then-plan-eq0-via-else-plan-eq0+then-plan-ne0 w ↦ inr (inl w.if-plan-ne0.true)
+  | then-plan-eq0-via-else-plan-eq0+else-plan-ne0+then-plan-gt-MOST_WORDS w ↦ inr (inr (omega arith))
 ]))
 
 pub returns : goal.returns
