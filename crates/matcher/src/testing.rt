@@ -10,7 +10,7 @@ ghost use Rattle.matcher.specs.Answers.{said_tested};
 ghost use Rattle.matcher.specs.Testing.{test_answer};
 ghost use Rattle.matcher.specs.Inner.Settling.{Asked, Found, StoodAt};
 
-use super::answers::Tested;
+use super::answers::TestError;
 use super::cursor::{Cursor, Document, list_cursor, starts_of};
 use super::least::match_from;
 use super::rarest::rarest_first;
@@ -22,15 +22,7 @@ use volume::Posting;
 pub fn in_document(positions: &[u32]) -> bool
     ensures { result ≡ all (λ q. leb q 65535) positions.now }
 {
-    let n = positions.len();
-    let mut x: usize = 0;
-    while x < n {
-        if Posting::LAST_POS < positions[x] {
-            return false;
-        }
-        x += 1;
-    }
-    true
+    positions.iter().all(|&p| p <= Posting::LAST_POS)
 }
 
 // A cursor on a list at a position of a document; at the end of the list where it does not hold the
@@ -45,7 +37,7 @@ fn cursor_at(volume: &[u8], list: usize, doc: u32, pos: u32) -> Cursor
     let first = list_cursor(volume, list);
     let end = first.end;
     let sought = Posting::new(doc as u16, pos as u16);
-    let reached = first.advance(volume, sought.bits as u64);
+    let reached = first.advance(volume, u64::from(sought.bits));
     if reached.bits == sought.bits {
         return Cursor {
             at: reached.at,
@@ -74,9 +66,7 @@ fn stand_at(
     ensures ends_len_unchanged { length ends.new ≡ length ends.old }
     ensures here_len_unchanged { length here.new ≡ length here.old }
 {
-    let n = positions.len();
-    let mut x: usize = 0;
-    while x < n {
+    for x in 0..positions.len() {
         let row = outline.condition - outline.vars + x;
         let list = list_at(plan, row);
         let cursor = cursor_at(volume, list as usize, doc, positions[x]);
@@ -85,7 +75,6 @@ fn stand_at(
         }
         here[x] = cursor.at;
         ends[x] = cursor.end;
-        x += 1;
     }
     true
 }
@@ -123,7 +112,7 @@ fn test_pattern(
     pattern: usize,
     doc: u32,
     positions: &[u32],
-) -> Tested
+) -> Result<bool, TestError>
     requires accepted { plans.Accepted volume.now plan.now }
     requires patterns_value { patterns ≡ (plans.sizes plan.now).patterns }
     requires pattern_lt_patterns { pattern < patterns }
@@ -134,28 +123,33 @@ fn test_pattern(
     let outline = outline_at(&table, pattern);
     let vars = outline.vars;
     if positions.len() != vars {
-        return Tested::OutOfRange;
+        return Err(TestError::OutOfRange);
     }
     if Posting::LAST_DOC < doc {
-        return Tested::OutOfRange;
+        return Err(TestError::OutOfRange);
     }
     if !in_document(positions) {
-        return Tested::OutOfRange;
+        return Err(TestError::OutOfRange);
     }
-    let matched = is_match(volume, plan, outline, doc, positions);
-    Tested::Answer(matched)
+    Ok(is_match(volume, plan, outline, doc, positions))
 }
 
 // Whether these positions of a pattern's variables match the pattern in a document.
-pub fn test(volume: &[u8], plan: &[u32], pattern: u32, doc: u32, positions: &[u32]) -> Tested
+pub fn test(
+    volume: &[u8],
+    plan: &[u32],
+    pattern: u32,
+    doc: u32,
+    positions: &[u32],
+) -> Result<bool, TestError>
     ensures { said_tested result ≡ test_answer volume.now plan.now pattern doc positions.now }
 {
     let checked = plan::check(volume, plan);
     match checked {
-        Checked::Refused(why) => Tested::Refused(why),
+        Checked::Refused(why) => Err(TestError::Refused(why)),
         Checked::Accepted(patterns, _) => {
             if patterns <= pattern {
-                return Tested::OutOfRange;
+                return Err(TestError::OutOfRange);
             }
             test_pattern(
                 volume,

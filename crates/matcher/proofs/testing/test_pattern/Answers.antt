@@ -52,9 +52,9 @@ returns-then-not-in_document c =
     sym (test-small a.volume.now a.plan.now a.pattern a.doc a.positions.now (sizes a.plan.now) c.requires.accepted (omega arith) (omega arith) (omega arith)
     (sym c.in_document.ensures ∙ c.if-not-in_document.true))
 
-pub is_match-matched-requires : goal.is_match-matched-requires
-is_match-matched-requires c =
-    let o = outline (goal.at.is_match-matched-requires c).After-outline_at-outline in
+pub is_match-requires : goal.is_match-requires
+is_match-requires c =
+    let o = outline (goal.at.is_match-requires c).After-outline_at-outline in
     let v = o.entry.outlines.vars_are in
     let k = o.pattern-is in
     record {
@@ -72,4 +72,4 @@ returns c =
     let a = c.args in
     sym (test-answer a.volume.now a.plan.now a.pattern a.doc a.positions.now (sizes a.plan.now) c.requires.accepted (omega arith) (omega arith) (omega arith)
     (sym c.in_document.ensures ∙ c.if-not-in_document.false) _
-    (c.is_match-matched.ensures ∙ ap (λ (k : ℕ). matches_at (lists_of a.volume.now) a.doc (pattern_at a.plan.now k) a.positions.now) o.pattern-is))
+    (c.is_match.ensures ∙ ap (λ (k : ℕ). matches_at (lists_of a.volume.now) a.doc (pattern_at a.plan.now k) a.positions.now) o.pattern-is))
