@@ -5,7 +5,7 @@ ghost use Rattle.matcher.specs.declared.answers.TestError.TheVariants.{Refused};
 use plan::Refusal;
 
 // Why positions are not tested.
-#[derive(Clone, Copy)]
+#[derive(Clone, Copy, Debug, PartialEq, Eq)]
 pub enum TestError {
     // The volume or the plan is refused.
     Refused(Refusal),

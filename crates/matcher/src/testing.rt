@@ -15,7 +15,7 @@ use super::cursor::{Cursor, Document, list_cursor, starts_of};
 use super::least::match_from;
 use super::rarest::rarest_first;
 use super::store::put_row;
-use plan::{Checked, MOST_PATTERN_VARS, MOST_PATTERNS, Outline, lay_out, list_at, outline_at};
+use plan::{MOST_PATTERN_VARS, MOST_PATTERNS, Outline, lay_out, list_at};
 use volume::Posting;
 
 // Whether no position is over 65,535.
@@ -118,17 +118,10 @@ fn test_pattern(
     requires pattern_lt_patterns { pattern < patterns }
     ensures { said_tested result ≡ test_answer volume.now plan.now pattern doc positions.now }
 {
-    let mut table: [usize; 4 * MOST_PATTERNS] = [0; 4 * MOST_PATTERNS];
+    let mut table = [Outline::NONE; MOST_PATTERNS];
     lay_out(plan, patterns, &mut table);
-    let outline = outline_at(&table, pattern);
-    let vars = outline.vars;
-    if positions.len() != vars {
-        return Err(TestError::OutOfRange);
-    }
-    if Posting::LAST_DOC < doc {
-        return Err(TestError::OutOfRange);
-    }
-    if !in_document(positions) {
+    let outline = table[pattern];
+    if positions.len() != outline.vars || Posting::LAST_DOC < doc || !in_document(positions) {
         return Err(TestError::OutOfRange);
     }
     Ok(is_match(volume, plan, outline, doc, positions))
@@ -144,21 +137,16 @@ pub fn test(
 ) -> Result<bool, TestError>
     ensures { said_tested result ≡ test_answer volume.now plan.now pattern doc positions.now }
 {
-    let checked = plan::check(volume, plan);
-    match checked {
-        Checked::Refused(why) => Err(TestError::Refused(why)),
-        Checked::Accepted(patterns, _) => {
-            if patterns <= pattern {
-                return Err(TestError::OutOfRange);
-            }
-            test_pattern(
-                volume,
-                plan,
-                patterns as usize,
-                pattern as usize,
-                doc,
-                positions,
-            )
-        }
+    let sizes = plan::check(volume, plan)?;
+    if sizes.patterns <= pattern {
+        return Err(TestError::OutOfRange);
     }
+    test_pattern(
+        volume,
+        plan,
+        sizes.patterns as usize,
+        pattern as usize,
+        doc,
+        positions,
+    )
 }

@@ -34,7 +34,7 @@ use Rattle.plan.specs.declared.row.Kind.TheVariants as kind
 use Rattle.plan.specs.Limits.{most_rows}
 use Rattle.plan.specs.Rows.{row_at}
 use Rattle.plan.specs.Patterns.{Pattern}
-use Rattle.plan.specs.Answers.{Sizes}
+use Rattle.plan.specs.declared.answers.Sizes.{Sizes}
 use Rattle.plan.specs.Check.{verdict}
 use Rattle.plan.specs.Accepted.{pattern_at, Given}
 use Rattle.plan.specs.declared.outline.Outline.{Outline}
