@@ -110,7 +110,15 @@ pub fn match_from(
                 if x < held {
                     return false;
                 }
-                if !jump(volume, document.doc, ends[x], x, short.need, here, positions) {
+                if !jump(
+                    volume,
+                    document.doc,
+                    ends[x],
+                    x,
+                    short.need,
+                    here,
+                    positions,
+                ) {
                     return false;
                 }
                 largest = largest.max(positions[x]);

@@ -39,10 +39,8 @@ fn distance(positions: &[u32], a: usize, b: usize, limit: u32) -> Option<Shortfa
         return None;
     }
     let need = far - (limit + 1);
-    if first < second {
-        return Some(Shortfall { var: a, need });
-    }
-    Some(Shortfall { var: b, need })
+    let var = if first < second { a } else { b };
+    Some(Shortfall { var, need })
 }
 
 // BEFORE: whether a stands in front of b; if not, b is left short.
@@ -56,10 +54,8 @@ fn ordered(positions: &[u32], a: usize, b: usize) -> Option<Shortfall>
     if first < positions[b] {
         return None;
     }
-    Some(Shortfall {
-        var: b,
-        need: first + 1,
-    })
+    let need = first + 1;
+    Some(Shortfall { var: b, need })
 }
 
 // SAME TITLE: whether a and b stand in one paragraph: both have a start, and it is the same. It is
@@ -90,20 +86,11 @@ fn samepara(
     let pos = first.max(second);
     let para = para_of(volume, document, pos, paras[last], paras[other]);
     paras[last] = para.at;
-    let start = needed_start(volume, document, para);
-    if start <= first.min(second) {
+    let need = needed_start(volume, document, para);
+    if need <= first.min(second) {
         return None;
     }
-    if first < second {
-        return Some(Shortfall {
-            var: a,
-            need: start,
-        });
-    }
-    Some(Shortfall {
-        var: b,
-        need: start,
-    })
+    Some(Shortfall { var: other, need })
 }
 
 // SPAN: whether the largest and the smallest position differ by at most limit - 1; if not, the first
@@ -156,10 +143,8 @@ fn proximity(positions: &[u32], a: usize, b: usize, least: u16, most: u16) -> Op
     }
     let span = u32::from(most) + 1;
     if first + span < second {
-        return Some(Shortfall {
-            var: a,
-            need: second - span,
-        });
+        let need = second - span;
+        return Some(Shortfall { var: a, need });
     }
     None
 }

@@ -1,13 +1,13 @@
 use native.Mathlib.Omega.{arith}
 use mathlib.Core.Path.{◌≡◌, refl, subst, ◌∙◌}
-use mathlib.Core.Bool.{Bool, false}
+use mathlib.Core.Bool.{Bool}
 use Prim.Native.Nat.{◌-◌, ◌<◌, max}
 use lib.ListN.{length, get_or, take}
 use Rattle.volume.specs.Layout.{lists_of}
 use Rattle.fulltext.specs.Matches.{starts_in}
 use Rattle.matcher.specs.Inner.Shortfall.{LeftShort, Told}
 use Rattle.matcher.specs.Inner.Settling.{Jumped}
-use Rattle.matcher.proofs.Laws.Tried.{slack, Tried, some-vars, few-vars, tried-turn, tried-first, tried-last, tried_asks, predicate_asks, tried-holds, jump-var, jump-stretch, tried-held, tried-out, tried-jump, tried-done}
+use Rattle.matcher.proofs.Laws.Tried.{slack, Tried, some-vars, tried-turn, tried-first, tried-last, tried_asks, predicate_asks, tried-holds, jump-var, jump-stretch, tried-held, tried-out, tried-jump, tried-done}
 use Rattle.matcher.proofs.least.match_from.Goals as goal
 use Rattle.matcher.proofs.least.match_from.Goals.{After-falls_short-told, Else-not-jump, In-Some}
 
