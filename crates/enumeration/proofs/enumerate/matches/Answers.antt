@@ -11,7 +11,7 @@ pub returns-then-patterns-pattern : goal.returns-then-patterns-pattern
 returns-then-patterns-pattern c =
     let a = c.args in
     let e = sym (sym (ap said_checked c.in-Accepted.is) ∙ c.check-checked.ensures) in
-    told-refused a.volume.now a.plan.now a.pattern a.doc a.from.now a.out.now 17 0 (matched_17 _ _ _ _ _ _ _ e (range-missing _ _ _ _ _ c.if-patterns-pattern.true))
+    told-refused a.volume.now a.plan.now a.pattern a.doc a.from.now a.out.now 17 0 (matched_17 _ _ _ _ _ _ _ e (range-missing _ _ _ _ _ (omega arith)))
 
 pub matches_of-requires : goal.matches_of-requires
 matches_of-requires c =

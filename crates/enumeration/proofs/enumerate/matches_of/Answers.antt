@@ -46,8 +46,8 @@ returns-then-from-outline c =
     told-refused a.volume.now a.plan.now a.pattern a.doc a.from.now a.out.now 17 0
     (matched_17 _ _ _ _ _ _ (sizes a.plan.now) c.requires.accepted
     (elim c.then-from-outline.branch [
-      | then-from-outline-via-then-from-outline w ↦ range-number _ _ _ _ _ (omega arith) (λ e. w.if-from-outline.true (omega arith))
-      | then-from-outline-via-else-from-outline+then-doc-gt-LAST_DOC w ↦ range_doc _ _ _ _ _ (omega arith) (omega arith) w.if-doc-gt-LAST_DOC.true
+      | then-from-outline-via-then-from-outline w ↦ range-number _ _ _ _ _ (omega arith) (λ e. omega arith)
+      | then-from-outline-via-else-from-outline+then-doc-gt-LAST_DOC w ↦ range_doc _ _ _ _ _ (omega arith) (omega arith) (omega arith)
       | then-from-outline-via-else-from-outline+else-doc-gt-LAST_DOC+then-not-in_document w
           ↦ range_small _ _ _ _ _ (omega arith) (omega arith) (omega arith) false (sym w.in_document.ensures ∙ w.if-not-in_document.true)
     ]))
@@ -58,7 +58,7 @@ returns-then-out-outline c =
     let a = c.args in
     told-refused a.volume.now a.plan.now a.pattern a.doc a.from.now a.out.now 16 0
     (matched_16 _ _ _ _ _ _ (sizes a.plan.now) c.requires.accepted (range_small _ _ _ _ _ (omega arith) (omega arith) (omega arith) true (sym c.in_document.ensures ∙ c.if-not-in_document.false))
-    (let v = o.entry.outlines.vars_are in let k = o.pattern-is in let t = c.if-out-outline.true in omega arith))
+    (let v = o.entry.outlines.vars_are in let k = o.pattern-is in omega arith))
 
 -- the pattern has at most eight variables
 few : (c : After-outline_at-outline) → c.outline_at-outline.result.vars ≤ 8
