@@ -1,75 +1,45 @@
-// A volume that has been checked, lent to whoever reads its lists.
+// A volume that has been checked.
 ghost use Rattle.std.specs.Prelude.{◌≡◌, ℕ, ◌<◌, ◌≤◌, length, get_or, IfOk, IfErr};
 ghost use Rattle.volume.specs.Answers.{said_refusal};
-ghost use Rattle.volume.specs.Layout.{list_count, posting_count, start};
+ghost use Rattle.volume.specs.Layout.{list_count, start};
 ghost use Rattle.volume.specs.Check.{Accepted, verdict};
 ghost use Rattle.volume.specs.Inner.Places.{list_span_of};
 
-use super::answers::{Refusal, Sizes};
+use super::answers::Refusal;
 use super::checking::check;
 use super::layout::ListSpan;
 use super::reading::{list_span, list_starts};
-use std::marker::Model;
 
-// The bytes of an accepted volume, and its sizes.
-#[derive(Drop)]
+// The bytes of an accepted volume.
+#[derive(Clone, Copy)]
 pub struct Volume<'a> {
-    bytes: &'a [u8],
-    sizes: Sizes,
-}
-
-impl<'a> Model for Volume<'a> {
-    ghost use Rattle.std.specs.Prelude.{◌≡◌, List, ℕ};
-    ghost use Rattle.volume.specs.Layout.{list_count, posting_count};
-    ghost use Rattle.volume.specs.Check.{Accepted};
-
-    ghost Value = { List ℕ };
-
-    ghost view = { λ v. v.bytes.now };
-
-    ghost invariant = { λ v. Accepted v.bytes.now
-        × (v.sizes.lists ≡ list_count v.bytes.now)
-        × (v.sizes.postings ≡ posting_count v.bytes.now) };
+    pub bytes: &'a [u8],
+    ghost accepted: { Accepted bytes.now },
 }
 
 impl<'a> Volume<'a> {
-    // A volume, or why it is refused.
+    // The volume, or why it is refused.
     pub fn open(bytes: &'a [u8]) -> Result<Volume<'a>, Refusal>
-        ensures ok { IfOk result (λ volume. volume ≡ bytes.now) }
+        ensures ok { IfOk result (λ volume. volume.bytes.now ≡ bytes.now) }
         ensures err { IfErr result (λ why. said_refusal why ≡ verdict bytes.now) }
     {
-        let sizes = check(bytes)?;
-        Ok(Volume { bytes, sizes })
-    }
-
-    // Its bytes.
-    pub fn bytes(&self) -> &[u8]
-        ensures { result.now ≡ self.now }
-    {
-        self.bytes
-    }
-
-    // The number of its lists and of its postings.
-    pub fn sizes(&self) -> Sizes
-        ensures lists { result.lists ≡ list_count self.now }
-        ensures postings { result.postings ≡ posting_count self.now }
-    {
-        self.sizes
+        check(bytes)?;
+        Ok(Volume { bytes })
     }
 
     // Where a list lies.
     pub fn list_span(&self, list: usize) -> ListSpan
-        requires { list < list_count self.now }
-        ensures { result ≡ list_span_of self.now list }
+        requires { list < list_count self.now.bytes.now }
+        ensures { result ≡ list_span_of self.now.bytes.now list }
     {
         list_span(self.bytes, list)
     }
 
     // Where the first n lists lie.
     pub fn list_starts(&self, n: usize, starts: &mut [usize])
-        requires n_bound { n ≤ list_count self.now }
+        requires n_bound { n ≤ list_count self.now.bytes.now }
         requires n_in_bounds { n < length starts.old }
-        ensures by_index { (i : ℕ) → i ≤ n → get_or starts.new i 0 ≡ start self.now i }
+        ensures by_index { (i : ℕ) → i ≤ n → get_or starts.new i 0 ≡ start self.now.bytes.now i }
         ensures starts_len_unchanged { length starts.new ≡ length starts.old }
     {
         list_starts(self.bytes, n, starts);
