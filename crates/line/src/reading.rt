@@ -98,11 +98,8 @@ fn line(
     requires { (at ≤ length text.now) × (length text.now ≤ 2048) × (depth ≤ 8) × (first + length (pending_rows waiting) ≤ at) }
     ensures { LineRead text.now at depth first waiting out.old out.new result }
 {
-    let Reached {
-        at: end,
-        rows: read,
-    } = part(text, at, depth, first, None, out)?;
-    let rows = settle(out, read, waiting);
+    let Reached { at: end, rows } = part(text, at, depth, first, None, out)?;
+    let rows = settle(out, rows, waiting);
     if text.get(end) == Some(&b'|') {
         return line(text, end + 1, depth, rows, Some(Connective::Or), out);
     }
@@ -122,11 +119,8 @@ fn part(
     requires { (at ≤ length text.now) × (length text.now ≤ 2048) × (depth ≤ 8) × (first + length (pending_rows waiting) ≤ at) }
     ensures { PartRead text.now at depth first waiting out.old out.new result }
 {
-    let Reached {
-        at: end,
-        rows: read,
-    } = item(text, at, depth, first, out)?;
-    let rows = settle(out, read, waiting);
+    let Reached { at: end, rows } = item(text, at, depth, first, out)?;
+    let rows = settle(out, rows, waiting);
     let next = text.get(end);
     if next == Some(&b'&') {
         return part(text, end + 1, depth, rows, Some(Connective::And), out);
