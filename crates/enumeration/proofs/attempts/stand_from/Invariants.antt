@@ -4,4 +4,4 @@ use Rattle.enumeration.proofs.Laws.Attempts.{Standing-to}
 use Rattle.enumeration.proofs.attempts.stand_from.Given as goal
 
 abbrev pub invariant-loop-x : goal.invariant-loop-x
-invariant-loop-x l = Standing-to l.volume l.doc (take l.n l.order) l.ends l.lows l.marks l.initial.here l.initial.positions l.here l.positions l.x-index
+invariant-loop-x l = Standing-to l.pattern.volume.now l.pattern.document.doc (take l.pattern.outline.vars l.pattern.order) l.pattern.ends l.lows l.marks l.initial.here l.initial.positions l.here l.positions l.x-index
