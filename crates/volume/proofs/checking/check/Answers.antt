@@ -1,11 +1,6 @@
 -- `checking::check` meets its contract: the length, the blocks, and then the stream. Assumes nothing.
-use native.Mathlib.Omega.{arith}
-use Prim.Native.Nat.{◌%◌, ◌<◌, ◌≤◌, ◌*◌}
-use lib.ListN.{length}
 use mathlib.Core.Path.{◌≡◌, sym, ◌∙◌}
 use mathlib.Core.Bool.{false}
-use mathlib.Core.List.{List}
-use mathlib.Core.Logic.{◌⊎◌, inl, inr}
 use Rattle.std.proofs.lemmas.Result.{err_from_is_err_and}
 use Rattle.volume.specs.Check.{length_wrong}
 use Rattle.volume.proofs.Laws.Check.{length_right, verdict-length, verdict_stream}

@@ -1,7 +1,6 @@
 use native.Mathlib.Omega.{arith}
-use Prim.Native.Nat.{◌+◌, ◌-◌, ◌≤◌, ◌<◌}
-use mathlib.Core.Path.{◌≡◌, refl, sym, ◌∙◌}
-use mathlib.Core.Bool.{◌&&◌}
+use Prim.Native.Nat.{◌+◌, ◌-◌, ◌<◌}
+use mathlib.Core.Path.{◌≡◌, sym, ◌∙◌}
 use Rattle.volume.proofs.Laws.Falls.{falls_again, falls-done}
 use Rattle.volume.proofs.order.rising.Goals as goal
 
@@ -15,11 +14,13 @@ loop-i-preserved g c =
     let l = c.loop-i in
     let here : l.i - 1 + 1 ≡ l.i = omega arith in
     let next : l.i + 1 - 1 ≡ l.i = omega arith in
-    let before : l.i - 1 < c.args.end = omega arith in
-    (omega arith, λ f value.
-    let again = falls_again f l.falls (l.i - 1) c.args.end (omega arith) in
-    rw (next, c.fall_of-falls.ensures.value, value _ _ before c.word.ensures, value _ _ c.loop-i-test.true c.word-in-loop-i.ensures)
-    (sym (rw here at again) ∙ l.invariant.1 f value))
+    let before : l.i - 1 < c.args.end = omega arith in (
+      omega arith,
+      λ f value.
+          let again = falls_again f l.falls (l.i - 1) c.args.end (omega arith) in
+          rw (next, c.fall_of-falls.ensures.value, value _ _ before c.word.ensures, value _ _ c.loop-i-test.true c.word-in-loop-i.ensures)
+          (sym (rw here at again) ∙ l.invariant.1 f value),
+    )
 
 pub returns : goal.returns
 returns g c =

@@ -2,7 +2,6 @@
 -- j of them are stored behind the first four bytes, and the rest is as it was (`Filling`). Assumes nothing.
 use Prim.Native.Nat.{ℕ, ◌+◌, ◌<◌}
 use mathlib.Core.Path.{◌≡◌}
-use lib.ListN.{length}
 use Rattle.volume.proofs.Laws.Storing.{Filling}
 use Rattle.volume.proofs.writing.put_words.Given as goal
 
