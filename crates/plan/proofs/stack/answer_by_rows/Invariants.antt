@@ -7,6 +7,3 @@ use Rattle.plan.proofs.stack.answer_by_rows.Given as goal
 
 abbrev pub invariant-loop-i : goal.invariant-loop-i
 invariant-loop-i l = Reading l.plan l.bits l.stack l.rest l.i
-
-abbrev pub decreases-loop-i : goal.decreases-loop-i
-decreases-loop-i l = row_count l.plan - l.i
