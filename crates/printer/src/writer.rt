@@ -7,7 +7,6 @@ ghost use Rattle.printer.specs.Inner.Trees.{LineWritten};
 
 use super::answers::WriteError;
 use super::trees::{Level, put_tree};
-use plan::Checked;
 
 // No line of an accepted plan has more bytes.
 const MOST_BYTES: usize = 2048;
@@ -34,9 +33,6 @@ pub fn write(volume: &[u8], plan: &[u32], out: &mut [u8]) -> Result<u32, WriteEr
     ensures out_after { out.new
         ≡ write_out volume.now plan.now out.old }
 {
-    let checked = plan::check(volume, plan);
-    match checked {
-        Checked::Refused(why) => Err(WriteError::Refused(why)),
-        Checked::Accepted(_, _) => write_line(plan, out),
-    }
+    plan::check(volume, plan)?;
+    write_line(plan, out)
 }

@@ -13,7 +13,8 @@ use lib.ListN.{length}
 use borrow.Author.Tests.{lt-ltb, le-ltb}
 use Rattle.seq.specs.Refusals.{answered, laid}
 use Rattle.plan.specs.declared.answers.Refusal.{Refusal}
-use Rattle.plan.specs.Answers.{Sizes, said_refusal}
+use Rattle.plan.specs.declared.answers.Sizes.{Sizes}
+use Rattle.plan.specs.Answers.{said_refusal}
 use Rattle.plan.specs.Rows.{row_count, rows_of}
 use Rattle.plan.specs.Check.{verdict, sizes, Accepted}
 use Rattle.plan.proofs.Laws.Check.{verdict-passed}
