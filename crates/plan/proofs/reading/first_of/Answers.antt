@@ -1,12 +1,10 @@
 use native.Mathlib.Omega.{arith}
 use Prim.Native.Nat.{ℕ, ◌<◌, ◌≤◌}
-use mathlib.Core.Path.{◌≡◌, sym, ap, ◌∙◌}
-use mathlib.Core.Bool.{Bool, true, false}
+use mathlib.Core.Path.{◌≡◌, sym, ◌∙◌}
+use mathlib.Core.Bool.{true, false}
 use mathlib.Core.Logic.{⊎_elim}
 use Rattle.seq.proofs.Laws.Tests.{below_or}
 use Rattle.seq.proofs.Laws.Numbers.{first_hit, first_miss, first-end}
-use Rattle.plan.specs.declared.row.Kind.{Kind}
-use Rattle.plan.specs.declared.row.Row.{Row}
 use Rattle.plan.specs.Rows.{row_count, row_at}
 use Rattle.plan.specs.Parts.{first_of}
 use Rattle.plan.proofs.Laws.Accepted.{given}
@@ -19,14 +17,16 @@ pub returns-then-test : goal.returns-then-test
 unfolding first_of
 returns-then-test g c = λ sort same.
     let p = c.args.plan.now in
-    let e : sort (row_at p c.loop-i.i).kind ≡ true = rw (sym c.row_at.ensures) (sym (same _ _ c.test.ensures) ∙ c.if-test.true) in
+    let held : c.test.result ≡ sort c.row_at.result.kind = same c.row_at.result.kind c.test.result c.test.ensures in
+    let e : sort (row_at p c.loop-i.i).kind ≡ true = rw (sym c.row_at.ensures, sym held) c.if-test.true in
     sym (first_hit (λ j. sort (row_at p j).kind) c.loop-i.i (row_count p) c.loop-i-test.true e) ∙ c.loop-i.invariant sort same
 
 pub loop-i-preserved : goal.loop-i-preserved
 unfolding first_of
 loop-i-preserved g c = λ sort same.
     let p = c.args.plan.now in
-    let e : sort (row_at p c.loop-i.i).kind ≡ false = rw (sym c.row_at.ensures) (sym (same _ _ c.test.ensures) ∙ c.if-test.false) in
+    let held : c.test.result ≡ sort c.row_at.result.kind = same c.row_at.result.kind c.test.result c.test.ensures in
+    let e : sort (row_at p c.loop-i.i).kind ≡ false = rw (sym c.row_at.ensures, sym held) c.if-test.false in
     sym (first_miss (λ j. sort (row_at p j).kind) c.loop-i.i (row_count p) c.loop-i-test.true e) ∙ c.loop-i.invariant sort same
 
 pub returns : goal.returns
