@@ -2,7 +2,7 @@ use native.Mathlib.Omega.{arith}
 use Prim.Native.Nat.{ℕ, ◌+◌}
 use mathlib.Core.Path.{refl, sym, ap, ◌∙◌, subst}
 use mathlib.Core.List.{List}
-use Rattle.line.specs.declared.reading.Reached.TheVariants.{At}
+use Rattle.std.proofs.Common.{Ok}
 use Rattle.line.specs.Inner.Reads.{FigureRead}
 use Rattle.line.specs.Inner.Store.{put_words}
 use Rattle.line.proofs.Laws.Figure.{Within, within_first, within-length, within-most, within_end, within-goes, within_emits}
@@ -35,7 +35,7 @@ returns-in-Closes c =
     let l = c.loop-at in
     let closes = sym c.step-next.ensures ∙ c.in-Closes.is in
     let row = ap (λ (o : List ℕ). put_words o (l.rows + 1) (record { kind = 6; a = 0; b = 0; c = 0 })) c.put-in-Closes.ensures in
-    subst (λ (o : List ℕ). FigureRead a.text.now a.from a.first a.out.now o (At (l.at + 1) (l.rows + 2)))
+    subst (λ (o : List ℕ). FigureRead a.text.now a.from a.first a.out.now o (Ok (record { at = l.at + 1; rows = l.rows + 2 })))
     (sym (c.put-in-Closes-2.ensures ∙ row))
     (within-closes a.text.now a.from a.first a.out.now l.at l.state l.rows l.out l.invariant (omega arith)
     c.in-Closes.words (record { kind = 6; a = 0; b = 0; c = 0 }) refl closes)
