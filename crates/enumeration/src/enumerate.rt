@@ -4,6 +4,7 @@ ghost use Rattle.plan.specs.Check.{Accepted, sizes};
 ghost use Rattle.plan.specs.Accepted.{pattern_at};
 ghost use Rattle.plan.specs.Inner.Outline.{Outlines};
 ghost use Rattle.matcher.specs.Inner.Shortfall.{InDocument};
+ghost use Rattle.matcher.specs.Inner.Cursors.{no_cursor};
 ghost use Rattle.matcher.specs.Inner.Tables.{cursor_on};
 ghost use Rattle.enumeration.specs.Answers.{said_matched};
 ghost use Rattle.enumeration.specs.Enumeration.{Kept};
@@ -18,24 +19,13 @@ use volume::{MAX_LISTS, Posting};
 
 // A cursor for each variable of a pattern, at its list's first posting in document `doc` or a later
 // one. One pass over the counts gives the starts of all lists.
-fn set_cursors(
-    volume: &[u8],
-    plan: &[u32],
-    outline: Outline,
-    doc: u32,
-    firsts: &mut [usize],
-    ends: &mut [usize],
-)
+fn set_cursors(volume: &[u8], plan: &[u32], outline: Outline, doc: u32, cursors: &mut [Cursor])
     requires accepted { Accepted volume.now plan.now }
     requires pattern_bound { outline.pattern < (sizes plan.now).patterns }
     requires outlines { Outlines plan.now outline }
-    requires vars_in_bounds { outline.vars ≤ length firsts.old }
-    requires vars_in_bounds_2 { outline.vars ≤ length ends.old }
-    ensures firsts_len_unchanged { length firsts.new ≡ length firsts.old }
-    ensures ends_len_unchanged { length ends.new ≡ length ends.old }
-    ensures by_index { (x : ℕ) → x < outline.vars
-        → record { at = get_or firsts.new x 0; end = get_or ends.new x 0 }
-        ≡ cursor_on volume.now (get_or (pattern_at plan.now outline.pattern).vars x 0) doc }
+    requires vars_in_bounds { outline.vars ≤ length cursors.old }
+    ensures { (x : ℕ) → x < outline.vars
+        → get_or cursors.new x no_cursor ≡ cursor_on volume.now (get_or (pattern_at plan.now outline.pattern).vars x 0) doc }
 {
     let mut starts: [usize; MAX_LISTS + 1] = [0; MAX_LISTS + 1];
     let lists = volume::word_at(volume, 1) as usize;
@@ -47,9 +37,7 @@ fn set_cursors(
             at: starts[list],
             end: starts[list + 1],
         };
-        let cursor = first.seek(volume, doc);
-        firsts[x] = cursor.at;
-        ends[x] = cursor.end;
+        cursors[x] = first.seek(volume, doc);
     }
 }
 
@@ -81,7 +69,7 @@ fn write_matches(pattern: &PatternInDocument, from: &[u32], out: &mut [u32]) -> 
     let mut walk = Walk {
         lows,
         marks: pattern.firsts,
-        here: [0; MOST_PATTERN_VARS],
+        here: pattern.firsts,
         positions: [0; MOST_PATTERN_VARS],
         paras: [0; MOST_PATTERN_VARS],
     };
@@ -133,13 +121,12 @@ fn matches_of<'a>(
     if out.len() < outline.vars {
         return Err(MatchError::Short);
     }
-    let mut firsts: [usize; MOST_PATTERN_VARS] = [0; MOST_PATTERN_VARS];
-    let mut ends: [usize; MOST_PATTERN_VARS] = [0; MOST_PATTERN_VARS];
-    set_cursors(volume, plan, outline, doc, &mut firsts, &mut ends);
+    let mut firsts = [Cursor::NONE; MOST_PATTERN_VARS];
+    set_cursors(volume, plan, outline, doc, &mut firsts);
     let list = starts_of(volume);
     let starts = list.seek(volume, doc);
     let document = Document { doc, starts };
-    let mut order: [usize; MOST_PATTERN_VARS] = [0; MOST_PATTERN_VARS];
+    let mut order = [0; MOST_PATTERN_VARS];
     rarest_first(volume, plan, outline, &mut order);
     let found = PatternInDocument {
         volume,
@@ -148,7 +135,6 @@ fn matches_of<'a>(
         document,
         order,
         firsts,
-        ends,
     };
     Ok(write_matches(&found, from, out))
 }

@@ -1,10 +1,11 @@
 // The next match from a tuple on.
-ghost use Rattle.std.specs.Prelude.{◌≡◌, true, ℕ, ◌<◌, ◌≤◌, get_or, take};
+ghost use Rattle.std.specs.Prelude.{◌≡◌, true, ℕ, ◌<◌, ◌≤◌, length, get_or, take};
 ghost use Rattle.seq.specs.Lists.{first};
 ghost use Rattle.volume.specs.Layout.{lists_of};
 ghost use Rattle.fulltext.specs.Order.{matches_from};
+ghost use Rattle.matcher.specs.Inner.Cursors.{ats_of, ends_of};
 ghost use Rattle.matcher.specs.Inner.Settling.{Standing, given_if};
-ghost use Rattle.enumeration.specs.Inner.Attempts.{SoughtIn, form_of, Marked};
+ghost use Rattle.enumeration.specs.Inner.Attempts.{SoughtIn, form_of, Walking};
 
 use super::attempts::{PatternInDocument, Walk, match_held};
 
@@ -14,14 +15,17 @@ use super::attempts::{PatternInDocument, Walk, match_held};
 // those behind it start again at the document's first postings.
 pub fn next_match(pattern: &PatternInDocument, walk: &mut Walk) -> bool
     requires sought { SoughtIn pattern.now }
-    requires marked { Marked pattern.now.volume.now pattern.now.document.doc (form_of pattern.now) walk.old.lows walk.old.marks }
+    requires walking { Walking pattern.now walk.old }
     requires by_index { (x : ℕ) → x < pattern.now.outline.vars → get_or walk.old.lows x 0 ≤ 65536 }
-    ensures lows_value { first (matches_from (lists_of pattern.now.volume.now) pattern.now.document.doc (form_of pattern.now)
+    ensures next_value { first (matches_from (lists_of pattern.now.volume.now) pattern.now.document.doc (form_of pattern.now)
         (take pattern.now.outline.vars walk.old.lows))
         ≡ given_if result (take pattern.now.outline.vars walk.new.positions) }
     ensures standing { result ≡ true
-        → Standing pattern.now.volume.now pattern.now.document.doc (form_of pattern.now) walk.new.here
+        → Standing pattern.now.volume.now pattern.now.document.doc (form_of pattern.now) (ats_of walk.new.here)
         walk.new.positions }
+    ensures ends_unchanged { ends_of walk.new.here ≡ ends_of walk.old.here }
+    ensures lows_len_unchanged { length walk.new.lows ≡ length walk.old.lows }
+    ensures positions_len_unchanged { length walk.new.positions ≡ length walk.old.positions }
 {
     let mut held = pattern.outline.vars - 1;
     while !match_held(pattern, held, walk) {

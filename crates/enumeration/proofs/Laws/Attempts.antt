@@ -1,5 +1,8 @@
 -- How the variables of a pattern are brought to bounds in a document, and its least match from there on. No contract cites this file.
---     Standing-to, standing-done     the first variables of an order are brought to positions that are not below bounds
+--     Standing-to, standing-first, standing-next, standing-out, standing-done     the first variables of an order are brought to
+--                                positions that are not below bounds
+--     mark-start                 a variable set to its mark
+--     set-ats, set-ends, jumps-from     a cursor set to its mark, which jumps from there
 --     posed-vars, posed-some, posed-few      how many variables the pattern has
 --     posed-rise                 the volume's lists rise
 --     whole-stretch, mark-stretch     a variable's list as a stretch of the stream, and from a mark on
@@ -32,11 +35,12 @@ use Rattle.fulltext.specs.Inner.Bounds.{MatchFrom, least_from, HeldMatch}
 use Rattle.fulltext.proofs.Laws.Positions.{lists-rise}
 use Rattle.fulltext.proofs.Laws.Least.{least_from-same}
 use Rattle.matcher.specs.declared.cursor.Document.{Document}
-use Rattle.matcher.specs.Inner.Cursors.{Stretch, list_end}
+use Rattle.matcher.specs.declared.cursor.Cursor.{Cursor}
+use Rattle.matcher.specs.Inner.Cursors.{Stretch, list_end, ats_of, ends_of, no_cursor}
 use Rattle.matcher.specs.Inner.Settling.{Jumped, Standing, Posed}
 use Rattle.matcher.specs.Inner.Order.{Order}
 use Rattle.matcher.proofs.Laws.Volume.{list-stretch}
-use Rattle.matcher.proofs.Laws.Cursors.{seek_ge, seek-at, seek-below, stretch-within}
+use Rattle.matcher.proofs.Laws.Cursors.{seek_ge, seek-at, seek-below, stretch-within, ats-at, ends-at, ats-set, ends-kept}
 use Rattle.matcher.proofs.Laws.Settling.{index, first-low}
 use Rattle.enumeration.specs.Inner.Attempts.{Marked, sought_from, StoodFrom}
 
@@ -125,6 +129,22 @@ module _ (v : List ℕ) (d : ℕ) (order ends lows marks here₀ ps₀ : List �
         rw q at (s.stood c.0 (omega arith));
     out = λ f. absurd (true≢false f);
   }
+
+-- a cursor set to its mark
+module _ (here marks : List Cursor) (x : ℕ) where
+  pub set-ats : ats_of (set here x (get_or marks x no_cursor)) ≡ set (ats_of here) x (get_or (ats_of marks) x 0)
+  set-ats = ats-set here x (get_or marks x no_cursor) ∙ ap (λ (i : ℕ). set (ats_of here) x i) (sym (ats-at marks x))
+
+  pub set-ends : ends_of marks ≡ ends_of here → ends_of (set here x (get_or marks x no_cursor)) ≡ ends_of here
+  set-ends e = ends-kept here x (get_or marks x no_cursor) (sym (ends-at marks x) ∙ ap (λ (es : List ℕ). get_or es x 0) e ∙ ends-at here x)
+
+  -- it jumps from there
+  pub jumps-from : (v : List ℕ) (d need : ℕ) (ends ps : List ℕ) (r : Bool) (here' ps' : List ℕ) → ends_of marks ≡ ends → ends_of here ≡ ends
+      → Jumped v d (get_or (ends_of (set here x (get_or marks x no_cursor))) x 0) need x (ats_of (set here x (get_or marks x no_cursor))) ps r here' ps'
+      → Jumped v d (get_or ends x 0) need x (set (ats_of here) x (get_or (ats_of marks) x 0)) ps r here' ps'
+  jumps-from v d need ends ps r here' ps' m h j =
+      subst (λ (es : List ℕ). Jumped v d (get_or es x 0) need x (set (ats_of here) x (get_or (ats_of marks) x 0)) ps r here' ps') (set-ends (m ∙ sym h) ∙ h)
+      (subst (λ (is : List ℕ). Jumped v d (get_or (ends_of (set here x (get_or marks x no_cursor))) x 0) need x is ps r here' ps') set-ats j)
 
 -- a pattern in a document, from marks in front of its bounds
 module _ (v p : List ℕ) (o : Outline) (doc : Document) (ends : List ℕ) (q : Posed v p o doc ends) where
