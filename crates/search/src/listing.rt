@@ -84,7 +84,7 @@ fn list_docs(
             fresh: from == start,
             starts,
         };
-        let seen = visit(
+        let Some(seen) = visit(
             volume,
             plan,
             table,
@@ -95,16 +95,15 @@ fn list_docs(
             positions,
             &mut docs[..patterns],
             &mut paras,
-        );
-        let doc = seen.doc;
-        if doc == Posting::DOCS {
-            let tally = tally(volume, plan, start, doc, firsts, ends);
+        ) else {
+            let tally = tally(volume, plan, start, Posting::DOCS, firsts, ends);
             return Listing {
                 rows: rows as u32,
                 tally,
                 next: None,
             };
-        }
+        };
+        let doc = seen.doc;
         from = doc + 1;
         if !answer_of(plan, seen.found, &mut known) {
             continue;

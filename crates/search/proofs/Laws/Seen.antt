@@ -10,6 +10,7 @@
 -- Assumes nothing.
 use Prim.Native.Nat.{ℕ, ◌+◌, ◌*◌, ◌/◌, ◌<◌, ◌≤◌}
 use native.Mathlib.Omega.{arith}
+use Rattle.std.specs.Prelude.{None}
 use mathlib.Core.Path.{◌≡◌, refl, sym, ap, ◌∙◌}
 use mathlib.Core.Bool.{Bool, true, false, true≢false}
 use mathlib.Core.Logic.{⊎_elim}
@@ -36,7 +37,7 @@ use Rattle.matcher.proofs.Laws.Cursors.{seek_ge, seek-le, seek-below}
 use Rattle.matcher.proofs.Laws.Volume.{list-stretch}
 use Rattle.plan.proofs.Laws.Outline.{vars-within}
 use Rattle.plan.specs.Inner.Stack.{found_bits}
-use Rattle.search.specs.Inner.Walk.{Stood, Candidate, Pending, Brought, LeastDoc, Walks, SettledAll, Walking, Visited}
+use Rattle.search.specs.Inner.Walk.{Stood, Candidate, Pending, Brought, LeastDoc, Walks, SettledAll, Walking, seen_or_end, Visited}
 use Rattle.search.proofs.Laws.Tally.{var-there}
 
 -- the words of a row, by the plan's sizes
@@ -143,11 +144,11 @@ module _ (v p table orders ends : List ℕ) (w : Walks v p table orders ends) wh
       pos = c.pos;
     }
 
-    pub seen-out : (starts : Cursor) → doc ≡ limit → Visited v p ends from (record { doc = doc; found = 0 }) ats ps docs starts
+    pub seen-out : (starts : Cursor) → doc ≡ limit → Visited v p ends from (seen_or_end None) ats ps docs starts
     seen-out starts e = record {
-      later = seen-from;
-      most = l.most;
-      none = seen_none;
+      later = let f = seen-from in omega arith;
+      most = omega arith;
+      none = λ j f h. seen_none j f (omega arith);
       found_are = λ h. absurd (let z : ⊥ = omega arith in z);
       least = λ h. absurd (let z : ⊥ = omega arith in z);
       walking = λ h. absurd (let z : ⊥ = omega arith in z);
