@@ -46,9 +46,10 @@ fn wider(a: DocRange, b: DocRange) -> DocRange
     ensures low_value { result.low ≡ min a.low b.low }
     ensures past_value { result.past ≡ max a.past b.past }
 {
-    let low = if a.low < b.low { a.low } else { b.low };
-    let past = if a.past < b.past { b.past } else { a.past };
-    DocRange { low, past }
+    DocRange {
+        low: a.low.min(b.low),
+        past: a.past.max(b.past),
+    }
 }
 
 // The documents of all lists of an accepted volume.
@@ -59,12 +60,10 @@ pub fn doc_range(volume: &[u8], lists: usize) -> DocRange
 {
     let mut range = no_docs();
     let mut start = lead(lists);
-    let mut i: usize = 0;
-    while i < lists {
+    for i in 0..lists {
         let count = count_at(volume, i) as usize;
         range = wider(range, list_docs(volume, start, count));
         start += count;
-        i += 1;
     }
     range
 }
