@@ -8,7 +8,7 @@ ghost use Rattle.search.specs.Inner.Walk.{Walking, seen_or_end, Visited};
 
 use super::align::align;
 use matcher::{Cursor, Document, match_from};
-use plan::{Outline, outline_at};
+use plan::Outline;
 use volume::Posting;
 
 // Where a walk goes on: the document from which on, whether no pattern has a document yet, and a
@@ -32,7 +32,7 @@ pub struct Seen {
 fn next_docs(
     volume: &[u8],
     plan: &[u32],
-    table: &[usize],
+    table: &[Outline],
     orders: &[usize],
     fresh: bool,
     doc: u32,
@@ -51,11 +51,10 @@ fn next_docs(
     ensures { Brought volume.now plan.now ends.now ats.old positions.old
         docs.old doc ats.new positions.new docs.new }
 {
-    for k in 0..docs.len() {
+    for (k, outline) in table.iter().enumerate() {
         if !fresh && doc <= docs[k] {
             continue;
         }
-        let outline = outline_at(table, k);
         let first = outline.first;
         docs[k] = align(
             volume,
@@ -121,7 +120,7 @@ fn settle(
 fn settle_all(
     volume: &[u8],
     plan: &[u32],
-    table: &[usize],
+    table: &[Outline],
     document: Document,
     orders: &[usize],
     ends: &[usize],
@@ -144,14 +143,13 @@ fn settle_all(
 {
     let mut bits: u32 = 0;
     let mut weight: u32 = 1;
-    for (k, &doc) in docs.iter().enumerate() {
-        if doc == document.doc {
-            let outline = outline_at(table, k);
-            if settle(
+    for (k, &outline) in table.iter().enumerate() {
+        if docs[k] == document.doc
+            && settle(
                 volume, plan, outline, document, orders, ends, ats, positions, paras,
-            ) {
-                bits += weight;
-            }
+            )
+        {
+            bits += weight;
         }
         weight *= 2;
     }
@@ -164,7 +162,7 @@ fn settle_all(
 pub fn visit(
     volume: &[u8],
     plan: &[u32],
-    table: &[usize],
+    table: &[Outline],
     orders: &[usize],
     walk: Walk,
     ats: &mut [usize],

@@ -88,10 +88,10 @@ abbrev pub Ordered : List ℕ → List ℕ → Type 0
 Ordered p orders = (k : ℕ) → k < (sizes p).patterns → Order (length (pattern_at p k).vars) (drop (vars_before p k) orders)
 
 -- an accepted volume and plan, with the plan's table, an order of each pattern's variables and the ends of their lists
-pub record Walks (v p table orders ends : List ℕ) : Type 0 where
+pub record Walks (v p : List ℕ) (table : List Outline) (orders ends : List ℕ) : Type 0 where
   pub accepted : Accepted v p
   pub tabled : Tabled p table
-  pub table-room : 4 * (sizes p).patterns ≤ length table
+  pub table-length : length table ≡ (sizes p).patterns
   pub ends-room : (sizes p).vars ≤ length ends
   pub ordered : Ordered p orders
 
