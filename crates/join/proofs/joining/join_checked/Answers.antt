@@ -3,6 +3,7 @@
 use native.Mathlib.Omega.{arith}
 use Prim.Native.Nat.{ℕ, ◌≤◌}
 use mathlib.Core.Path.{◌≡◌, sym, ap, ap₂, ◌∙◌}
+use Rattle.std.proofs.Common.{Option}
 use Rattle.std.specs.Int.{div_ceil}
 use Rattle.volume.specs.Layout.{list_count, posting_count, blocks_for}
 use Rattle.volume.specs.Check.{Accepted}
@@ -50,7 +51,7 @@ given c =
 -- what the test of 25 finds
 clash-is : (c : After-docs_clash)
     → c.docs_clash.result ≡ found c.args.raise c.args.first.now c.args.second.now c.args.out.now
-clash-is c = c.docs_clash.ensures ∙ ap₂ (λ (a b : DocRange). clash c.args.raise a b) c.doc_range.ensures c.doc_range-2.ensures
+clash-is c = c.docs_clash.ensures ∙ ap₂ (λ (a b : Option DocRange). clash c.args.raise a b) c.doc_range.ensures c.doc_range-2.ensures
 
 -- the number of blocks, as `div_ceil` gives it
 blocks_are : (n e : ℕ) → n ≡ div_ceil e 126 → n ≡ blocks_for e
