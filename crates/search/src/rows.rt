@@ -81,7 +81,7 @@ pub fn write_row(
     let mut near = block;
     let mut to = from + 1;
     let mut left = found;
-    for outline in table {
+    for &outline in table {
         let first = outline.first;
         let vars = outline.vars;
         let flag = left % 2;

@@ -21,7 +21,7 @@ fn lists_used(plan: &[u32], table: &[Outline]) -> usize
     ensures { ListsUsed plan.now (sizes plan.now).vars result }
 {
     let mut used: usize = 0;
-    for outline in table {
+    for &outline in table {
         let row = outline.condition - outline.vars;
         for i in 0..outline.vars {
             let list = list_at(plan, row + i) as usize;
@@ -69,7 +69,7 @@ pub fn set_cursors(
     let mut starts: [usize; MAX_LISTS + 1] = [0; MAX_LISTS + 1];
     let used = lists_used(plan, table);
     volume::list_starts(volume, used, &mut starts);
-    for outline in table {
+    for &outline in table {
         let row = outline.condition - outline.vars;
         for i in 0..outline.vars {
             let list = list_at(plan, row + i);

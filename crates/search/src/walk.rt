@@ -51,7 +51,7 @@ fn next_docs(
     ensures { Brought volume.now plan.now ends.now ats.old positions.old
         docs.old doc ats.new positions.new docs.new }
 {
-    for (k, outline) in table.iter().enumerate() {
+    for (k, &outline) in table.iter().enumerate() {
         if !fresh && doc <= docs[k] {
             continue;
         }

@@ -1,4 +1,4 @@
-use Prim.Native.Nat.{◌*◌, ◌/◌, ◌<◌, ◌≤◌}
+use Prim.Native.Nat.{◌*◌, ◌<◌, ◌≤◌}
 use native.Mathlib.Omega.{arith}
 use mathlib.Core.Path.{◌≡◌, refl, sym, ap, subst, ◌∙◌}
 use lib.ListN.{length, take}
@@ -22,12 +22,12 @@ use Rattle.search.proofs.listing.list_docs.Goals as goal
 use Rattle.search.proofs.listing.list_docs.Goals.{After-answer_of, After-row_words-width, After-visit, In-Some, In_default, Start}
 
 -- the number of patterns, and the words of a row
-many : (c : Start) → length c.args.table.now / 4 ≡ (sizes c.args.plan.now).patterns
-many c = let t = c.requires.table_len in omega arith
+many : (c : Start) → length c.args.table.now ≡ (sizes c.args.plan.now).patterns
+many c = c.requires.walks.table-length
 
 wide : (c : After-row_words-width) →
     c.row_words-width.result ≡ row_words (sizes c.args.plan.now).patterns (sizes c.args.plan.now).vars
-wide c = let e = c.row_words-width.ensures in let t = c.requires.table_len in let f = c.requires.firsts_len in omega arith
+wide c = let e = c.row_words-width.ensures in let t = c.requires.walks.table-length in let f = c.requires.firsts_len in omega arith
 
 few : (c : Start)
     → ((sizes c.args.plan.now).patterns ≤ most_patterns)
@@ -44,7 +44,7 @@ ended c = visit-reached _ _ _ _ _ _ _ _ _ _ _ (rw c.in_default.is at c.visit.ens
 
 -- the arrays keep their lengths
 docs-size : (c : After-visit) →
-    length c.visit.new.docs ≡ length (take (length c.args.table.now / 4) c.loop-seen.docs)
+    length c.visit.new.docs ≡ length (take (length c.args.table.now) c.loop-seen.docs)
 docs-size c = c.visit.auto.docs
 
 ats-size : (c : After-visit) → length c.visit.new.ats ≡ length c.args.ats.now
@@ -104,7 +104,7 @@ loop-seen-init c =
       visiting-first _ _ _ _ _ _ _ _ _ low
           (walking-first _ _ _ _ _ p.walks _ c.args.firsts.now _ _ _ low (omega arith) p.plan_in_bounds p.cursors
           p.ats_value
-          (length-take-le (length c.args.table.now / 4) _ (omega arith) ∙ m) _ at),
+          (length-take-le (length c.args.table.now) _ (omega arith) ∙ m) _ at),
       (
         refl,
         (refl, (refl, (remembers-first c.args.plan.now most_found_sets, (refl, (refl, block-first _ _ _ _ _ p.walks _ _ at))))),
@@ -123,7 +123,7 @@ slice_bounds-visit-end c =
     let m = many (goal.at.slice_bounds-visit-end c).Start in
     let n = (few (goal.at.slice_bounds-visit-end c).Start).0 in
     let l = c.loop-seen.invariant.1.0 in
-    sym (length-take-le (length c.args.table.now / 4) _ (omega arith))
+    sym (length-take-le (length c.args.table.now) _ (omega arith))
 
 pub slice_bounds-visit-end-in-loop-seen : goal.slice_bounds-visit-end-in-loop-seen
 slice_bounds-visit-end-in-loop-seen c = sym c.loop-seen.invariant.1.1.1.1.1.1.0
@@ -201,7 +201,7 @@ loop-seen-preserved-then-not-answer_of c =
           (visit-passed _ _ _ _ _ _ _ _ _ _ _ c.in-Some.ensures.visited _ _ c.loop-seen.invariant.0.progress c.in-Some.ensures.document
           (told (goal.at.loop-seen-preserved-then-not-answer_of c).After-answer_of ∙ c.if-not-answer_of.true)),
       (
-        part_length c.loop-seen.docs c.visit.new.docs (length c.args.table.now / 4)
+        part_length c.loop-seen.docs c.visit.new.docs (length c.args.table.now)
             most_patterns (docs-size (goal.at.loop-seen-preserved-then-not-answer_of c).After-visit) c.loop-seen.invariant.1.0,
         (ats-size (goal.at.loop-seen-preserved-then-not-answer_of c).After-visit, (known-size (goal.at.loop-seen-preserved-then-not-answer_of c).After-answer_of, (remembers (goal.at.loop-seen-preserved-then-not-answer_of c).After-answer_of, (positions-size (goal.at.loop-seen-preserved-then-not-answer_of c).After-visit, (paras-size (goal.at.loop-seen-preserved-then-not-answer_of c).After-visit, within))))),
       ),
@@ -256,15 +256,14 @@ write_row-block-requires c =
     let r = visit-room _ _ _ _ _ _ c.loop-seen.rows _ w c.loop-seen.invariant.0.progress (λ e. omega arith) in
     let reach = (c.in-Some.ensures.visited.walking c.in-Some.ensures.document).positions-room in
     let m = many (goal.at.write_row-block-requires c).Start in
-    let t = c.requires.table_len in record {
+    let t = c.requires.walks.table-length in record {
       accepted = (given _ _ c.requires.walks.accepted).volume-accepted;
       at_document = at-document _ _ _ _ c.in-Some.ensures.visited.later c.in-Some.ensures.document walking.starts-at walking.starts-end;
       whole = rw c.blocks_of-blocks.ensures (blocks-whole _);
       block_bound = c.loop-seen.invariant.1.1.1.1.1.1.1;
-      patterns_in_bounds = omega arith;
       by_index = λ k h. let v = walk-within _ _ _ _ _ c.requires.walks k (omega arith) in omega arith;
       by_index_2 = visit-small _ _ _ _ _ c.requires.walks _ _ _ _ _ _ c.in-Some.ensures.visited c.in-Some.ensures.document _ (many (goal.at.write_row-block-requires c).Start);
-      patterns_in_bounds_2 = omega arith;
+      row_in_bounds = omega arith;
     }
 
 pub overflow_add-rows : goal.overflow_add-rows
@@ -284,7 +283,7 @@ loop-seen-preserved c =
           (told (goal.at.loop-seen-preserved c).After-answer_of ∙ c.if-not-answer_of.false) _ (wide (goal.at.loop-seen-preserved c).After-row_words-width)
           (λ e. omega arith) _ _ c.requires.walks _ (many (goal.at.loop-seen-preserved c).Start) _ wrote.out_after),
       (
-        part_length c.loop-seen.docs c.visit.new.docs (length c.args.table.now / 4)
+        part_length c.loop-seen.docs c.visit.new.docs (length c.args.table.now)
             most_patterns (docs-size (goal.at.loop-seen-preserved c).After-visit) c.loop-seen.invariant.1.0,
         (ats-size (goal.at.loop-seen-preserved c).After-visit, (known-size (goal.at.loop-seen-preserved c).After-answer_of, (remembers (goal.at.loop-seen-preserved c).After-answer_of, (positions-size (goal.at.loop-seen-preserved c).After-visit, (paras-size (goal.at.loop-seen-preserved c).After-visit, wrote.result_bound))))),
       ),
