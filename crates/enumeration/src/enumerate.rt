@@ -12,7 +12,7 @@ ghost use Rattle.enumeration.specs.Inner.Attempts.{Stepped, Sought};
 use super::answers::{MatchError, Matches};
 use super::next::next_match;
 use matcher::{Cursor, Document, in_document, rarest_first, starts_of};
-use plan::{Checked, MOST_PATTERN_VARS, MOST_PATTERNS, Outline, lay_out, list_at, outline_at};
+use plan::{MOST_PATTERN_VARS, MOST_PATTERNS, Outline, lay_out, list_at};
 use volume::{MAX_LISTS, Posting};
 
 // A cursor for each variable of a pattern, at its list's first posting in document `doc` or a later
@@ -142,9 +142,9 @@ fn matches_of(
     ensures { Kept volume.now plan.now pattern doc from.now
         (record { lent = out.old; says = said_matched result; back = out.new }) }
 {
-    let mut table: [usize; 4 * MOST_PATTERNS] = [0; 4 * MOST_PATTERNS];
+    let mut table = [Outline::NONE; MOST_PATTERNS];
     lay_out(plan, patterns, &mut table);
-    let outline = outline_at(&table, pattern);
+    let outline = table[pattern];
     if from.len() != outline.vars || Posting::LAST_DOC < doc || !in_document(from) {
         return Err(MatchError::OutOfRange);
     }
@@ -177,22 +177,17 @@ pub fn matches(
     ensures { Kept volume.now plan.now pattern doc from.now
         (record { lent = out.old; says = said_matched result; back = out.new }) }
 {
-    let checked = plan::check(volume, plan);
-    match checked {
-        Checked::Refused(why) => Err(MatchError::Refused(why)),
-        Checked::Accepted(patterns, _) => {
-            if patterns <= pattern {
-                return Err(MatchError::OutOfRange);
-            }
-            matches_of(
-                volume,
-                plan,
-                patterns as usize,
-                pattern as usize,
-                doc,
-                from,
-                out,
-            )
-        }
+    let sizes = plan::check(volume, plan)?;
+    if sizes.patterns <= pattern {
+        return Err(MatchError::OutOfRange);
     }
+    matches_of(
+        volume,
+        plan,
+        sizes.patterns as usize,
+        pattern as usize,
+        doc,
+        from,
+        out,
+    )
 }

@@ -56,13 +56,12 @@ returns-then-count-room c =
     let p = c.requires in
     let m = (goal.at.returns-then-count-room c).After-next_match in
     let w = stops _ _ _ _ _ _ _ p.sought _ _ _ _ _ _ _ _ c.loop-outline.invariant.0 c.next_match.new.here _ (here-long m) (positions-long m) (sought m true c.loop-outline-test.true)
-    c.if-count-room.true _ c.copy_from_slice-then-count-room.ensures.after in
+    (omega arith) _ c.copy_from_slice-then-count-room.ensures.after in
     wrote_kept _ _ _ _ _ _ _ p.sought _ _ p.from_len p.in_document p.vars_in_bounds _ _ w
 
 pub slice_bounds-copy_from_slice-end-in-loop-outline : goal.slice_bounds-copy_from_slice-end-in-loop-outline
 slice_bounds-copy_from_slice-end-in-loop-outline c =
     let k = room-count _ _ _ _ _ _ _ c.requires.sought _ _ _ _ _ _ _ _ c.loop-outline.invariant.0 in
-    let full = c.if-count-room.false in
     let r = fits_more c.loop-outline.count c.args.outline.vars (length c.args.out.now) (some-vars (goal.at.slice_bounds-copy_from_slice-end-in-loop-outline c).Start) (omega arith) in
     omega arith
 
@@ -71,7 +70,6 @@ loop-outline-preserved c =
     let i = c.loop-outline.invariant in
     let m = (goal.at.loop-outline-preserved c).After-next_match in
     let k = room-count _ _ _ _ _ _ _ c.requires.sought _ _ _ _ _ _ _ _ i.0 in
-    let full = c.if-count-room.false in
     let t = c.loop-outline-test.true in (
       wrote _ _ _ _ _ _ _ c.requires.sought _ _ _ _ _ _ _ _ i.0 _ _ (here-long m) (positions-long m) (sought m true t) (few-vars (goal.at.loop-outline-preserved c).Start)
           (c.next_match.ensures.standing t) (omega arith) _ _ _ c.copy_from_slice-in-loop-outline.ensures.after c.next_match.ensures.lows_len_unchanged c.step_past.ensures,

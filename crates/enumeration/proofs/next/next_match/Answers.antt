@@ -36,7 +36,7 @@ returns-then-held-eq0-clause-lows_value c =
     let p = c.requires in
     let q = p.sought.posed in
     carried-out _ (posed-rise _ _ _ _ _ q) _ _ _ (posed-vars _ _ _ _ _ q) _ _ _ _ p.vars_in_bounds p.vars_in_bounds_2 l.lows l.marks l.here l.positions l.held l.invariant.0 _ c.match_held.result
-    c.match_held.ensures.held_match c.loop-outline-test.true c.if-held-eq0.true
+    c.match_held.ensures.held_match c.loop-outline-test.true (omega arith)
 
 pub loop-outline-preserved : goal.loop-outline-preserved
 loop-outline-preserved c =
@@ -45,7 +45,7 @@ loop-outline-preserved c =
     let a = c.args in
     let q = p.sought.posed in (
       carried-next _ (posed-rise _ _ _ _ _ q) _ _ _ (posed-vars _ _ _ _ _ q) _ _ _ _ p.vars_in_bounds p.vars_in_bounds_2 l.lows l.marks l.here l.positions l.held l.invariant.0 _ c.match_held.result
-          c.match_held.ensures.held_match a.firsts.now (p.sought.firsts_are l.held l.invariant.0.var) (c.loop-outline-test.true) c.if-held-eq0.false _ (here-kept (goal.at.loop-outline-preserved c).After-match_held) (positions-kept (goal.at.loop-outline-preserved c).After-match_held),
+          c.match_held.ensures.held_match a.firsts.now (p.sought.firsts_are l.held l.invariant.0.var) (c.loop-outline-test.true) (λ e. omega arith) _ (here-kept (goal.at.loop-outline-preserved c).After-match_held) (positions-kept (goal.at.loop-outline-preserved c).After-match_held),
       c.match_held.ensures.paras_len_unchanged ∙ l.invariant.1,
     )
 
