@@ -8,11 +8,12 @@ ghost use Rattle.matcher.specs.Inner.Cursors.{no_cursor};
 ghost use Rattle.matcher.specs.Inner.Tables.{cursor_on};
 ghost use Rattle.enumeration.specs.Answers.{said_matched};
 ghost use Rattle.enumeration.specs.Enumeration.{Kept};
-ghost use Rattle.enumeration.specs.Inner.Attempts.{SoughtIn, Stepped};
+ghost use Rattle.enumeration.specs.Inner.Attempts.{Stepped};
+ghost use Rattle.enumeration.specs.Inner.Walking.{SoughtIn};
 
 use super::answers::{MatchError, Matches};
-use super::attempts::{PatternInDocument, Walk};
 use super::next::next_match;
+use super::walk::{PatternInDocument, Walk};
 use matcher::{Cursor, Document, in_document, rarest_first, starts_of};
 use plan::{MOST_PATTERN_VARS, MOST_PATTERNS, Outline, lay_out, list_at};
 use volume::{MAX_LISTS, Posting};
@@ -25,7 +26,8 @@ fn set_cursors(volume: &[u8], plan: &[u32], outline: Outline, doc: u32, cursors:
     requires outlines { Outlines plan.now outline }
     requires vars_in_bounds { outline.vars ≤ length cursors.old }
     ensures { (x : ℕ) → x < outline.vars
-        → get_or cursors.new x no_cursor ≡ cursor_on volume.now (get_or (pattern_at plan.now outline.pattern).vars x 0) doc }
+        → get_or cursors.new x no_cursor
+        ≡ cursor_on volume.now (get_or (pattern_at plan.now outline.pattern).vars x 0) doc }
 {
     let mut starts: [usize; MAX_LISTS + 1] = [0; MAX_LISTS + 1];
     let lists = volume::word_at(volume, 1) as usize;
@@ -59,7 +61,8 @@ fn write_matches(pattern: &PatternInDocument, from: &[u32], out: &mut [u32]) -> 
     requires from_len { length from.now ≡ pattern.now.outline.vars }
     requires in_document { InDocument from.now }
     requires vars_in_bounds { pattern.now.outline.vars ≤ length out.old }
-    ensures { Kept pattern.now.volume.now pattern.now.plan.now pattern.now.outline.pattern pattern.now.document.doc from.now
+    ensures { let s = pattern.now in
+        Kept s.volume.now s.plan.now s.outline.pattern s.document.doc from.now
         (record { lent = out.old; says = said_matched (Ok result); back = out.new }) }
 {
     let n = pattern.outline.vars;
@@ -95,8 +98,8 @@ fn write_matches(pattern: &PatternInDocument, from: &[u32], out: &mut [u32]) -> 
     }
 }
 
-// The same for any document and tuple, where the volume and the plan are accepted and the pattern is
-// there.
+// The same for any document and tuple, where the volume and the plan are accepted and the pattern
+// is there.
 fn matches_of<'a>(
     volume: &'a [u8],
     plan: &'a [u32],
@@ -139,8 +142,8 @@ fn matches_of<'a>(
     Ok(write_matches(&found, from, out))
 }
 
-// Writes the matches of a pattern in a document from a tuple on to the front of out, as many as fit:
-// smaller first variable first, then second, and so on.
+// Writes the matches of a pattern in a document from a tuple on to the front of out, as many as
+// fit: smaller first variable first, then second, and so on.
 pub fn matches(
     volume: &[u8],
     plan: &[u32],

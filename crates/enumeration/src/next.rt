@@ -5,23 +5,25 @@ ghost use Rattle.volume.specs.Layout.{lists_of};
 ghost use Rattle.fulltext.specs.Order.{matches_from};
 ghost use Rattle.matcher.specs.Inner.Cursors.{ats_of, ends_of};
 ghost use Rattle.matcher.specs.Inner.Settling.{Standing, given_if};
-ghost use Rattle.enumeration.specs.Inner.Attempts.{SoughtIn, form_of, Walking};
+ghost use Rattle.enumeration.specs.Inner.Walking.{SoughtIn, form_of, Walking};
 
-use super::attempts::{PatternInDocument, Walk, match_held};
+use super::attempts::match_held;
+use super::walk::{PatternInDocument, Walk};
 
-// The first match of a pattern in a document that does not come before the bounds, and the cursors at
-// it. Whether there is one. It is looked for with all variables held at their bounds but the last,
-// then but the last two, and so on. Where there is none, the last of those held moves on by one, and
-// those behind it start again at the document's first postings.
+// The first match of a pattern in a document that does not come before the bounds, and the cursors
+// at it. Whether there is one. It is looked for with all variables held at their bounds but the
+// last, then but the last two, and so on. Where there is none, the last of those held moves on by
+// one, and those behind it start again at the document's first postings.
 pub fn next_match(pattern: &PatternInDocument, walk: &mut Walk) -> bool
     requires sought { SoughtIn pattern.now }
     requires walking { Walking pattern.now walk.old }
     requires by_index { (x : ℕ) → x < pattern.now.outline.vars → get_or walk.old.lows x 0 ≤ 65536 }
-    ensures next_value { first (matches_from (lists_of pattern.now.volume.now) pattern.now.document.doc (form_of pattern.now)
-        (take pattern.now.outline.vars walk.old.lows))
-        ≡ given_if result (take pattern.now.outline.vars walk.new.positions) }
-    ensures standing { result ≡ true
-        → Standing pattern.now.volume.now pattern.now.document.doc (form_of pattern.now) (ats_of walk.new.here)
+    ensures next_value { let s = pattern.now in let n = s.outline.vars in
+        first (matches_from (lists_of s.volume.now) s.document.doc (form_of s)
+        (take n walk.old.lows))
+        ≡ given_if result (take n walk.new.positions) }
+    ensures standing { let s = pattern.now in result ≡ true
+        → Standing s.volume.now s.document.doc (form_of s) (ats_of walk.new.here)
         walk.new.positions }
     ensures ends_unchanged { ends_of walk.new.here ≡ ends_of walk.old.here }
     ensures lows_len_unchanged { length walk.new.lows ≡ length walk.old.lows }

@@ -4,7 +4,7 @@ use Prim.Native.Nat.{◌-◌}
 use mathlib.Core.Path.{◌≡◌}
 use lib.ListN.{length}
 use Rattle.matcher.specs.Inner.Cursors.{ats_of, ends_of}
-use Rattle.enumeration.specs.Inner.Attempts.{form_of}
+use Rattle.enumeration.specs.Inner.Walking.{form_of}
 use Rattle.enumeration.proofs.Laws.Writing.{Writing}
 use Rattle.enumeration.proofs.enumerate.write_matches.Given as goal
 

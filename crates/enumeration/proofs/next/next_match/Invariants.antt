@@ -3,7 +3,7 @@
 use mathlib.Core.Path.{◌≡◌}
 use lib.ListN.{length}
 use Rattle.matcher.specs.Inner.Cursors.{ats_of, ends_of}
-use Rattle.enumeration.specs.Inner.Attempts.{form_of}
+use Rattle.enumeration.specs.Inner.Walking.{form_of}
 use Rattle.enumeration.proofs.Laws.Carries.{Carried}
 use Rattle.enumeration.proofs.next.next_match.Given as goal
 
