@@ -43,7 +43,7 @@ same xs ys r e t = (told xs ys).0 (not_false (pointwise nat_eq xs ys) (sym e ∙
 pub returns-then-not-stand_from-clause-held_match : goal.returns-then-not-stand_from-clause-held_match
 returns-then-not-stand_from-clause-held_match c =
     let p = c.requires in
-    stood-none _ _ _ _ _ c.requires.sought.posed _ _ p.walking.marked c.stand_from.result _ _ c.stand_from.ensures.stood_from c.if-not-stand_from.true _ _
+    stood-none _ _ _ _ _ p.sought.posed _ _ p.walking.marked c.stand_from.result _ _ c.stand_from.ensures.stood_from c.if-not-stand_from.true _ _
 
 pub returns-then-ne-clause-held_match : goal.returns-then-ne-clause-held_match
 returns-then-ne-clause-held_match c =
@@ -51,18 +51,18 @@ returns-then-ne-clause-held_match c =
     let s = (goal.at.returns-then-ne-clause-held_match c).Start in
     let l = lows-long s in
     let q = positions-long s in
-    let f = posed-few _ _ _ _ _ c.requires.sought.posed in
+    let f = posed-few _ _ _ _ _ p.sought.posed in
     let e = c.stand_from.ensures.positions_len_unchanged in
-    stood-apart _ _ _ _ _ c.requires.sought.posed _ _ p.walking.marked c.stand_from.result _ _ c.stand_from.ensures.stood_from c.if-not-stand_from.false (omega arith) (omega arith) _
+    stood-apart _ _ _ _ _ p.sought.posed _ _ p.walking.marked c.stand_from.result _ _ c.stand_from.ensures.stood_from c.if-not-stand_from.false (omega arith) (omega arith) _
     p.held_lt_vars (differ _ _ _ c.ne.ensures c.if-ne.true) _
 
 pub match_from-requires-clause-posed : goal.match_from-requires-clause-posed
-match_from-requires-clause-posed c = let p = c.requires in rw (c.stand_from.ensures.ends_unchanged ∙ p.walking.here_end) c.requires.sought.posed
+match_from-requires-clause-posed c = let p = c.requires in rw (c.stand_from.ensures.ends_unchanged ∙ p.walking.here_end) p.sought.posed
 
 pub match_from-requires-clause-standing : goal.match_from-requires-clause-standing
 match_from-requires-clause-standing c =
     let p = c.requires in
-    stood-standing _ _ _ _ _ c.requires.sought.posed _ _ p.walking.marked c.stand_from.result _ _ c.stand_from.ensures.stood_from c.if-not-stand_from.false
+    stood-standing _ _ _ _ _ p.sought.posed _ _ p.walking.marked c.stand_from.result _ _ c.stand_from.ensures.stood_from c.if-not-stand_from.false
 
 pub returns-clause-held_match : goal.returns-clause-held_match
 returns-clause-held_match c =
@@ -70,7 +70,7 @@ returns-clause-held_match c =
     let s = (goal.at.returns-clause-held_match c).Start in
     let l = lows-long s in
     let q = positions-long s in
-    let f = posed-few _ _ _ _ _ c.requires.sought.posed in
+    let f = posed-few _ _ _ _ _ p.sought.posed in
     let e = c.stand_from.ensures.positions_len_unchanged in
-    stood_on _ _ _ _ _ c.requires.sought.posed _ _ p.walking.marked c.stand_from.result _ _ c.stand_from.ensures.stood_from c.if-not-stand_from.false (omega arith) (omega arith) _
+    stood_on _ _ _ _ _ p.sought.posed _ _ p.walking.marked c.stand_from.result _ _ c.stand_from.ensures.stood_from c.if-not-stand_from.false (omega arith) (omega arith) _
     p.held_lt_vars (same _ _ _ c.ne.ensures c.if-ne.false) c.match_from.result _ c.match_from.ensures.held_match

@@ -37,19 +37,19 @@ jump-requires-clause-stretch c =
     let p = c.requires in
     let i = (goal.at.jump-requires-clause-stretch c).In-loop-x in
     let v = var i in
-    let f = posed-few _ _ _ _ _ c.requires.sought.posed in
+    let f = posed-few _ _ _ _ _ p.sought.posed in
     let h = here-long (goal.at.jump-requires-clause-stretch c).Start in
     let q = positions-long (goal.at.jump-requires-clause-stretch c).Start in
     let x = get_or (take c.args.pattern.now.outline.vars c.args.pattern.now.order) c.loop-x.x-index 0 in
     rw (set-ats c.loop-x.here c.args.marks.now x, set-ends c.loop-x.here c.args.marks.now x (p.marks_end ∙ sym (ends i)) ∙ ends i)
-    (mark-start _ _ _ _ _ _ _ _ (ats_of c.loop-x.here) c.loop-x.positions c.loop-x.x-index c.loop-x.invariant.standing (omega arith) (omega arith) _ (mark-stretch _ _ _ _ _ c.requires.sought.posed _ _ p.marked _ v))
+    (mark-start _ _ _ _ _ _ _ _ (ats_of c.loop-x.here) c.loop-x.positions c.loop-x.x-index c.loop-x.invariant.standing (omega arith) (omega arith) _ (mark-stretch _ _ _ _ _ p.sought.posed _ _ p.marked _ v))
 
 pub returns-then-not-jump-clause-stood_from : goal.returns-then-not-jump-clause-stood_from
 returns-then-not-jump-clause-stood_from c =
     let p = c.requires in
     let i = (goal.at.returns-then-not-jump-clause-stood_from c).In-loop-x in
     let v = var i in
-    let f = posed-few _ _ _ _ _ c.requires.sought.posed in
+    let f = posed-few _ _ _ _ _ p.sought.posed in
     let h = here-long (goal.at.returns-then-not-jump-clause-stood_from c).Start in
     let q = positions-long (goal.at.returns-then-not-jump-clause-stood_from c).Start in
     let x = get_or (take c.args.pattern.now.outline.vars c.args.pattern.now.order) c.loop-x.x-index 0 in
@@ -66,7 +66,7 @@ loop-x-preserved c =
     let p = c.requires in
     let i = (goal.at.loop-x-preserved c).In-loop-x in
     let v = var i in
-    let f = posed-few _ _ _ _ _ c.requires.sought.posed in
+    let f = posed-few _ _ _ _ _ p.sought.posed in
     let h = here-long (goal.at.loop-x-preserved c).Start in
     let q = positions-long (goal.at.loop-x-preserved c).Start in
     let x = get_or (take c.args.pattern.now.outline.vars c.args.pattern.now.order) c.loop-x.x-index 0 in

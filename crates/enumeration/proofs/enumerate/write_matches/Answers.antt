@@ -29,7 +29,7 @@ loop-walk-init c =
     let p = c.requires in
     let e = ap (λ (xs : List _). xs ++ drop c.args.pattern.now.outline.vars (replicate 8 0)) c.copy_from_slice.ensures.after in
     record {
-      writing = begins _ _ _ _ _ _ _ c.requires.sought _ _ _ p.from_len (few-vars (goal.at.loop-walk-init c).Start) p.in_document e;
+      writing = begins _ _ _ _ _ _ _ p.sought _ _ _ p.from_len (few-vars (goal.at.loop-walk-init c).Start) p.in_document e;
       marks_end = refl;
       here_end = refl;
       positions_long = refl;
@@ -51,8 +51,8 @@ pub returns-then-count-room : goal.returns-then-count-room
 returns-then-count-room c =
     let p = c.requires in
     let m = (goal.at.returns-then-count-room c).After-next_match in
-    let w = stops _ _ _ _ _ _ _ c.requires.sought _ _ _ _ _ _ c.loop-walk.invariant.writing _ (positions-long m) (sought m true c.loop-walk-test.true) (omega arith) _ c.copy_from_slice-then-count-room.ensures.after in
-    wrote_kept _ _ _ _ _ _ _ c.requires.sought _ _ p.from_len p.in_document p.vars_in_bounds _ _ w
+    let w = stops _ _ _ _ _ _ _ p.sought _ _ _ _ _ _ c.loop-walk.invariant.writing _ (positions-long m) (sought m true c.loop-walk-test.true) (omega arith) _ c.copy_from_slice-then-count-room.ensures.after in
+    wrote_kept _ _ _ _ _ _ _ p.sought _ _ p.from_len p.in_document p.vars_in_bounds _ _ w
 
 pub slice_bounds-copy_from_slice-end-in-loop-walk : goal.slice_bounds-copy_from_slice-end-in-loop-walk
 slice_bounds-copy_from_slice-end-in-loop-walk c =
@@ -84,5 +84,5 @@ loop-walk-preserved c =
 pub returns : goal.returns
 returns c =
     let p = c.requires in
-    let w = ends_there _ _ _ _ _ _ _ c.requires.sought _ _ _ _ _ _ c.loop-walk.invariant.writing (sought (goal.at.returns c).After-next_match false c.loop-walk-test.false) in
-    wrote_kept _ _ _ _ _ _ _ c.requires.sought _ _ p.from_len p.in_document p.vars_in_bounds _ _ w
+    let w = ends_there _ _ _ _ _ _ _ p.sought _ _ _ _ _ _ c.loop-walk.invariant.writing (sought (goal.at.returns c).After-next_match false c.loop-walk-test.false) in
+    wrote_kept _ _ _ _ _ _ _ p.sought _ _ p.from_len p.in_document p.vars_in_bounds _ _ w
