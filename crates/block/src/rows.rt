@@ -87,8 +87,8 @@ pub fn columns(x: Row) -> u32
     ensures upper_bound { result ≤ 524280 }
 {
     let mut sum = 0;
-    for c in 0..8 {
-        sum += u32::from(x.0[c]);
+    for column in x.0 {
+        sum += u32::from(column);
     }
     sum
 }
