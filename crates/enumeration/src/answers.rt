@@ -5,7 +5,7 @@ ghost use Rattle.enumeration.specs.declared.answers.MatchError.TheVariants as er
 use plan::{MOST_PATTERN_VARS, Refusal};
 
 // The matches of a pattern that are written.
-#[derive(Clone, Copy)]
+#[derive(Clone, Copy, Debug, PartialEq, Eq)]
 pub struct Matches {
     // Their number.
     pub count: u64,
@@ -14,7 +14,7 @@ pub struct Matches {
 }
 
 // Why no match is written.
-#[derive(Clone, Copy)]
+#[derive(Clone, Copy, Debug, PartialEq, Eq)]
 pub enum MatchError {
     // The volume or the plan is refused.
     Refused(Refusal),

@@ -4,25 +4,25 @@ ghost use Rattle.volume.specs.Layout.{list_count};
 ghost use Rattle.volume.specs.Check as volumes;
 ghost use Rattle.matcher.specs.Inner.Cursors.{seek_from, list_cursor, Stretch, sought, Forward, Arrived};
 
-use volume::Posting;
+use volume::{BLOCK_WORDS, Posting};
 
 // A place in a posting list: a stream index, and the index behind the list.
-#[derive(Clone, Copy)]
+#[derive(Clone, Copy, Debug, PartialEq, Eq)]
 pub struct Cursor {
     pub at: usize,
     pub end: usize,
 }
 
-// The stream index that a cursor has come to, and the posting there; 0 where that is behind the
+// The stream index that a cursor has come to, and the posting there; none where that is behind the
 // list.
-#[derive(Clone, Copy)]
+#[derive(Clone, Copy, Debug, PartialEq, Eq)]
 pub struct Reached {
     pub at: usize,
-    pub bits: u32,
+    pub posting: Option<Posting>,
 }
 
 // A document, and a cursor on list 0 that has not passed it.
-#[derive(Clone, Copy)]
+#[derive(Clone, Copy, Debug, PartialEq, Eq)]
 pub struct Document {
     pub doc: u32,
     pub starts: Cursor,
@@ -86,9 +86,10 @@ fn leap_on(volume: &[u8], from: usize, end: usize, target: u64) -> Reached
         if target <= u64::from(volume::word_at(volume, from + 7)) {
             let passed = volume::below_across(volume, from, target);
             let at = from + passed;
+            let posting = volume::posting_at(volume, at);
             return Reached {
                 at,
-                bits: volume::word_at(volume, at),
+                posting: Some(posting),
             };
         }
         low = from + 8;
@@ -96,34 +97,41 @@ fn leap_on(volume: &[u8], from: usize, end: usize, target: u64) -> Reached
     }
     let at = leap(volume, low, end, step, target);
     if at < end {
+        let posting = volume::posting_at(volume, at);
         return Reached {
             at,
-            bits: volume::word_at(volume, at),
+            posting: Some(posting),
         };
     }
-    Reached { at, bits: 0 }
+    Reached { at, posting: None }
 }
 
 // The same. Where the next eight words are of the list and of one block, and the last one is not
-// below target, the words below target are counted without a branch: most moves are short.
+// below target, the words below target are counted without a branch: most moves are short. `leap_on`
+// does so across blocks, by a division for each word.
+#[inline(always)]
 fn gallop(volume: &[u8], from: usize, end: usize, target: u64) -> Reached
     requires { Stretch volume.now from end }
     ensures { Arrived volume.now target from end result }
 {
-    if 8 <= end - from && from % 126 <= 118 {
-        if target <= u64::from(volume::word_behind(volume, from, 7)) {
-            let passed = volume::below_in_window(volume, from, target);
-            let at = from + passed;
-            return Reached {
-                at,
-                bits: volume::word_behind(volume, from, passed),
-            };
-        }
+    if 8 <= end - from
+        && from % BLOCK_WORDS + 8 <= BLOCK_WORDS
+        && target <= u64::from(volume::word_behind(volume, from, 7))
+    {
+        let passed = volume::below_in_window(volume, from, target);
+        let bits = volume::word_behind(volume, from, passed);
+        return Reached {
+            at: from + passed,
+            posting: Some(Posting { bits }),
+        };
     }
     leap_on(volume, from, end, target)
 }
 
 impl Cursor {
+    // A cursor on no list.
+    pub const NONE: Cursor = Cursor { at: 0, end: 0 };
+
     // To the first posting from here on in document `doc` or a later one; to the end where there is
     // none.
     pub fn seek(self, volume: &[u8], doc: u32) -> Cursor
@@ -134,11 +142,12 @@ impl Cursor {
         let moved = leap_on(volume, self.at, self.end, bound_of(doc, 0));
         Cursor {
             at: moved.at,
-            end: self.end,
+            ..self
         }
     }
 
     // The same, for a document that is near, and the posting there.
+    #[inline(always)]
     pub fn enter(self, volume: &[u8], doc: u32) -> Reached
         requires { Stretch volume.now self.at self.end }
         ensures { Arrived volume.now (doc * 65536) self.at self.end result }
@@ -147,7 +156,8 @@ impl Cursor {
     }
 
     // To the first posting from here on that is not below a bound, and the posting there; to the end
-    // where there is none.
+    // where there is none. It is a part of the loops that move cursors: a call would store the slice.
+    #[inline(always)]
     pub fn advance(self, volume: &[u8], bound: u64) -> Reached
         requires { Stretch volume.now self.at self.end }
         ensures { Arrived volume.now bound self.at self.end result }

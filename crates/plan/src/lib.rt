@@ -14,6 +14,7 @@ mod codes;
 mod kinds;
 mod limits;
 mod outline;
+mod query;
 mod reading;
 mod row;
 mod showing;
@@ -27,6 +28,7 @@ pub use limits::{
     LEAST_UNIT, MOST_FOUND_SETS, MOST_PATTERN_VARS, MOST_PATTERNS, MOST_VARS, MOST_WORDS, row_words,
 };
 pub use outline::{Outline, lay_out};
+pub use query::Query;
 pub use reading::{is_voice, list_at, predicate_at};
 pub use row::{Kind, Operator, Predicate, Row, row_at};
 pub use showing::{Span, pattern_rows, pattern_span};

@@ -3,7 +3,7 @@ ghost use Rattle.std.specs.Prelude.{◌≡◌, List, ℕ, ◌≤◌, length};
 ghost use Rattle.plan.specs.Check.{Accepted, sizes};
 ghost use Rattle.plan.specs.Inner.Outline.{Tabled};
 
-use super::reading::{Sort, first_of};
+use super::reading::{first_of, is_voice};
 use super::showing::span_at;
 
 // A pattern's number, its first variable among those of the plan, how many it has, the row of its
@@ -39,7 +39,7 @@ pub fn lay_out(plan: &[u32], patterns: usize, table: &mut [Outline])
     for pattern in 0..patterns {
         let span = span_at(plan, pattern);
         let voice = span.start / 4;
-        let condition = first_of(plan, Sort::Other, voice);
+        let condition = first_of(plan, voice, |kind| !is_voice(kind));
         let vars = condition - voice;
         table[pattern] = Outline {
             pattern,

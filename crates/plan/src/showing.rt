@@ -4,10 +4,10 @@ ghost use Rattle.plan.specs.Check.{Accepted, sizes};
 ghost use Rattle.plan.specs.Parts.{span_at, span_of, part_of};
 
 use super::checking::check;
-use super::reading::{Sort, first_of};
+use super::reading::{first_of, is_end, is_voice};
 
 // Where the rows of a pattern lie in the plan, in words.
-#[derive(Clone, Copy)]
+#[derive(Clone, Copy, Debug, PartialEq, Eq)]
 pub struct Span {
     pub start: usize,
     pub len: usize,
@@ -26,15 +26,12 @@ pub fn span_at(plan: &[u32], pattern: usize) -> Span
     ensures { result ≡ span_at plan.now pattern }
 {
     let mut behind: usize = 0;
-    let mut k: usize = 0;
-    while k < pattern {
-        let first = first_of(plan, Sort::Voice, behind);
-        let last = first_of(plan, Sort::End, first);
-        behind = last + 1;
-        k += 1;
+    for _ in 0..pattern {
+        let first = first_of(plan, behind, is_voice);
+        behind = first_of(plan, first, is_end) + 1;
     }
-    let first = first_of(plan, Sort::Voice, behind);
-    let last = first_of(plan, Sort::End, first);
+    let first = first_of(plan, behind, is_voice);
+    let last = first_of(plan, first, is_end);
     Span {
         start: 4 * first,
         len: 4 * (last + 1 - first),

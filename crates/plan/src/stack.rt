@@ -20,7 +20,7 @@ fn joins(operator: Operator, taken: u32) -> bool
         Operator::Both => taken == 3,
         Operator::Either => taken != 0,
         Operator::FirstNotSecond => taken == 2,
-        Operator::AtLeast { least, of: _ } => least <= u32::count_ones(taken),
+        Operator::AtLeast { least, .. } => least <= taken.count_ones(),
     }
 }
 
@@ -33,11 +33,7 @@ fn operate(operator: Operator, stack: u32) -> u32
 {
     let count = takes(operator);
     let taken = stack & ((1 << count) - 1);
-    let rest = (stack >> count) * 2;
-    if joins(operator, taken) {
-        return rest + 1;
-    }
-    rest
+    (stack >> count) * 2 + u32::from(joins(operator, taken))
 }
 
 // The one answer left, where `bits` has a bit for each pattern, the first one the lowest: 1 if it is
@@ -47,25 +43,19 @@ fn answer_by_rows(plan: &[u32], bits: u32) -> bool
     ensures { (found : Pattern → Bool) → bits ≡ found_bits found plan.now
         → result ≡ answer found (rows_of plan.now) }
 {
-    let n = plan.len() / 4;
     let mut stack: u32 = 0;
     let mut rest = bits;
-    let mut i: usize = 0;
-    while i < n {
-        let row = row_at(plan, i);
-        let kind = row.kind;
-        match kind {
-            Kind::Voice(_) => {}
-            Kind::Condition(_) => {}
+    for i in 0..plan.len() / 4 {
+        match row_at(plan, i).kind {
+            Kind::Voice(_) | Kind::Condition(_) => {}
             Kind::End => {
                 stack = stack * 2 + rest % 2;
-                rest = rest / 2;
+                rest /= 2;
             }
             Kind::Operator(operator) => {
                 stack = operate(operator, stack);
             }
         }
-        i += 1;
     }
     stack % 2 == 1
 }

@@ -3,7 +3,7 @@ ghost use Rattle.std.specs.Prelude.{◌≡◌, ◌≤◌};
 ghost use Rattle.volume.specs.Layout.{blocks, stream_length};
 ghost use Rattle.volume.specs.Inner.Places.{Whole};
 ghost use Rattle.volume.specs.Answers.{said_checked};
-ghost use Rattle.volume.specs.Check.{stream_verdict, verdict};
+ghost use Rattle.volume.specs.Check.{length_wrong, stream_verdict, verdict};
 ghost use Rattle.volume.specs.Inner.Falls.{falls_before};
 
 use super::answers::{Refusal, Sizes};
@@ -11,6 +11,14 @@ use super::blocks::check_blocks;
 use super::layout::{BLOCK_BYTES, BLOCK_WORDS, LAST_WORD, MAX_BLOCKS, MAX_LISTS, extent_of, lead};
 use super::order::bad_list;
 use super::stream::{bad_word, count_sum, word_at};
+
+// Whether the length is wrong.
+fn length_wrong(volume: &[u8]) -> bool
+    ensures { result ≡ length_wrong volume.now }
+{
+    let blocks = volume.len() / BLOCK_BYTES;
+    volume.len() == 0 || volume.len() % BLOCK_BYTES != 0 || MAX_BLOCKS < blocks
+}
 
 // The stream of a volume whose blocks are in order, given its falls.
 fn check_stream(volume: &[u8], all: usize) -> Result<Sizes, Refusal>
@@ -53,8 +61,7 @@ fn check_stream(volume: &[u8], all: usize) -> Result<Sizes, Refusal>
 pub fn check(volume: &[u8]) -> Result<Sizes, Refusal>
     ensures { said_checked result ≡ verdict volume.now }
 {
-    let blocks = volume.len() / BLOCK_BYTES;
-    if volume.len() == 0 || volume.len() % BLOCK_BYTES != 0 || MAX_BLOCKS < blocks {
+    if length_wrong(volume) {
         return Err(Refusal::Length);
     }
     let falls = check_blocks(volume)?;

@@ -10,6 +10,7 @@
 // on the way.
 #![tactic(auto)]
 
+mod accepted;
 mod answers;
 mod blocks;
 mod checking;
@@ -21,6 +22,7 @@ mod reading;
 mod stream;
 mod writing;
 
+pub use accepted::Volume;
 pub use answers::{ReadError, Refusal, Sizes, WriteError};
 pub use checking::check;
 pub use codes::{Code, code_of};

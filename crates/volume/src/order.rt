@@ -4,7 +4,7 @@
 // counted over the whole stream while its blocks are checked. Every list rises if there are no more
 // than those of the counts, one behind each list that is not empty, and those of the zero words.
 // Only where there are more are the lists walked, to find the one that does not rise.
-ghost use Rattle.std.specs.Prelude.{◌≡◌, ◌+◌, ◌*◌, ◌-◌, ◌<◌, ◌≤◌};
+ghost use Rattle.std.specs.Prelude.{◌≡◌, ℕ, ◌+◌, ◌*◌, ◌-◌, ◌<◌, ◌≤◌};
 ghost use Rattle.seq.specs.Lists.{rises};
 ghost use Rattle.seq.specs.Numbers.{run, index_below};
 ghost use Rattle.volume.specs.Layout.{blocks, word, list_count, extent, stream_length};
@@ -13,7 +13,7 @@ ghost use Rattle.volume.specs.Check.{bad_list};
 ghost use Rattle.volume.specs.Inner.Falls.{fall_of, fall, falls_before, ListFalls};
 
 use super::layout::{BLOCK_BYTES, BLOCK_WORDS, LAST_WORD, lead};
-use super::stream::{count_at, posting_at, word_at};
+use super::stream::{count_at, word_at};
 use block::read32;
 
 // 1 where y, which stands behind x, is not above it.
@@ -88,24 +88,20 @@ fn list_falls(volume: &[u8], lists: usize) -> usize
     n
 }
 
-// Whether the postings from stream index `from` on, n of them, rise.
-fn rising(volume: &[u8], from: usize, n: usize) -> bool
-    requires { from + n ≤ stream_length volume.now }
-    ensures { result ≡ rises (run (word volume.now) from n) }
+// Whether the words from `from` to `end` rise. The falls are counted in a loop with no other way
+// out, which a compiler turns into vector instructions.
+pub fn rising<F: Fn(usize) -> u32>(word: F, from: usize, end: usize) -> bool
+    requires callable { (i : ℕ) → i < end → F.pre word i }
+    requires from_le_end { from ≤ end }
+    requires end_bound { end ≤ from + 4294967295 }
+    requires end_fits { end < 18446744073709551615 }
+    ensures { (f : ℕ → ℕ) → ((i x : ℕ) → i < end → F.post word i x → x ≡ f i) → result ≡ rises (run f from (end - from)) }
 {
-    if n == 0 {
-        return true;
-    }
-    let end = from + n;
-    let mut last = posting_at(volume, from).bits;
+    let mut falls: u32 = 0;
     for i in from + 1..end {
-        let next = posting_at(volume, i).bits;
-        if next <= last {
-            return false;
-        }
-        last = next;
+        falls += fall_of(word(i - 1), word(i));
     }
-    true
+    falls == 0
 }
 
 // The lowest list that does not rise.
@@ -117,11 +113,11 @@ fn walk_lists(volume: &[u8], lists: usize) -> Option<usize>
 {
     let mut start: usize = lead(lists);
     for i in 0..lists {
-        let size = count_at(volume, i) as usize;
-        if !rising(volume, start, size) {
+        let end = start + count_at(volume, i) as usize;
+        if !rising(|k| word_at(volume, k), start, end) {
             return Some(i);
         }
-        start += size;
+        start = end;
     }
     None
 }

@@ -2,9 +2,9 @@
 //
 // All refusals are tested before a byte is stored. The volume is then stored block by block, and the
 // checksum of each block is taken while its bytes are at hand.
-ghost use Rattle.std.specs.Prelude.{◌≡◌, ◌+◌, ◌*◌, ◌-◌, ◌≤◌, ◌<◌, length, take};
-ghost use Rattle.seq.specs.Lists.{at, rises};
-ghost use Rattle.seq.specs.Numbers.{run, sum_to, index_below};
+ghost use Rattle.std.specs.Prelude.{◌≡◌, ℕ, ◌+◌, ◌*◌, ◌-◌, ◌≤◌, ◌<◌, length, take};
+ghost use Rattle.seq.specs.Lists.{at};
+ghost use Rattle.seq.specs.Numbers.{sum_to, index_below};
 ghost use Rattle.volume.specs.Answers.{said_written};
 ghost use Rattle.volume.specs.Write.{block_body, sealed, bad_given, write_answer, write_out};
 ghost use Rattle.volume.specs.Inner.Storing.{given, filled, stored, stored_first, IsBlock};
@@ -13,7 +13,7 @@ use super::answers::WriteError;
 use super::layout::{
     BLOCK_BYTES, BLOCK_WORDS, LAST_WORD, MAX_LISTS, MAX_WORDS, SUM_A, SUM_B, entry, extent_of, lead,
 };
-use super::order::fall_of;
+use super::order::rising;
 use block::{block_sums, put16, put32};
 
 // The sum of the counts.
@@ -28,21 +28,6 @@ fn sum_of(counts: &[u32]) -> u64
     sum
 }
 
-// Whether the postings from `from` to `end` rise. The falls are counted in a loop with no other way
-// out, which a compiler turns into vector instructions.
-fn rising_in(postings: &[u32], from: usize, end: usize) -> bool
-    requires from_le_end { from ≤ end }
-    requires end_bound { end ≤ from + 4294967295 }
-    requires end_in_bounds { end ≤ length postings.now }
-    ensures { result ≡ rises (run (at postings.now) from (end - from)) }
-{
-    let mut falls: u32 = 0;
-    for i in from + 1..end {
-        falls += fall_of(postings[i - 1], postings[i]);
-    }
-    falls == 0
-}
-
 // The lowest given list that does not rise.
 fn bad_given(counts: &[u32], postings: &[u32]) -> Option<usize>
     requires { sum_to (at counts.now) (length counts.now) ≡ length postings.now }
@@ -51,7 +36,7 @@ fn bad_given(counts: &[u32], postings: &[u32]) -> Option<usize>
     let mut from: usize = 0;
     for (i, &count) in counts.iter().enumerate() {
         let end = from + count as usize;
-        if !rising_in(postings, from, end) {
+        if !rising(|k| postings[k], from, end) {
             return Some(i);
         }
         from = end;
@@ -83,32 +68,20 @@ fn stream_word(counts: &[u32], postings: &[u32], i: usize) -> u32
     0
 }
 
-// Stores the stream words from `first` on as the words of a block.
-fn put_words(counts: &[u32], postings: &[u32], first: usize, out: &mut [u8])
-    requires counts_len_bound { length counts.now ≤ 1024 }
-    requires first_bound { first ≤ 1032192 }
+// Stores what `word` gives as the words of a block. The first six are stored by themselves: what is
+// left is a multiple of eight, which a compiler copies in vectors with nothing over. The checksum
+// reads these words back at once, the last ones first, and would have to wait for words that were
+// stored one by one.
+fn put_words<F: Fn(usize) -> u32>(word: F, out: &mut [u8])
+    requires callable { (j : ℕ) → j < 126 → F.pre word j }
     requires out_len { length out.old ≡ 512 }
-    ensures { out.new ≡ filled (given counts.now postings.now) first out.old }
-{
-    for j in 0..BLOCK_WORDS {
-        put32(out, 4 + 4 * j, stream_word(counts, postings, first + j));
-    }
-}
-
-// Stores the postings from `from` on as the words of a block. The first six are stored by
-// themselves: what is left is a multiple of eight, which a compiler copies in vectors with nothing
-// over. The checksum reads these words back at once, the last ones first, and would have to wait for
-// words that were stored one by one.
-fn put_postings(postings: &[u32], from: usize, out: &mut [u8])
-    requires from_in_bounds { from + 126 ≤ length postings.now }
-    requires out_len { length out.old ≡ 512 }
-    ensures { out.new ≡ filled (at postings.now) from out.old }
+    ensures { (f : ℕ → ℕ) (from : ℕ) → ((j x : ℕ) → j < 126 → F.post word j x → x ≡ f (from + j)) → out.new ≡ filled f from out.old }
 {
     for j in 0..6 {
-        put32(out, 4 + 4 * j, postings[from + j]);
+        put32(out, 4 + 4 * j, word(j));
     }
     for j in 6..BLOCK_WORDS {
-        put32(out, 4 + 4 * j, postings[from + j]);
+        put32(out, 4 + 4 * j, word(j));
     }
 }
 
@@ -122,9 +95,9 @@ fn put_stream(counts: &[u32], postings: &[u32], first: usize, out: &mut [u8])
 {
     let front = lead(counts.len());
     if front <= first && first - front + BLOCK_WORDS <= postings.len() {
-        put_postings(postings, first - front, out);
+        put_words(|j| postings[first - front + j], out);
     } else {
-        put_words(counts, postings, first, out);
+        put_words(|j| stream_word(counts, postings, first + j), out);
     }
 }
 
@@ -158,7 +131,7 @@ pub fn put_made(words: &[u32], k: usize, out: &mut [u8])
     ensures { IsBlock words.now k out.new }
 {
     put32(out, 0, k as u32);
-    put_postings(words, 0, out);
+    put_words(|j| words[j], out);
     seal(out);
 }
 

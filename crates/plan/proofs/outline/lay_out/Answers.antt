@@ -1,5 +1,8 @@
 use native.Mathlib.Omega.{arith}
+use mathlib.Core.Bool.{not}
+use Rattle.std.proofs.Common.{rules}
 use lib.ListN.{length}
+use Rattle.plan.specs.Rows.{is_voice}
 use Rattle.plan.proofs.Laws.Accepted.{given}
 use Rattle.plan.proofs.Laws.Outline.{vars-within, Spanned, spanned, laid-first, laid_next, laid_done}
 use Rattle.plan.proofs.outline.lay_out.Goals as goal
@@ -9,7 +12,7 @@ use Rattle.plan.proofs.outline.lay_out.Goals.{After-first_of-condition}
 turn : (c : After-first_of-condition) →
     Spanned c.args.plan.now c.loop-pattern.pattern c.span_at-span.result.start c.span_at-span.result.len c.first_of-condition.result
 turn c =
-    spanned _ _ c.requires.by_index.1 c.loop-pattern.pattern (omega arith) c.span_at-span.result c.first_of-condition.result c.span_at-span.ensures c.first_of-condition.ensures
+    spanned _ _ c.requires.by_index.1 c.loop-pattern.pattern (omega arith) c.span_at-span.result c.first_of-condition.result c.span_at-span.ensures (c.first_of-condition.ensures (λ k. not (is_voice k)) (λ kind held h. search rules))
 
 pub loop-pattern-init : goal.loop-pattern-init
 loop-pattern-init c = laid-first c.args.plan.now c.args.table.now

@@ -1,32 +1,24 @@
 -- `checking::check` meets its contract: the length, the blocks, and then the stream. Assumes nothing.
-use native.Mathlib.Omega.{arith}
-use Prim.Native.Nat.{◌%◌, ◌<◌}
-use lib.ListN.{length}
 use mathlib.Core.Path.{◌≡◌, sym, ◌∙◌}
 use mathlib.Core.Bool.{false}
-use mathlib.Core.Logic.{◌⊎◌, ◌≢◌, inl, inr, ⊎_elim}
 use Rattle.std.proofs.lemmas.Result.{err_from_is_err_and}
-use Rattle.volume.specs.Layout.{blocks}
 use Rattle.volume.specs.Check.{length_wrong}
-use Rattle.seq.proofs.Laws.Decides.{holds, fails}
-use Rattle.volume.proofs.Laws.Check.{length_wrong_decides, verdict-length, verdict_stream}
+use Rattle.volume.proofs.Laws.Check.{length_right, verdict-length, verdict_stream}
 use Rattle.volume.proofs.Laws.Pass.{pass-falls, pass-verdict}
 use Rattle.volume.proofs.checking.check.Goals as goal
-use Rattle.volume.proofs.checking.check.Goals.{After-check_blocks, then-volume-eq0-via-then-volume-eq0, then-volume-eq0-via-else-volume-eq0+then-volume-ne0, then-volume-eq0-via-else-volume-eq0+else-volume-ne0+then-blocks-gt-MAX_BLOCKS}
+use Rattle.volume.proofs.checking.check.Goals.{After-check_blocks}
 
 -- the length is in order
 length-is : (c : After-check_blocks) → length_wrong c.args.volume.now ≡ false
-length-is c = fails (length_wrong_decides _) (⊎_elim c.if-volume-eq0.false (⊎_elim (λ n. n c.if-volume-ne0.false) (λ h. omega arith)))
+length-is c = sym c.length_wrong.ensures ∙ c.if-length_wrong.false
 
-pub returns-then-volume-eq0 : goal.returns-then-volume-eq0
-returns-then-volume-eq0 c =
-    let v = c.args.volume.now in
-    let wrong = λ (w : (length v ≡ 0) ⊎ ((length v % 512 ≢ 0) ⊎ (8192 < blocks v))). sym (verdict-length v (holds (length_wrong_decides v) w)) in
-    elim c.then-volume-eq0.branch [
-      | then-volume-eq0-via-then-volume-eq0 w ↦ wrong (inl w.if-volume-eq0.true)
-      | then-volume-eq0-via-else-volume-eq0+then-volume-ne0 w ↦ wrong (inr (inl w.if-volume-ne0.true))
-      | then-volume-eq0-via-else-volume-eq0+else-volume-ne0+then-blocks-gt-MAX_BLOCKS w ↦ wrong (inr (inr w.if-blocks-gt-MAX_BLOCKS.true))
-    ]
+pub returns-then-length_wrong : goal.returns-then-length_wrong
+returns-then-length_wrong c = sym (verdict-length _ (sym c.length_wrong.ensures ∙ c.if-length_wrong.true))
+
+pub check_blocks-requires : goal.check_blocks-requires
+check_blocks-requires c =
+    let w = length_right _ (sym c.length_wrong.ensures ∙ c.if-length_wrong.false) in
+    record { whole = w.whole; volume_bound = w.most }
 
 pub returns-in_err-falls : goal.returns-in_err-falls
 returns-in_err-falls c =
@@ -35,8 +27,9 @@ returns-in_err-falls c =
 
 pub check_stream-requires : goal.check_stream-requires
 check_stream-requires c =
-    let w = pass-falls c.args.volume.now _ c.in_ok-falls.ensures in
-    record { whole = omega arith; bound = omega arith; volume_bound = omega arith; all_value = w.1 }
+    let w = length_right _ (length-is (goal.at.check_stream-requires c).After-check_blocks) in
+    let falls = pass-falls c.args.volume.now _ c.in_ok-falls.ensures in
+    record { whole = w.whole; bound = w.some; volume_bound = w.most; all_value = falls.1 }
 
 pub returns : goal.returns
 returns c =
