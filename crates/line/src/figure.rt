@@ -5,7 +5,6 @@ ghost use Rattle.line.specs.Inner.Reads.{FigureRead};
 
 use super::reading::{Reached, Stop};
 use super::steps::{Next, State, Words, step};
-use grammar::Number;
 
 const END: Words = Words {
     kind: 6,
@@ -33,15 +32,14 @@ pub fn figure(text: &[u8], from: usize, first: usize, out: &mut [u32]) -> Result
     requires { (from ≤ length text.now) × (length text.now ≤ 2048) × (first < from) }
     ensures { FigureRead text.now from first out.old out.new result }
 {
-    let mut state = State::Listing(Number::Fresh);
-    let mut at = from;
+    let mut state = State::Listing(None);
     let mut rows = first;
-    while at < text.len() {
-        let next = step(state, text[at]);
+    for at in from..text.len() {
+        let Some(next) = step(state, text[at]) else {
+            return Err(Stop::Broken(at));
+        };
         match next {
-            Next::Goes(goes) => {
-                state = goes;
-            }
+            Next::Goes(goes) => state = goes,
             Next::Emits(words, goes) => {
                 put(out, rows, words);
                 rows += 1;
@@ -55,11 +53,7 @@ pub fn figure(text: &[u8], from: usize, first: usize, out: &mut [u32]) -> Result
                     rows: rows + 2,
                 });
             }
-            Next::Stuck => {
-                return Err(Stop::Broken(at));
-            }
         }
-        at += 1;
     }
-    Err(Stop::Broken(at))
+    Err(Stop::Broken(text.len()))
 }

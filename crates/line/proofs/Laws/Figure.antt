@@ -16,10 +16,10 @@ use lib.Dec.{leb, ltb}
 use lib.ListN.{length, get_or, drop, set, drop_of_length-le, length-append, length-set}
 use lib.Seq.{drop-cons}
 use borrow.Author.Tests.{lt-ltb, le-ltb, ltb-true, ltb-false}
-use Rattle.std.proofs.Common.{Ok, Err}
+use Rattle.std.proofs.Common.{Some, None, Ok, Err}
 use Rattle.line.specs.declared.steps.State.{State}
 use Rattle.line.specs.declared.steps.State.TheVariants.{Listing}
-use Rattle.line.specs.declared.steps.Next.TheVariants.{Goes, Emits, Closes, Stuck}
+use Rattle.line.specs.declared.steps.Next.TheVariants.{Goes, Emits, Closes}
 use Rattle.line.specs.declared.steps.Words.{Words}
 use Rattle.plan.specs.declared.row.Row.{Row}
 use Rattle.line.specs.Inner.Store.{put_words, stored, partial_rows}
@@ -29,11 +29,9 @@ use Rattle.grammar.specs.declared.tokens.Word.TheVariants as word
 use Rattle.grammar.specs.Grammar.{arity, most_of}
 use Rattle.grammar.specs.declared.tokens.Word.{Word}
 use Rattle.grammar.specs.Reading as reading
-use Rattle.grammar.specs.Reading.{Partial, listing, semicolon, lettered, counting, goes, closes, stuck, step_in}
+use Rattle.grammar.specs.Reading.{Number, fresh, digits, Partial, listing, semicolon, lettered, counting, goes, closes, stuck, step_in}
 use Rattle.grammar.specs.Reading.{Context, Bracket, Config, inside, partial_text}
 use Rattle.grammar.specs.Reading.{filled, within, step, open_in, broken, deep, finished, continued, outcome}
-use Rattle.grammar.specs.declared.tokens.Number.{Number}
-use Rattle.grammar.specs.declared.tokens.Number.TheVariants.{Fresh as fresh, Digits as digits}
 use Rattle.line.specs.Inner.States.{NumberMost, StateMost, step_state, state_of, words_in}
 use Rattle.line.specs.Inner.Reads.{from, FigureAt, FigureRead}
 use Rattle.grammar.proofs.Laws.Reading.{PartialFits, NextTold, step_in-told, NumberFits}
@@ -185,12 +183,12 @@ module _ (s : List ℕ) (start n : ℕ) (out : List ℕ) where
       within-is m e p ps = ap (λ (x : reading.Next). within x p ps) e
 
       -- a byte inside a row
-      pub within-goes : (to : State) → step_state state (get_or s at 0) ≡ Goes to → Within s start n out (at + 1) to rows out'
+      pub within-goes : (to : State) → step_state state (get_or s at 0) ≡ Some (Goes to) → Within s start n out (at + 1) to rows out'
       within-goes to e =
           go (step_in w.read (get_or s at 0)) refl (subst (Follows w.read (step_in w.read (get_or s at 0))) e follows)
           (step_in-told w.read (get_or s at 0) w.sound)
         where
-          go : (m : reading.Next) → step_in w.read (get_or s at 0) ≡ m → Follows w.read m (Goes to)
+          go : (m : reading.Next) → step_in w.read (get_or s at 0) ≡ m → Follows w.read m (Some (Goes to))
               → NextTold (partial_text w.read ++ (get_or s at 0 ∷ [])) m → Within s start n out (at + 1) to rows out'
           go (goes f) q r t = record {
             read = f;
@@ -207,13 +205,13 @@ module _ (s : List ℕ) (start n : ℕ) (out : List ℕ) where
           go stuck q r t = absurd r
 
       -- a byte behind a row
-      pub within_emits : (ws : Words) (to : State) → step_state state (get_or s at 0) ≡ Emits ws to
+      pub within_emits : (ws : Words) (to : State) → step_state state (get_or s at 0) ≡ Some (Emits ws to)
           → Within s start n out (at + 1) to (rows + 1) (put_words out' rows ws)
       within_emits ws to e =
           go (step_in w.read (get_or s at 0)) refl (subst (Follows w.read (step_in w.read (get_or s at 0))) e follows)
           (step_in-told w.read (get_or s at 0) w.sound)
         where
-          go : (m : reading.Next) → step_in w.read (get_or s at 0) ≡ m → Follows w.read m (Emits ws to)
+          go : (m : reading.Next) → step_in w.read (get_or s at 0) ≡ m → Follows w.read m (Some (Emits ws to))
               → NextTold (partial_text w.read ++ (get_or s at 0 ∷ [])) m
               → Within s start n out (at + 1) to (rows + 1) (put_words out' rows ws)
           go (goes f) q r t = record {
@@ -240,12 +238,12 @@ module _ (s : List ℕ) (start n : ℕ) (out : List ℕ) where
 
       -- `]`: the last row, and END
       pub within-closes : (ws last : Words) → last ≡ record { kind = 6; a = 0; b = 0; c = 0 }
-          → step_state state (get_or s at 0) ≡ Closes ws
+          → step_state state (get_or s at 0) ≡ Some (Closes ws)
           → FigureRead s start n out (put_words (put_words out' rows ws) (rows + 1) last) (Ok (record { at = at + 1; rows = rows + 2 }))
       within-closes ws last e6 e =
           go (step_in w.read (get_or s at 0)) refl (subst (Follows w.read (step_in w.read (get_or s at 0))) e follows)
         where
-          go : (m : reading.Next) → step_in w.read (get_or s at 0) ≡ m → Follows w.read m (Closes ws)
+          go : (m : reading.Next) → step_in w.read (get_or s at 0) ≡ m → Follows w.read m (Some (Closes ws))
               → FigureAt s start n out (put_words (put_words out' rows ws) (rows + 1) last) (at + 1) (rows + 2)
           go (goes f) q r = absurd r
           go (closes f) q r = record {
@@ -279,10 +277,10 @@ module _ (s : List ℕ) (start n : ℕ) (out : List ℕ) where
           go stuck q r = absurd r
 
       -- a byte that no line has there
-      pub within-stuck : step_state state (get_or s at 0) ≡ Stuck → FigureRead s start n out out' (Err (Broken at))
+      pub within-stuck : step_state state (get_or s at 0) ≡ None → FigureRead s start n out out' (Err (Broken at))
       within-stuck e = go (step_in w.read (get_or s at 0)) refl (subst (Follows w.read (step_in w.read (get_or s at 0))) e follows)
         where
-          go : (m : reading.Next) → step_in w.read (get_or s at 0) ≡ m → Follows w.read m Stuck
+          go : (m : reading.Next) → step_in w.read (get_or s at 0) ≡ m → Follows w.read m None
               → FigureRead s start n out out' (Err (Broken at))
           go (goes f) q r = absurd r
           go (closes f) q r = absurd r

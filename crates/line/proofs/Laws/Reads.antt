@@ -27,9 +27,8 @@ use Rattle.line.specs.declared.reading.Stop.TheVariants.{Broken, Deep}
 use Rattle.grammar.specs.Grammar as g
 use Rattle.grammar.specs.Grammar.{Figure, Line, Part, Item, Lines}
 use Rattle.grammar.specs.Reading as reading
-use Rattle.grammar.specs.Reading.{listing, Front, bare, eithers, filled, shut, parted, ended, step}
+use Rattle.grammar.specs.Reading.{listing, fresh, Front, bare, eithers, filled, shut, parted, ended, step}
 use Rattle.grammar.specs.Reading.{Context, first, next, Bracket, rounded, among, Config, ready, inside, after, opened, line_of}
-use Rattle.grammar.specs.declared.tokens.Number.TheVariants.{Fresh as fresh}
 use Rattle.line.specs.Inner.Reads.{from, FigureRead, ItemAt, ItemRead, Stored, front_of, joins, part_before, pending_rows}
 use Rattle.line.specs.Inner.Reads.{waits, front_rows, PartAt, PartRead, LineAt, LineRead, SeveralRead, WholeRead}
 use Rattle.grammar.proofs.Laws.Steps.{filled_open}

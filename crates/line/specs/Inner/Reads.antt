@@ -14,9 +14,8 @@ use Rattle.grammar.specs.declared.tokens.Connective.{Connective}
 use Rattle.grammar.specs.declared.tokens.Connective.TheVariants.{And, Or, AndNot}
 use Rattle.grammar.specs.Grammar.{Figure, Part, Item, Lines, figure, both, without, line_count}
 use Rattle.grammar.specs.Meaning.{pattern_of, operator_row, line_rows, part_rows, item_rows, lines_rows}
-use Rattle.grammar.specs.Reading.{listing, Front, bare, eithers, Context, first, next, Bracket, among, Config, ready, inside, after, opened}
+use Rattle.grammar.specs.Reading.{listing, fresh, Front, bare, eithers, Context, first, next, Bracket, among, Config, ready, inside, after, opened}
 use Rattle.grammar.specs.Reading.{line_of, filled, Outcome, whole, broken, deep, outcome}
-use Rattle.grammar.specs.declared.tokens.Number.TheVariants.{Fresh as fresh}
 use Rattle.line.specs.Inner.Store.{stored}
 
 -- a text from byte q on, where c has been read

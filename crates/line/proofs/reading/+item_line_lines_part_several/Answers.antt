@@ -6,7 +6,7 @@ use mathlib.Core.Bool.{Bool, true, false, not}
 use mathlib.Core.Logic.{◌≢◌}
 use lib.Dec.{eqb}
 use borrow.Author.Tests.{eqb-true, eqb-false}
-use Rattle.std.proofs.Common.{ℕ, ◌+◌, ◌-◌, ◌<◌, ◌≤◌, List, length, get_or, Bor, Option, Some, None}
+use Rattle.std.proofs.Common.{ℕ, ◌+◌, ◌<◌, ◌≤◌, List, length, get_or, Bor, Option, Some, None}
 use Rattle.std.specs.List.{HoldsAt}
 use Rattle.std.specs.Option.{MatchOption, option_eq}
 use Rattle.std.proofs.lemmas.Option.{MatchOption-at_some, MatchOption-at_none}
@@ -15,7 +15,7 @@ use Rattle.grammar.specs.Grammar as g
 use Rattle.line.specs.Inner.Reads.{LinesRead}
 use Rattle.line.proofs.Laws.Reads as laws
 use Rattle.line.proofs.Laws.Several.{several-out, several-none, several-wrong, several-lines}
-use Rattle.line.proofs.Laws.Several.{lines-stops, lines_open, lines-wrong, lines-full, lines_comma}
+use Rattle.line.proofs.Laws.Several.{lines_open, lines-wrong, lines-full, lines_comma}
 use Rattle.line.proofs.Laws.Several.{lines-early, lines_end}
 use Rattle.line.proofs.reading.+item_line_lines_part_several.Goals as goal
 use Rattle.line.proofs.reading.+item_line_lines_part_several.Goals.{several-in-49-to-56, several-in_default-matches, several-in_default-matches-2}

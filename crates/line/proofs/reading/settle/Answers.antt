@@ -1,5 +1,5 @@
 -- `reading::settle` meets its contract: a case for each operator that may wait. Assumes nothing.
-use mathlib.Core.Path.{◌≡◌, sym, ap, ◌∙◌}
+use mathlib.Core.Path.{sym, ap, ◌∙◌}
 use Rattle.std.proofs.Common.{List, ℕ, Option, Some}
 use Rattle.grammar.specs.declared.tokens.Connective.{Connective}
 use Rattle.line.specs.Inner.Reads.{pending_rows}
