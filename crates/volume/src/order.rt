@@ -105,7 +105,8 @@ pub fn rising<F: Fn(usize) -> u32>(word: F, from: usize, end: usize) -> bool
     falls == 0
 }
 
-// The lowest list that does not rise.
+// The lowest list that does not rise. Kept beside `bad_given` of the writer: one function for both
+// would take two closures and, for the bound of its sums, a ghost function of the lists' sizes.
 fn walk_lists(volume: &[u8], lists: usize) -> Option<usize>
     requires lists_value { lists ≡ list_count volume.now }
     requires lists_bound { lists ≤ 1024 }

@@ -83,7 +83,8 @@ pub fn count_at(volume: &[u8], i: usize) -> u32
     word_at(volume, entry(i))
 }
 
-// The sum of the first n counts.
+// The sum of the first n counts. Kept beside `sum_of` of the writer, a chain over a slice: these
+// counts are read word by word.
 pub fn count_sum(volume: &[u8], n: usize) -> u64
     requires n_bound { n ≤ 1024 }
     requires n_bound_2 { entry n ≤ stream_length volume.now }
