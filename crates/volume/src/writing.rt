@@ -86,7 +86,8 @@ fn put_stream(counts: &[u32], postings: &[u32], first: usize, out: &mut [u8])
 {
     let front = lead(counts.len());
     if front <= first && first - front + BLOCK_WORDS <= postings.len() {
-        put_words(|j| postings[first - front + j], out);
+        let from = first - front;
+        put_words(|j| postings[from + j], out);
     } else {
         put_words(|j| stream_word(counts, postings, first + j), out);
     }
