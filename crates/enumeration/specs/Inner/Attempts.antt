@@ -6,9 +6,11 @@ use Rattle.plan.specs.declared.outline.Outline.{Outline}
 use Rattle.plan.specs.Patterns.{Pattern}
 use Rattle.plan.specs.Accepted.{pattern_at}
 use Rattle.matcher.specs.declared.cursor.Document.{Document}
-use Rattle.matcher.specs.Inner.Cursors.{seek_from, list_end}
+use Rattle.matcher.specs.Inner.Cursors.{seek_from, list_end, ats_of, ends_of}
 use Rattle.matcher.specs.Inner.Settling.{Posed}
 use Rattle.matcher.specs.Inner.Order.{Order}
+use Rattle.enumeration.specs.declared.attempts.PatternInDocument.{PatternInDocument}
+use Rattle.enumeration.specs.declared.attempts.Walk.{Walk}
 
 -- stream index i lies in list l, or at its end, and all postings of the list in front of it stand before position b of document d
 pub record Mark (v : List ℕ) (l d b i : ℕ) : Type 0 where
@@ -27,6 +29,19 @@ pub record Sought (v p : List ℕ) (o : Outline) (doc : Document) (order firsts 
   pub order_is : Order o.vars order
   pub firsts-room : o.vars ≤ length firsts
   pub firsts_are : (x : ℕ) → x < o.vars → Mark v (get_or (pattern_at p o.pattern).vars x 0) doc.doc 0 (get_or firsts x 0)
+
+-- the same of the struct; and the pattern that it names
+abbrev pub SoughtIn : PatternInDocument → Type 0
+SoughtIn s = Sought s.volume.now s.plan.now s.outline s.document s.order (ats_of s.firsts) (ends_of s.firsts)
+
+abbrev pub form_of : PatternInDocument → Pattern
+form_of s = pattern_at s.plan.now s.outline.pattern
+
+-- on the way to the next match each variable has a mark in front of its bound, and all cursors are on the pattern's lists
+pub record Walking (s : PatternInDocument) (w : Walk) : Type 0 where
+  pub marked : Marked s.volume.now s.document.doc (form_of s) w.lows (ats_of w.marks)
+  pub marks_end : ends_of w.marks ≡ ends_of s.firsts
+  pub here_end : ends_of w.here ≡ ends_of s.firsts
 
 -- the index that variable x seeks: that of its first posting from its mark on that is not below its bound
 abbrev pub sought_from : List ℕ → ℕ → List ℕ → List ℕ → List ℕ → ℕ → ℕ
