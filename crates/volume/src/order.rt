@@ -48,9 +48,10 @@ pub fn fall_at(volume: &[u8], i: usize) -> u32
 {
     let next = i + 1;
     if next == BLOCK_WORDS * (volume.len() / BLOCK_BYTES) {
-        return 1;
+        1
+    } else {
+        fall_of(word_at(volume, i), word_at(volume, next))
     }
-    fall_of(word_at(volume, i), word_at(volume, next))
 }
 
 // The falls from stream index `from` up to `end`.
@@ -136,7 +137,8 @@ pub fn bad_list(volume: &[u8], lists: usize, used: usize, all: usize) -> Option<
     let head = falls_from(volume, 0, lead(lists));
     let tail = falls_from(volume, used, end);
     if head + list_falls(volume, lists) + tail == all {
-        return None;
+        None
+    } else {
+        walk_lists(volume, lists)
     }
-    walk_lists(volume, lists)
 }
