@@ -12,12 +12,9 @@ pub fn put_bytes(bytes: &[u8], at: usize, out: &mut [u8]) -> usize
     requires { at + length bytes.now ≤ length out.old }
     ensures { Stored out.old at bytes.now out.new result }
 {
-    let mut i: usize = 0;
-    while i < bytes.len() {
-        out[at + i] = bytes[i];
-        i += 1;
-    }
-    at + i
+    let end = at + bytes.len();
+    out[at..end].copy_from_slice(bytes);
+    end
 }
 
 // A space and a number.
@@ -36,10 +33,8 @@ fn put_numbers(ns: &[u32], at: usize, out: &mut [u8]) -> usize
     ensures { Stored out.old at (joined (map spaced ns.now)) out.new result }
 {
     let mut end = at;
-    let mut i: usize = 0;
-    while i < ns.len() {
-        end = put_number(wide(ns[i]), end, out);
-        i += 1;
+    for &n in ns {
+        end = put_number(u64::from(n), end, out);
     }
     end
 }
@@ -80,19 +75,9 @@ pub fn put_rows(page: &[u32], n: usize, width: usize, at: usize, out: &mut [u8])
     ensures upper_bound { result ≤ at + n * (6 + 11 * width) }
 {
     let mut end = at;
-    let mut first: usize = 0;
-    let mut i: usize = 0;
-    while i < n {
-        let next = first + width;
-        end = put_row(&page[first..next], end, out);
-        first = next;
-        i += 1;
+    for i in 0..n {
+        let first = i * width;
+        end = put_row(&page[first..first + width], end, out);
     }
     end
-}
-
-pub fn wide(x: u32) -> u64
-    ensures { result ≡ x }
-{
-    x as u64
 }
