@@ -10,7 +10,7 @@ ghost use Rattle.search.specs.Search.{Kept};
 ghost use Rattle.matcher.specs.Inner.Tables.{Cursors};
 ghost use Rattle.search.specs.Inner.Walk.{Walks};
 
-use super::answers::Listed;
+use super::answers::{ListError, Listing};
 use super::rows::write_row;
 use super::setup::{set_cursors, set_orders};
 use super::walk::{Walk, visit};
@@ -30,15 +30,13 @@ fn tally(volume: &[u8], plan: &[u32], start: u32, doc: u32, ats: &[usize], ends:
     ensures { result ≡ postings_in (lists_of volume.now) (rows_of plan.now) start doc }
 {
     let mut sum: usize = 0;
-    let mut x: usize = 0;
-    while x < ats.len() {
+    for x in 0..ats.len() {
         let cursor = Cursor {
             at: ats[x],
             end: ends[x],
         };
         let moved = cursor.seek(volume, doc);
         sum += moved.at - ats[x];
-        x += 1;
     }
     sum as u32
 }
@@ -56,7 +54,7 @@ fn list_docs(
     ats: &mut [usize],
     positions: &mut [u32],
     out: &mut [u32],
-) -> Listed
+) -> Listing
     requires walks { Walks volume.now plan.now table.now orders.now ends.now }
     requires table_len { length table.now ≡ 4 * (sizes plan.now).patterns }
     requires firsts_len { length firsts.now ≡ (sizes plan.now).vars }
@@ -66,7 +64,7 @@ fn list_docs(
     requires plan_in_bounds { (sizes plan.now).vars ≤ length positions.old }
     requires plan_in_bounds_2 { row_words (sizes plan.now).patterns (sizes plan.now).vars ≤ length out.old }
     ensures { Kept volume.now plan.now start
-        (record { lent = out.old; says = said_listed result; back = out.new }) }
+        (record { lent = out.old; says = said_listed (Ok result); back = out.new }) }
 {
     let patterns = table.len() / 4;
     let width = row_words(patterns as u32, firsts.len() as u32);
@@ -100,16 +98,24 @@ fn list_docs(
         );
         let doc = seen.doc;
         if doc == Posting::DOCS {
-            let passed = tally(volume, plan, start, doc, firsts, ends);
-            return Listed::Done(rows as u32, passed);
+            let tally = tally(volume, plan, start, doc, firsts, ends);
+            return Listing {
+                rows: rows as u32,
+                tally,
+                next: None,
+            };
         }
         from = doc + 1;
         if !answer_of(plan, seen.found, &mut known) {
             continue;
         }
         if rows == room {
-            let passed = tally(volume, plan, start, doc, firsts, ends);
-            return Listed::More(doc, rows as u32, passed);
+            let tally = tally(volume, plan, start, doc, firsts, ends);
+            return Listing {
+                rows: rows as u32,
+                tally,
+                next: Some(doc),
+            };
         }
         let document = Document { doc, starts };
         block = write_row(
@@ -136,14 +142,14 @@ fn list_from(
     vars: usize,
     start: u32,
     out: &mut [u32],
-) -> Listed
+) -> Listing
     requires accepted { Accepted volume.now plan.now }
     requires patterns_value { patterns ≡ (sizes plan.now).patterns }
     requires vars_value { vars ≡ (sizes plan.now).vars }
     requires start_bound { start ≤ 65535 }
     requires vars_in_bounds { row_words patterns vars ≤ length out.old }
     ensures { Kept volume.now plan.now start
-        (record { lent = out.old; says = said_listed result; back = out.new }) }
+        (record { lent = out.old; says = said_listed (Ok result); back = out.new }) }
 {
     let mut table: [usize; 4 * MOST_PATTERNS] = [0; 4 * MOST_PATTERNS];
     lay_out(plan, patterns, &mut table);
@@ -177,21 +183,19 @@ fn list_from(
 }
 
 // Writes the rows of the true documents from document `start` on to the front of out, as many as fit.
-pub fn list(volume: &[u8], plan: &[u32], start: u32, out: &mut [u32]) -> Listed
+pub fn list(volume: &[u8], plan: &[u32], start: u32, out: &mut [u32]) -> Result<Listing, ListError>
     ensures { Kept volume.now plan.now start
         (record { lent = out.old; says = said_listed result; back = out.new }) }
 {
-    let checked = plan::check(volume, plan);
-    match checked {
-        Checked::Refused(why) => Listed::Refused(why),
-        Checked::Accepted(patterns, vars) => {
-            if Posting::LAST_DOC < start {
-                return Listed::Start;
-            }
-            if out.len() < row_words(patterns, vars) {
-                return Listed::Short;
-            }
-            list_from(volume, plan, patterns as usize, vars as usize, start, out)
-        }
+    let (patterns, vars) = match plan::check(volume, plan) {
+        Checked::Refused(why) => return Err(ListError::Refused(why)),
+        Checked::Accepted(patterns, vars) => (patterns, vars),
+    };
+    if Posting::LAST_DOC < start {
+        return Err(ListError::Start);
     }
+    if out.len() < row_words(patterns, vars) {
+        return Err(ListError::Short);
+    }
+    Ok(list_from(volume, plan, patterns as usize, vars as usize, start, out))
 }

@@ -13,18 +13,6 @@ ghost use Rattle.search.specs.Inner.Rows.{halved, row_by};
 use matcher::{Blocks, Document, para_near};
 use plan::outline_at;
 
-// Writes zeros into out, n of them from `to` on.
-fn write_zeros(n: usize, out: &mut [u32], to: usize)
-    requires { to + n ≤ length out.old }
-    ensures { out.new ≡ take to out.old ++ replicate n 0 ++ drop (to + n) out.old }
-{
-    let mut i: usize = 0;
-    while i < n {
-        out[to + i] = 0;
-        i += 1;
-    }
-}
-
 // Writes positions of a document into out from `to` on, each followed by the start of its paragraph.
 // `block` is where a start was found last. The block in which the last one is found.
 fn write_pairs(
@@ -48,16 +36,11 @@ fn write_pairs(
     ensures result_bound { 126 * result ≤ stream_length volume.now }
 {
     let mut near = block;
-    let mut at = to;
-    let mut x: usize = 0;
-    while x < positions.len() {
-        let pos = positions[x];
+    for (x, &pos) in positions.iter().enumerate() {
         let para = para_near(volume, document, blocks, pos, near);
         near = para.block;
-        out[at] = pos;
-        out[at + 1] = para.start;
-        at += 2;
-        x += 1;
+        out[to + 2 * x] = pos;
+        out[to + 2 * x + 1] = para.start;
     }
     near
 }
@@ -99,8 +82,7 @@ pub fn write_row(
     let mut near = block;
     let mut to = from + 1;
     let mut left = found;
-    let mut k: usize = 0;
-    while k < patterns {
+    for k in 0..patterns {
         let outline = outline_at(table, k);
         let first = outline.first;
         let vars = outline.vars;
@@ -111,11 +93,10 @@ pub fn write_row(
             let tuple = &positions[first..first + vars];
             near = write_pairs(volume, document, blocks, near, tuple, out, to);
         } else {
-            write_zeros(2 * vars, out, to);
+            out[to..to + 2 * vars].fill(0);
         }
         to += 2 * vars;
-        left = left / 2;
-        k += 1;
+        left /= 2;
     }
     near
 }

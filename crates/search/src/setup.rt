@@ -22,20 +22,14 @@ fn lists_used(plan: &[u32], patterns: usize, table: &[usize]) -> usize
     ensures { ListsUsed plan.now (sizes plan.now).vars result }
 {
     let mut used: usize = 0;
-    let mut k: usize = 0;
-    while k < patterns {
+    for k in 0..patterns {
         let outline = outline_at(table, k);
         let count = outline.vars;
         let row = outline.condition - count;
-        let mut i: usize = 0;
-        while i < count {
+        for i in 0..count {
             let list = list_at(plan, row + i) as usize;
-            if used <= list {
-                used = list + 1;
-            }
-            i += 1;
+            used = used.max(list + 1);
         }
-        k += 1;
     }
     used
 }
@@ -80,21 +74,17 @@ pub fn set_cursors(
     let mut starts: [usize; MAX_LISTS + 1] = [0; MAX_LISTS + 1];
     let used = lists_used(plan, patterns, table);
     volume::list_starts(volume, used, &mut starts);
-    let mut k: usize = 0;
-    while k < patterns {
+    for k in 0..patterns {
         let outline = outline_at(table, k);
         let first = outline.first;
         let count = outline.vars;
         let row = outline.condition - count;
-        let mut i: usize = 0;
-        while i < count {
+        for i in 0..count {
             let list = list_at(plan, row + i);
             let cursor = cursor_on(volume, &starts, list as usize, start);
             ats[first + i] = cursor.at;
             ends[first + i] = cursor.end;
-            i += 1;
         }
-        k += 1;
     }
 }
 
@@ -114,11 +104,9 @@ pub fn set_orders(
     ensures rarest_each { RarestEach volume.now plan.now orders.new }
     ensures orders_len_unchanged { length orders.new ≡ length orders.old }
 {
-    let mut k: usize = 0;
-    while k < patterns {
+    for k in 0..patterns {
         let outline = outline_at(table, k);
         let first = outline.first;
         rarest_first(volume, plan, outline, &mut orders[first..]);
-        k += 1;
     }
 }

@@ -51,13 +51,9 @@ fn next_docs(
     ensures { Brought volume.now plan.now ends.now ats.old positions.old
         docs.old doc ats.new positions.new docs.new }
 {
-    let mut k: usize = 0;
-    while k < docs.len() {
-        if !fresh {
-            if doc <= docs[k] {
-                k += 1;
-                continue;
-            }
+    for k in 0..docs.len() {
+        if !fresh && doc <= docs[k] {
+            continue;
         }
         let outline = outline_at(table, k);
         let first = outline.first;
@@ -71,7 +67,6 @@ fn next_docs(
             outline.vars,
             doc,
         );
-        k += 1;
     }
 }
 
@@ -80,16 +75,7 @@ fn least_of(docs: &[u32]) -> u32
     requires { (k : ℕ) → k < length docs.now → get_or docs.now k 0 ≤ 65536 }
     ensures { LeastDoc docs.now (length docs.now) result }
 {
-    let mut least = Posting::DOCS;
-    let mut k: usize = 0;
-    while k < docs.len() {
-        let doc = docs[k];
-        if doc < least {
-            least = doc;
-        }
-        k += 1;
-    }
-    least
+    docs.iter().copied().min().unwrap_or(Posting::DOCS)
 }
 
 // Brings a pattern that stands in a document to its least match there. Whether there is one. A
@@ -158,9 +144,8 @@ fn settle_all(
 {
     let mut bits: u32 = 0;
     let mut weight: u32 = 1;
-    let mut k: usize = 0;
-    while k < docs.len() {
-        if docs[k] == document.doc {
+    for (k, &doc) in docs.iter().enumerate() {
+        if doc == document.doc {
             let outline = outline_at(table, k);
             if settle(
                 volume, plan, outline, document, orders, ends, ats, positions, paras,
@@ -169,7 +154,6 @@ fn settle_all(
             }
         }
         weight *= 2;
-        k += 1;
     }
     bits
 }

@@ -1,9 +1,9 @@
 -- What is set up before the documents are walked. No contract cites this file.
---     used-first, used-more, used-kept     the lists of a plan's variables, variable by variable
---     used-within                          all of them are lists of the volume
---     started-cursor                       a cursor on a list, from the starts of the lists
+--     used-first, used-next     the lists of a plan's variables, variable by variable
+--     used-within               all of them are lists of the volume
+--     started-cursor            a cursor on a list, from the starts of the lists
 -- Assumes nothing.
-use Prim.Native.Nat.{ℕ, ◌+◌, ◌<◌, ◌≤◌}
+use Prim.Native.Nat.{ℕ, ◌+◌, ◌<◌, ◌≤◌, max}
 use native.Mathlib.Omega.{arith}
 use mathlib.Core.Path.{◌≡◌, ap₂, ◌∙◌}
 use mathlib.Core.List.{List}
@@ -22,23 +22,16 @@ module _ (p : List ℕ) where
   pub used-first : ListsUsed p 0 0
   used-first = record { above = λ x h. absurd (let z : ⊥ = omega arith in z); least = λ m h. omega arith }
 
-  -- the list of variable x is above those before it, or not
-  module _ (x r list : ℕ) (u : ListsUsed p x r) (e : list ≡ var_at p x) where
-    pub used-more : r ≤ list → ListsUsed p (x + 1) (list + 1)
-    used-more h = record {
-      above =
-          λ y l. ⊎_elim
-          (λ (b : y < x). let a = u.above y b in omega arith)
-          (λ (b : x ≤ y). let q : y ≡ x = omega arith in rw q (omega arith))
-          (below_or y x);
-      least = λ m a. let b = a x (omega arith) in omega arith;
-    }
-
-    pub used-kept : list < r → ListsUsed p (x + 1) r
-    used-kept h = record {
-      above = λ y l. ⊎_elim (λ (b : y < x). u.above y b) (λ (b : x ≤ y). let q : y ≡ x = omega arith in rw q (omega arith)) (below_or y x);
-      least = λ m a. u.least m (λ y l. a y (omega arith));
-    }
+  -- the list of variable x, and those before it
+  pub used-next : (x r list : ℕ) → ListsUsed p x r → list ≡ var_at p x → ListsUsed p (x + 1) (max r (list + 1))
+  used-next x r list u e = record {
+    above =
+        λ y l. ⊎_elim
+        (λ (b : y < x). let a = u.above y b in omega arith)
+        (λ (b : x ≤ y). let q : y ≡ x = omega arith in rw q (omega arith))
+        (below_or y x);
+    least = λ m a. let b = a x (omega arith) in let c = u.least m (λ y l. a y (omega arith)) in omega arith;
+  }
 
   pub used-within : (v : List ℕ) → Accepted v p → (r : ℕ) → ListsUsed p (sizes p).vars r → r ≤ list_count v
   used-within v accepted r u = u.least (list_count v) (var-there v p accepted)

@@ -8,11 +8,11 @@ use Rattle.search.proofs.Laws.Seen.{work-words}
 use Rattle.search.proofs.listing.list.Goals as goal
 
 pub returns-then-start-gt-LAST_DOC : goal.returns-then-start-gt-LAST_DOC
-returns-then-start-gt-LAST_DOC c = start-kept _ _ _ _ _ (sym c.check-checked.ensures ∙ ap said_checked c.in-Accepted.is) c.if-start-gt-LAST_DOC.true
+returns-then-start-gt-LAST_DOC c = start-kept _ _ _ _ _ (sym c.check.ensures ∙ ap said_checked c.in-Accepted.is) c.if-start-gt-LAST_DOC.true
 
 pub returns-then-out-row_words : goal.returns-then-out-row_words
 returns-then-out-row_words c =
-    let e = sym c.check-checked.ensures ∙ ap said_checked c.in-Accepted.is in
+    let e = sym c.check.ensures ∙ ap said_checked c.in-Accepted.is in
     let q = verdict-sizes c.args.volume.now c.args.plan.now _ e in
     let f = ap (λ (s : Sizes). s.patterns) q in
     let g = ap (λ (s : Sizes). s.vars) q in
@@ -22,16 +22,16 @@ returns-then-out-row_words c =
 
 pub list_from-requires : goal.list_from-requires
 list_from-requires c =
-    let e = sym c.check-checked.ensures ∙ ap said_checked c.in-Accepted.is in
+    let e = sym c.check.ensures ∙ ap said_checked c.in-Accepted.is in
     let q = verdict-sizes c.args.volume.now c.args.plan.now _ e in
     let r = c.row_words.ensures in
     record {
       accepted = rw q at e;
       patterns_value = ap (λ (s : Sizes). s.patterns) q;
       vars_value = ap (λ (s : Sizes). s.vars) q;
-      start_bound = c.if-start-gt-LAST_DOC.false;
+      start_bound = let h = c.if-start-gt-LAST_DOC.false in omega arith;
       vars_in_bounds = omega arith;
     }
 
 pub returns-in-Refused : goal.returns-in-Refused
-returns-in-Refused c = refused-kept _ _ _ _ _ _ (sym c.check-checked.ensures ∙ ap said_checked c.in-Refused.is)
+returns-in-Refused c = refused-kept _ _ _ _ _ _ (sym c.check.ensures ∙ ap said_checked c.in-Refused.is)

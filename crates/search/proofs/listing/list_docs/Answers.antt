@@ -4,19 +4,16 @@ use mathlib.Core.Path.{◌≡◌, refl, sym, ap, subst, ◌∙◌}
 use lib.ListN.{length, take}
 use lib.Seq.{length-take-le}
 use Rattle.plan.specs.Limits.{most_patterns, most_vars, row_words, most_row_words}
-use Rattle.volume.specs.Layout.{lists_of}
 use Rattle.plan.specs.Check.{sizes}
 use Rattle.plan.specs.Inner.Stack.{most_found_sets, Remembers}
 use Rattle.plan.proofs.Laws.Accepted.{given}
 use Rattle.plan.proofs.Laws.Stack.{found-small, remembers-first, remembers-next}
-use Rattle.fulltext.specs.Matches.{starts_in}
 use Rattle.fulltext.specs.Documents.{work}
 use Rattle.fulltext.proofs.Laws.Counts.{work-even}
 use Rattle.matcher.specs.Inner.Cursors.{sought}
 use Rattle.matcher.proofs.Laws.Blocks.{blocks-whole}
 use Rattle.search.proofs.Laws.Loop.{Progress, same_size}
 use Rattle.search.proofs.Laws.Seen.{at-document, starts-stretch, block-first, walking-first, seen_true}
-use Rattle.search.specs.Inner.Rows.{row_by}
 use Rattle.search.proofs.Laws.Walk.{walk-within}
 use Rattle.search.proofs.Laws.Visits.{visiting-first, visiting-part, part_length, visit-reached, visit-wide, visit-passed}
 use Rattle.search.proofs.Laws.Visits.{visit-small, visit-put, visit-room, visit-words, visit-rows, visit-few, visit-done, visit-more}
@@ -137,8 +134,8 @@ visit-seen-requires c =
       plan_in_bounds = omega arith;
     }
 
-pub tally-passed-requires : goal.tally-passed-requires
-tally-passed-requires c =
+pub tally-tally-requires : goal.tally-tally-requires
+tally-tally-requires c =
     let p = c.requires in
     let e = p.firsts_len in
     let r = p.walks.ends-room in
@@ -146,7 +143,7 @@ tally-passed-requires c =
       accepted = p.walks.accepted;
       ats_len = e;
       ats_in_bounds = omega arith;
-      start_le_doc = (reached (goal.at.tally-passed-requires c).After-visit-seen).from;
+      start_le_doc = (reached (goal.at.tally-tally-requires c).After-visit-seen).from;
       doc_bound = c.visit-seen.ensures.visited.most;
       cursors = p.cursors;
     }
@@ -167,7 +164,7 @@ shape_of-out-then-doc-eq-DOCS c =
 pub returns-then-doc-eq-DOCS : goal.returns-then-doc-eq-DOCS
 returns-then-doc-eq-DOCS c =
     let p = c.requires in
-    visit-done _ _ _ _ _ p.walks _ _ p.start_bound p.plan_in_bounds_2 _ _ _ (reached (goal.at.returns-then-doc-eq-DOCS c).After-visit-seen) c.tally-passed.result c.tally-passed.ensures (omega arith)
+    visit-done _ _ _ _ _ p.walks _ _ p.start_bound p.plan_in_bounds_2 _ _ _ (reached (goal.at.returns-then-doc-eq-DOCS c).After-visit-seen) c.tally-tally.result c.tally-tally.ensures (omega arith)
 
 pub overflow_add-from : goal.overflow_add-from
 overflow_add-from c = let l = c.visit-seen.ensures.visited.most in omega arith
@@ -205,8 +202,8 @@ loop-starts-preserved-then-not-answer_of c =
       ),
     )
 
-pub tally-passed-requires-then-rows-room : goal.tally-passed-requires-then-rows-room
-tally-passed-requires-then-rows-room c =
+pub tally-tally-requires-then-rows-room : goal.tally-tally-requires-then-rows-room
+tally-tally-requires-then-rows-room c =
     let p = c.requires in
     let e = p.firsts_len in
     let r = p.walks.ends-room in
@@ -214,7 +211,7 @@ tally-passed-requires-then-rows-room c =
       accepted = p.walks.accepted;
       ats_len = e;
       ats_in_bounds = omega arith;
-      start_le_doc = (reached (goal.at.tally-passed-requires-then-rows-room c).After-visit-seen).from;
+      start_le_doc = (reached (goal.at.tally-tally-requires-then-rows-room c).After-visit-seen).from;
       doc_bound = c.visit-seen.ensures.visited.most;
       cursors = p.cursors;
     }
@@ -235,7 +232,7 @@ shape_of-out-then-rows-room c =
 pub returns-then-rows-room : goal.returns-then-rows-room
 returns-then-rows-room c =
     let p = c.requires in
-    visit-more _ _ _ _ _ p.walks _ _ p.start_bound p.plan_in_bounds_2 _ _ _ (reached (goal.at.returns-then-rows-room c).After-visit-seen) c.tally-passed-then-rows-room.result c.tally-passed-then-rows-room.ensures (omega (arith, c.visit-seen.ensures.visited.most)) (told (goal.at.returns-then-rows-room c).After-answer_of ∙ c.if-not-answer_of.false) _ (wide (goal.at.returns-then-rows-room c).After-row_words-width) (omega arith)
+    visit-more _ _ _ _ _ p.walks _ _ p.start_bound p.plan_in_bounds_2 _ _ _ (reached (goal.at.returns-then-rows-room c).After-visit-seen) c.tally-tally-then-rows-room.result c.tally-tally-then-rows-room.ensures (omega (arith, c.visit-seen.ensures.visited.most)) (told (goal.at.returns-then-rows-room c).After-answer_of ∙ c.if-not-answer_of.false) _ (wide (goal.at.returns-then-rows-room c).After-row_words-width) (omega arith)
 
 pub overflow_mul-rows : goal.overflow_mul-rows
 overflow_mul-rows c =

@@ -9,7 +9,7 @@ use Rattle.plan.specs.Inner.Outline.{outline_at}
 use Rattle.fulltext.specs.Matches.{starts_in}
 use Rattle.matcher.specs.Inner.Shortfall.{InDocument}
 use Rattle.search.specs.Inner.Rows.{row_by}
-use Rattle.search.proofs.Laws.Rows.{row_first, row-le, found-stored, unfound-stored}
+use Rattle.search.proofs.Laws.Rows.{row_first, row-le, found-stored, unfound-stored, zeros-back}
 use Rattle.search.proofs.Laws.Rows.{writing-first, writing-room, writing-next, writing-done}
 use Rattle.search.proofs.rows.write_row.Goals as goal
 use Rattle.search.proofs.rows.write_row.Goals.{After-outline_at-outline, At-loop-k, Start, else-flag-eq1, then-flag-eq1}
@@ -144,10 +144,10 @@ write_pairs-near-requires c =
 pub overflow_mul-vars : goal.overflow_mul-vars
 overflow_mul-vars c = let r = reach (goal.at.overflow_mul-vars c).After-outline_at-outline in omega arith
 
-pub write_zeros-requires : goal.write_zeros-requires
-write_zeros-requires c =
+pub slice_bounds-fill-end : goal.slice_bounds-fill-end
+slice_bounds-fill-end c =
     let l = c.loop-k in
-    let r = (reach (goal.at.write_zeros-requires c).After-outline_at-outline).word in
+    let r = (reach (goal.at.slice_bounds-fill-end c).After-outline_at-outline).word in
     let n = length-set l.out l.to (l.left % 2) in
     omega arith
 
@@ -157,12 +157,6 @@ overflow_mul-to c = let r = reach (goal.at.overflow_mul-to c).After-outline_at-o
 pub overflow_add-to-in-loop-k-2 : goal.overflow_add-to-in-loop-k-2
 overflow_add-to-in-loop-k-2 c = let r = reach (goal.at.overflow_add-to-in-loop-k-2 c).After-outline_at-outline in omega arith
 
-pub overflow_add-k : goal.overflow_add-k
-overflow_add-k c = let t = c.loop-k-test.true in omega arith
-
-pub loop-k-smaller : goal.loop-k-smaller
-loop-k-smaller c = let t = c.loop-k-test.true in omega arith
-
 pub loop-k-preserved : goal.loop-k-preserved
 loop-k-preserved c =
     let l = c.loop-k in
@@ -171,6 +165,8 @@ loop-k-preserved c =
     let t = c.loop-k-test.true in
     let i = c.requires.by_index l.k t in
     let g = given (goal.at.loop-k-preserved c).At-loop-k in
+    let r = (reach (goal.at.loop-k-preserved c).After-outline_at-outline).word in
+    let n = length-set l.out l.to (l.left % 2) in
     elim c.if-flag-eq1.branch [
       | then-flag-eq1 b ↦ rw (b.out-is, b.near-is) (
         writing-next _ _ _ _ _ _ _ _ l.out l.to l.left l.k w t i g _ o.vars (vars_are (goal.at.loop-k-preserved c).After-outline_at-outline)
@@ -180,7 +176,7 @@ loop-k-preserved c =
       | else-flag-eq1 b ↦ rw (b.out-is, b.near-is) (
         writing-next _ _ _ _ _ _ _ _ l.out l.to l.left l.k w t i g _ o.vars (vars_are (goal.at.loop-k-preserved c).After-outline_at-outline)
             (unfound-stored _ _ _ _ _ _ _ _ l.out l.to l.left l.k w t i g b.if-flag-eq1.false o.vars (vars_are (goal.at.loop-k-preserved c).After-outline_at-outline) _
-            b.write_zeros.ensures),
+            (zeros-back (set l.out l.to (l.left % 2)) _ (l.to + 1) (2 * o.vars) (omega arith) (b.fill.ensures.after (λ y h. h)))),
         l.invariant.1,
       )
     ]

@@ -9,9 +9,9 @@ use Rattle.plan.proofs.Laws.Accepted.{given}
 use Rattle.plan.proofs.Laws.Outline.{vars_before-first, vars_before-next, vars_before-end, Outlined, outlined}
 use Rattle.matcher.specs.Inner.Tables.{var_at}
 use Rattle.matcher.proofs.Laws.Placed.{Voiced, voiced, voiced-list, var-is}
-use Rattle.search.proofs.Laws.Setup.{used-first, used-more, used-kept}
+use Rattle.search.proofs.Laws.Setup.{used-first, used-next}
 use Rattle.search.proofs.setup.lists_used.Goals as goal
-use Rattle.search.proofs.setup.lists_used.Goals.{After-list_at-list, After-outline_at-outline, In-loop-i, else-used-list, then-used-list}
+use Rattle.search.proofs.setup.lists_used.Goals.{After-list_at-list, After-outline_at-outline, In-loop-i}
 
 -- the outline of pattern k, as a turn reads it
 outline : (c : After-outline_at-outline) →
@@ -62,7 +62,7 @@ read c =
     ∙ ap (λ (x : ℕ). var_at p (x + c.loop-i.i)) o.first-is
 
 pub loop-k-init : goal.loop-k-init
-loop-k-init c = let p = c.args.plan.now in (omega arith, rw (vars_before-first p) (used-first p))
+loop-k-init c = let p = c.args.plan.now in rw (vars_before-first p) (used-first p)
 
 pub overflow_sub-row : goal.overflow_sub-row
 overflow_sub-row c = let o = (outline (goal.at.overflow_sub-row c).After-outline_at-outline).room in omega arith
@@ -71,7 +71,7 @@ pub loop-i-init : goal.loop-i-init
 loop-i-init c =
     let p = c.args.plan.now in
     let e : vars_before p c.loop-k.k ≡ vars_before p c.loop-k.k + 0 = omega arith in
-    (omega arith, rw e at c.loop-k.invariant.1)
+    rw e at c.loop-k.invariant
 
 pub overflow_add-row : goal.overflow_add-row
 overflow_add-row c =
@@ -92,10 +92,7 @@ loop-i-preserved c =
     let p = c.args.plan.now in
     let x = vars_before p c.loop-k.k + l.i in
     let e : x + 1 ≡ vars_before p c.loop-k.k + (l.i + 1) = omega arith in
-    let r = read (goal.at.loop-i-preserved c).After-list_at-list in (
-      omega arith,
-      elim c.if-used-list.branch [ then-used-list w ↦ rw w.used-is (rw e at (used-more p x l.used _ l.invariant.1 r w.if-used-list.true)) | else-used-list w ↦ rw w.used-is (rw e at (used-kept p x l.used _ l.invariant.1 r w.if-used-list.false)) ],
-    )
+    rw (← e, c.max-used.ensures) (used-next p x l.used _ l.invariant (read (goal.at.loop-i-preserved c).After-list_at-list))
 
 pub loop-k-preserved : goal.loop-k-preserved
 loop-k-preserved c =
@@ -103,11 +100,11 @@ loop-k-preserved c =
     let m = (outline (goal.at.loop-k-preserved c).After-outline_at-outline).vars_are in
     let next = vars_before-next p c.loop-k.k (omega arith) in
     let e : vars_before p c.loop-k.k + c.loop-i.i ≡ vars_before p (c.loop-k.k + 1) = omega arith in
-    (omega arith, rw e at c.loop-i.invariant.1)
+    rw e at c.loop-i.invariant
 
 pub returns : goal.returns
 returns c =
     let l = c.loop-k in
     let p = c.args.plan.now in
     let e : l.k ≡ (sizes p).patterns = omega arith in
-    rw (ap (vars_before p) e ∙ vars_before-end p) at l.invariant.1
+    rw (ap (vars_before p) e ∙ vars_before-end p) at l.invariant

@@ -118,7 +118,7 @@ list_starts-requires c =
 pub loop-k-init : goal.loop-k-init
 loop-k-init c =
     let a = c.args in
-    (omega arith, placing-first a.volume.now a.plan.now a.start a.ats.now a.ends.now)
+    placing-first a.volume.now a.plan.now a.start a.ats.now a.ends.now
 
 pub overflow_sub-row : goal.overflow_sub-row
 overflow_sub-row c = let o = (outline c).room in omega arith
@@ -129,12 +129,10 @@ loop-i-init c =
     let a = c.args in
     let p = a.plan.now in
     let first = c.outline_at-outline.result.first in
-    let f = (outline c).first-is in (
-      omega arith,
-      placing_as a.volume.now p a.start (length a.ats.now) (length a.ends.now) (vars_before p l.k) (length l.ats)
-          (length l.ends) (first + 0) l.ats l.ends l.invariant.1 (sym l.invariant.1.same_ats) (sym l.invariant.1.same_ends)
-          (omega arith),
-    )
+    let f = (outline c).first-is in
+    placing_as a.volume.now p a.start (length a.ats.now) (length a.ends.now) (vars_before p l.k) (length l.ats)
+    (length l.ends) (first + 0) l.ats l.ends l.invariant (sym l.invariant.same_ats) (sym l.invariant.same_ends)
+    (omega arith)
 
 pub overflow_add-row : goal.overflow_add-row
 overflow_add-row c =
@@ -192,7 +190,7 @@ pub bounds-ats-first : goal.bounds-ats-first
 bounds-ats-first c =
     let t = room c in
     let w = c.requires.most_vars_in_bounds in
-    let l = c.loop-i.invariant.1.same_ats ∙ c.loop-k.invariant.1.same_ats in
+    let l = c.loop-i.invariant.same_ats ∙ c.loop-k.invariant.same_ats in
     omega arith
 
 pub overflow_add-ends : goal.overflow_add-ends
@@ -205,11 +203,8 @@ pub bounds-ends-first : goal.bounds-ends-first
 bounds-ends-first c =
     let t = room c in
     let w = c.requires.most_vars_in_bounds_2 in
-    let l = c.loop-i.invariant.1.same_ends ∙ c.loop-k.invariant.1.same_ends in
+    let l = c.loop-i.invariant.same_ends ∙ c.loop-k.invariant.same_ends in
     omega arith
-
-pub overflow_add-i : goal.overflow_add-i
-overflow_add-i c = let t = room c in omega arith
 
 pub loop-i-preserved : goal.loop-i-preserved
 loop-i-preserved c =
@@ -218,16 +213,14 @@ loop-i-preserved c =
     let a = c.args in
     let v = a.volume.now in
     let few = room c in
-    let ats-same = outer.invariant.1.same_ats in
-    let ends_same = outer.invariant.1.same_ends in
+    let ats-same = outer.invariant.same_ats in
+    let ends_same = outer.invariant.same_ends in
     let x = c.outline_at-outline.result.first + l.i in
     let list = read (goal.at.loop-i-preserved c).After-list_at-list in
     let e : x + 1 ≡ c.outline_at-outline.result.first + (l.i + 1) = omega arith in
-    let next = placing-next v a.plan.now a.start (length outer.ats) (length outer.ends) l.ats l.ends x l.invariant.1 in
-    let seeks = c.cursor_on-cursor.ensures ∙ ap (λ (list : ℕ). cursor_on v list a.start) list in (
-      omega arith,
-      rw e at (next (omega (arith, few, c.requires.most_vars_in_bounds, ats-same)) (omega (arith, few, c.requires.most_vars_in_bounds_2, ends_same)) c.cursor_on-cursor.result seeks),
-    )
+    let next = placing-next v a.plan.now a.start (length outer.ats) (length outer.ends) l.ats l.ends x l.invariant in
+    let seeks = c.cursor_on-cursor.ensures ∙ ap (λ (list : ℕ). cursor_on v list a.start) list in
+    rw e at (next (omega (arith, few, c.requires.most_vars_in_bounds, ats-same)) (omega (arith, few, c.requires.most_vars_in_bounds_2, ends_same)) c.cursor_on-cursor.result seeks)
 
 pub loop-k-preserved : goal.loop-k-preserved
 loop-k-preserved c =
@@ -238,22 +231,20 @@ loop-k-preserved c =
     let f = (outline (goal.at.loop-k-preserved c).After-struct_known-1).first-is in
     let m = (outline (goal.at.loop-k-preserved c).After-struct_known-1).vars_are in
     let next = vars_before-next p outer.k (inside (goal.at.loop-k-preserved c).In-loop-k) in
-    let first = c.outline_at-outline.result.first in (
-      omega arith,
-      placing_as a.volume.now p a.start (length outer.ats) (length outer.ends) (first + l.i) (length a.ats.now)
-          (length a.ends.now) (vars_before p (outer.k + 1)) l.ats l.ends l.invariant.1 outer.invariant.1.same_ats
-          outer.invariant.1.same_ends (omega arith),
-    )
+    let first = c.outline_at-outline.result.first in
+    placing_as a.volume.now p a.start (length outer.ats) (length outer.ends) (first + l.i) (length a.ats.now)
+    (length a.ends.now) (vars_before p (outer.k + 1)) l.ats l.ends l.invariant outer.invariant.same_ats
+    outer.invariant.same_ends (omega arith)
 
 pub shape_of-ats : goal.shape_of-ats
-shape_of-ats c = c.loop-k.invariant.1.same_ats
+shape_of-ats c = c.loop-k.invariant.same_ats
 
 pub shape_of-ends : goal.shape_of-ends
-shape_of-ends c = c.loop-k.invariant.1.same_ends
+shape_of-ends c = c.loop-k.invariant.same_ends
 
 pub returns : goal.returns
 returns c =
     let l = c.loop-k in
     let a = c.args in
     placing-done a.volume.now a.plan.now a.start (length a.ats.now) (length a.ends.now) l.ats l.ends l.k
-    l.invariant.1 (omega arith)
+    l.invariant (omega arith)

@@ -63,9 +63,6 @@ rarest_first-requires c =
       vars_in_bounds = omega arith;
     }
 
-pub loop-k-smaller : goal.loop-k-smaller
-loop-k-smaller c = let t = c.loop-k-test.true in omega arith
-
 pub loop-k-preserved : goal.loop-k-preserved
 loop-k-preserved c =
     let l = c.loop-k in

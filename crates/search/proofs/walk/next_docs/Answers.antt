@@ -8,19 +8,19 @@ use Rattle.plan.specs.Check.{sizes}
 use Rattle.plan.specs.declared.outline.Outline.{Outline}
 use Rattle.search.proofs.Laws.Walk.{walk-within, walk-few, walk_first, walk-order, walk-stretch, bringing-first, bringing-kept, bringing-due, bringing-next}
 use Rattle.search.proofs.walk.next_docs.Goals as goal
-use Rattle.search.proofs.walk.next_docs.Goals.{After-outline_at-outline, Joined-not-fresh, then-not-fresh+else-doc-docs, else-not-fresh}
+use Rattle.search.proofs.walk.next_docs.Goals.{After-outline_at-outline, Joined-else-not-fresh, else-not-fresh-via-then-not-fresh+else-doc-docs, else-not-fresh-via-else-not-fresh}
 
 -- why pattern k is due: no pattern has a document yet, or its own is in front of the document
-due : (c : Joined-not-fresh) →
+due : (c : Joined-else-not-fresh) →
     (c.args.fresh ≡ true) ⊎ (get_or c.loop-k.docs c.loop-k.k 0 < c.args.doc)
 due c =
-    elim c.if-not-fresh.branch [
-      | then-not-fresh+else-doc-docs w ↦ inr w.if-doc-docs.false
-      | else-not-fresh w ↦ inl w.if-not-fresh.false
+    elim c.else-not-fresh.branch [
+      | else-not-fresh-via-then-not-fresh+else-doc-docs w ↦ inr w.if-doc-docs.false
+      | else-not-fresh-via-else-not-fresh w ↦ inl w.if-not-fresh.false
     ]
 
 -- it is one of the plan's patterns
-inside : (c : Joined-not-fresh) →
+inside : (c : Joined-else-not-fresh) →
     c.loop-k.k < (sizes c.args.plan.now).patterns
 inside c =
     let p = c.requires.docs_len in let l = c.loop-k.invariant.docs-length in let t = c.loop-k-test.true in omega arith
@@ -32,9 +32,6 @@ loop-k-init c =
 pub bounds-docs-k : goal.bounds-docs-k
 bounds-docs-k c =
     let r = c.requires.docs_len in let l = c.loop-k.invariant.docs-length in omega arith
-
-pub loop-k-smaller-then-doc-docs : goal.loop-k-smaller-then-doc-docs
-loop-k-smaller-then-doc-docs c = let l = c.loop-k.invariant.docs-length in omega arith
 
 pub loop-k-preserved-then-doc-docs : goal.loop-k-preserved-then-doc-docs
 loop-k-preserved-then-doc-docs c =
@@ -50,7 +47,7 @@ outline_at-outline-requires c =
 
 pub offset_bounds-orders-first : goal.offset_bounds-orders-first
 offset_bounds-orders-first c =
-    let f = walk-within _ _ _ _ _ c.requires.walks _ (inside (goal.at.offset_bounds-orders-first c).Joined-not-fresh) in
+    let f = walk-within _ _ _ _ _ c.requires.walks _ (inside (goal.at.offset_bounds-orders-first c).Joined-else-not-fresh) in
     let r = c.requires.plan_in_bounds in
     let e = ap (λ (o : Outline). o.first) c.outline_at-outline.ensures in
     omega arith
@@ -81,7 +78,7 @@ pub align-requires : goal.align-requires
 align-requires c =
     let l = c.loop-k in
     let w = c.requires.walks in
-    let i = inside (goal.at.align-requires c).Joined-not-fresh in
+    let i = inside (goal.at.align-requires c).Joined-else-not-fresh in
     let t = walk-within _ _ _ _ _ w l.k i in
     let f = walk-few _ _ _ _ _ w l.k i in
     let n = l.invariant.ats-length in
@@ -89,7 +86,7 @@ align-requires c =
     let r = c.requires.plan_in_bounds in
     let s = c.requires.plan_in_bounds_2 in
     let e = w.ends-room in
-    let stood = bringing-due _ _ _ _ _ _ _ _ l.ats l.positions l.docs l.k l.invariant i (due (goal.at.align-requires c).Joined-not-fresh) in
+    let stood = bringing-due _ _ _ _ _ _ _ _ l.ats l.positions l.docs l.k l.invariant i (due (goal.at.align-requires c).Joined-else-not-fresh) in
     let stretch = walk-stretch _ _ _ _ _ w l.k i l.ats c.args.doc stood in
     rw c.outline_at-outline.ensures
     (record {
@@ -105,18 +102,15 @@ align-requires c =
 
 pub bounds-docs-k-in-loop-k : goal.bounds-docs-k-in-loop-k
 bounds-docs-k-in-loop-k c =
-    let r = c.requires.docs_len in let l = c.loop-k.invariant.docs-length in let i = inside (goal.at.bounds-docs-k-in-loop-k c).Joined-not-fresh in omega arith
-
-pub loop-k-smaller : goal.loop-k-smaller
-loop-k-smaller c = let l = c.loop-k.invariant.docs-length in omega arith
+    let r = c.requires.docs_len in let l = c.loop-k.invariant.docs-length in let i = inside (goal.at.bounds-docs-k-in-loop-k c).Joined-else-not-fresh in omega arith
 
 pub loop-k-preserved : goal.loop-k-preserved
 loop-k-preserved c =
     let l = c.loop-k in
     let r = c.requires.docs_len in
-    bringing-next _ _ _ _ _ _ _ _ l.ats l.positions l.docs l.k l.invariant (inside (goal.at.loop-k-preserved c).Joined-not-fresh) c.args.table.now
+    bringing-next _ _ _ _ _ _ _ _ l.ats l.positions l.docs l.k l.invariant (inside (goal.at.loop-k-preserved c).Joined-else-not-fresh) c.args.table.now
     c.args.orders.now c.requires.walks (omega arith) c.align.result c.align.new.ats
-    c.align.new.positions (due (goal.at.loop-k-preserved c).Joined-not-fresh)
+    c.align.new.positions (due (goal.at.loop-k-preserved c).Joined-else-not-fresh)
     (rw c.outline_at-outline.ensures at c.align.ensures)
 
 pub shape_of-ats : goal.shape_of-ats

@@ -6,7 +6,7 @@ use Rattle.plan.proofs.Laws.Accepted.{given}
 use Rattle.search.proofs.Laws.Settling.{settling-first, settling-small, settling-away, settling-ready}
 use Rattle.search.proofs.Laws.Settling.{settling-yes, settling-no, settling-done}
 use Rattle.search.proofs.walk.settle_all.Goals as goal
-use Rattle.search.proofs.walk.settle_all.Goals.{then-docs-k+then-settle, then-docs-k+else-settle, else-docs-k}
+use Rattle.search.proofs.walk.settle_all.Goals.{then-doc-document+then-settle, then-doc-document+else-settle, else-doc-document}
 use Rattle.search.proofs.walk.settle_all.Goals.{In-loop-k}
 
 -- pattern k is one of the plan's, and its bit fits the bits
@@ -39,7 +39,7 @@ settle-requires c =
     let r = p.plan_in_bounds_3 in
     let e = l.invariant.1 in record {
       ready = rw c.outline_at-outline.ensures
-          (settling-ready _ _ _ _ _ _ _ l.ats l.positions l.bits l.weight l.k l.invariant.0 (inside (goal.at.settle-requires c).In-loop-k) c.if-docs-k.true
+          (settling-ready _ _ _ _ _ _ _ l.ats l.positions l.bits l.weight l.k l.invariant.0 (inside (goal.at.settle-requires c).In-loop-k) c.if-doc-document.true
           _ _ p.walks c.args.document refl p.at_document p.plan_in_bounds p.plan_in_bounds_2);
       plan_in_bounds = omega arith;
     }
@@ -52,30 +52,24 @@ overflow_add-bits c =
 pub overflow_mul-weight : goal.overflow_mul-weight
 overflow_mul-weight c = let s = small (goal.at.overflow_mul-weight c).In-loop-k in omega arith
 
-pub overflow_add-k : goal.overflow_add-k
-overflow_add-k c = let t = c.loop-k-test.true in omega arith
-
-pub loop-k-smaller : goal.loop-k-smaller
-loop-k-smaller c = let t = c.loop-k-test.true in omega arith
-
 pub loop-k-preserved : goal.loop-k-preserved
 loop-k-preserved c =
     let l = c.loop-k in
     let room = c.requires.plan_in_bounds_2 in
     let i = inside (goal.at.loop-k-preserved c).In-loop-k in
-    elim c.if-docs-k.branch [
-      | then-docs-k+then-settle w ↦ rw (w.ats-is, w.positions-is, w.paras-is, w.bits-is) (
-        settling-yes _ _ _ _ _ _ _ l.ats l.positions l.bits l.weight l.k l.invariant.0 i w.if-docs-k.true room w.settle.result
+    elim c.if-doc-document.branch [
+      | then-doc-document+then-settle w ↦ rw (w.ats-is, w.positions-is, w.paras-is, w.bits-is) (
+        settling-yes _ _ _ _ _ _ _ l.ats l.positions l.bits l.weight l.k l.invariant.0 i w.if-doc-document.true room w.settle.result
             w.settle.new.ats w.settle.new.positions (rw w.outline_at-outline.ensures at w.settle.ensures.settled) w.if-settle.true,
         w.settle.ensures.paras_len_unchanged ∙ l.invariant.1,
       )
-      | then-docs-k+else-settle w ↦ rw (w.ats-is, w.positions-is, w.paras-is, w.bits-is) (
-        settling-no _ _ _ _ _ _ _ l.ats l.positions l.bits l.weight l.k l.invariant.0 i w.if-docs-k.true room w.settle.result
+      | then-doc-document+else-settle w ↦ rw (w.ats-is, w.positions-is, w.paras-is, w.bits-is) (
+        settling-no _ _ _ _ _ _ _ l.ats l.positions l.bits l.weight l.k l.invariant.0 i w.if-doc-document.true room w.settle.result
             w.settle.new.ats w.settle.new.positions (rw w.outline_at-outline.ensures at w.settle.ensures.settled) w.if-settle.false,
         w.settle.ensures.paras_len_unchanged ∙ l.invariant.1,
       )
-      | else-docs-k w ↦ rw (w.ats-is, w.positions-is, w.paras-is, w.bits-is)
-          (settling-away _ _ _ _ _ _ _ l.ats l.positions l.bits l.weight l.k l.invariant.0 i w.if-docs-k.false, l.invariant.1)
+      | else-doc-document w ↦ rw (w.ats-is, w.positions-is, w.paras-is, w.bits-is)
+          (settling-away _ _ _ _ _ _ _ l.ats l.positions l.bits l.weight l.k l.invariant.0 i w.if-doc-document.false, l.invariant.1)
     ]
 
 pub shape_of-ats : goal.shape_of-ats
