@@ -1,5 +1,6 @@
 // The turns of the program: each has a listing call into a page, and gives the text to print.
-ghost use Rattle.std.specs.Prelude.{◌≡◌, ◌∷◌, [], ◌+◌, ◌*◌, ◌≤◌, length};
+ghost use Rattle.std.specs.Prelude.{◌≡◌, ◌∷◌, [], ◌+◌, ◌*◌, ◌≤◌, length, Err};
+ghost use Rattle.seq.specs.Refusals.{refused};
 ghost use Rattle.search.specs.Answers.{said_listed};
 ghost use Rattle.fulltext.specs.Documents.{work};
 ghost use Rattle.lister.specs.Text.{line, refused_word};
@@ -10,7 +11,7 @@ ghost use Rattle.lister.specs.Inner.Pages.{page_turn, rows_in, last, Told, Adds,
 use super::files::plan_words;
 use super::text::{put_bytes, put_done, put_line, put_rows};
 use plan::Checked;
-use search::Listed;
+use search::{ListError, Listing};
 use volume::Code;
 
 // The most bytes of a volume file that is listed.
@@ -55,8 +56,25 @@ fn put_refusal(code: Code, out: &mut [u8]) -> usize
     put_line(b"refused", &[code.number, code.at], 0, out)
 }
 
+// The number and the place of a listing call's error.
+fn code_of(error: ListError) -> Code
+    ensures { said_listed (Err error) ≡ refused result.number result.at }
+{
+    match error {
+        ListError::Refused(why) => plan::code_of(why),
+        ListError::Start => Code { number: 15, at: 0 },
+        ListError::Short => Code { number: 16, at: 0 },
+    }
+}
+
 // The text of a listing call's answer, whose rows stand at the front of the page.
-fn answer_text(listed: Listed, page: &[u32], width: usize, tally: u64, out: &mut [u8]) -> Turn
+fn answer_text(
+    listed: Result<Listing, ListError>,
+    page: &[u32],
+    width: usize,
+    tally: u64,
+    out: &mut [u8],
+) -> Turn
     requires width_in_bounds { rows_in (said_listed listed) * width ≤ length page.now }
     requires tally_bound { tally + 4294967295 ≤ 18446744073709551615 }
     requires width_in_bounds_2 { rows_in (said_listed listed) * (6 + 11 * width) + 30 ≤ length out.old }
@@ -64,21 +82,18 @@ fn answer_text(listed: Listed, page: &[u32], width: usize, tally: u64, out: &mut
     ensures adds { Adds tally (length out.old) result }
 {
     match listed {
-        Listed::Done(rows, sum) => {
-            let end = put_rows(page, rows as usize, width, 0, out);
-            Turn::last(put_done(tally + u64::from(sum), end, out))
+        Ok(listing) => {
+            let end = put_rows(page, listing.rows as usize, width, 0, out);
+            let tally = tally + u64::from(listing.tally);
+            match listing.next {
+                Some(doc) => Turn {
+                    bytes: end,
+                    next: Some(Start { doc, tally }),
+                },
+                None => Turn::last(put_done(tally, end, out)),
+            }
         }
-        Listed::More(doc, rows, sum) => {
-            let bytes = put_rows(page, rows as usize, width, 0, out);
-            let next = Some(Start {
-                doc,
-                tally: tally + u64::from(sum),
-            });
-            Turn { bytes, next }
-        }
-        Listed::Refused(why) => Turn::last(put_refusal(plan::code_of(why), out)),
-        Listed::Start => Turn::last(put_refusal(Code { number: 15, at: 0 }, out)),
-        Listed::Short => Turn::last(put_refusal(Code { number: 16, at: 0 }, out)),
+        Err(error) => Turn::last(put_refusal(code_of(error), out)),
     }
 }
 
@@ -101,11 +116,11 @@ fn list_text(volume: &[u8], plan: &[u32], start: Start, out: &mut [u8]) -> Turn
     ensures ahead { Ahead start.doc (length out.old) result }
 {
     match plan::check(volume, plan) {
-        Checked::Refused(why) => Turn::last(put_refusal(plan::code_of(why), out)),
         Checked::Accepted(patterns, vars) => {
             let width = plan::row_words(patterns, vars);
             page_text(volume, plan, width, start, out)
         }
+        Checked::Refused(why) => Turn::last(put_refusal(plan::code_of(why), out)),
     }
 }
 
