@@ -3,7 +3,7 @@
 --     Reads          what an answer says: the one line with that text, its rows, their truth
 --     OneToOne       no two answers are told alike
 -- What a line is and says is in `grammar/Demands`.
-use Rattle.std.specs.Prelude.{ℕ, ◌≤◌, ◌≡◌, ◌↔◌, List, ◌++◌, length, drop}
+use Rattle.std.specs.Prelude.{ℕ, ◌≤◌, ◌≡◌, ◌↔◌, List, ◌++◌, length, drop, Result}
 use Rattle.seq.specs.Refusals.{refused, answered, stage_in, FirstRefusal}
 use Rattle.volume.specs.Layout.{lists_of}
 use Rattle.plan.specs.Rows.{rows_of, plan_of}
@@ -13,7 +13,7 @@ use Rattle.grammar.specs.Brackets.{Spare}
 use Rattle.grammar.specs.Meaning.{line_rows, line_true}
 use Rattle.grammar.specs.Query.{plan_text}
 use Rattle.grammar.specs.Words.{words_of_line}
-use Rattle.line.specs.declared.answers.Read.{Read}
+use Rattle.line.specs.declared.answers.ReadError.{ReadError}
 use Rattle.line.specs.Answers.{said_read}
 use Rattle.line.specs.Refusals.{ReadApplies, read_stages}
 use Rattle.line.specs.Read.{size_of_line, read_answer, read_out}
@@ -51,4 +51,4 @@ Reads = (s : List ℕ) (room n : ℕ) → read_answer s room ≡ answered n → 
 
 -- no two answers have document 02's number and values in common
 unfoldable pub OneToOne : Type 0
-OneToOne = (a b : Read) → said_read a ≡ said_read b → a ≡ b
+OneToOne = (a b : Result ℕ ReadError) → said_read a ≡ said_read b → a ≡ b

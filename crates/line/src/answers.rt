@@ -1,9 +1,8 @@
-// What reading a line answers. `specs/Answers.antt` gives the number and the values of each case.
+// What reading a line answers when it gives no rows. `specs/Answers.antt` gives the number and the
+// values of each case.
 
-#[derive(Clone, Copy)]
-pub enum Read {
-    // So many words are written: the rows of the line.
-    Words(u32),
+#[derive(Clone, Copy, Debug, PartialEq, Eq)]
+pub enum ReadError {
     // No line of the grammar has this byte there, or none ends there; or the text is too long.
     Broken(u32),
     // A round bracket or a `<` is opened here inside eight open ones.

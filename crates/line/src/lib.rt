@@ -10,5 +10,5 @@ mod reader;
 mod reading;
 mod steps;
 
-pub use answers::Read;
+pub use answers::ReadError;
 pub use reader::read;

@@ -3,31 +3,32 @@ ghost use Rattle.std.specs.Prelude.{◌≡◌, length};
 ghost use Rattle.line.specs.Answers.{said_read};
 ghost use Rattle.line.specs.Read.{read_answer, read_out};
 
-use super::answers::Read;
+use super::answers::ReadError;
 use super::reading::{Reached, read_rows};
 
-// Reads a line as the rows of a plan, into the front of `out`. The first pass counts the rows.
-pub fn read(text: &[u8], out: &mut [u32]) -> Read
+// Reads a line as the rows of a plan, into the front of `out`, and gives how many words they are.
+// The first pass counts the rows.
+pub fn read(text: &[u8], out: &mut [u32]) -> Result<u32, ReadError>
     ensures result_value { said_read result ≡ read_answer text.now (length out.old) }
     ensures out_after { out.new ≡ read_out text.now out.old }
 {
     if 2048 < text.len() {
-        return Read::Broken(2048);
+        return Err(ReadError::Broken(2048));
     }
     let mut none = [0; 1];
     let counted = read_rows(text, &mut none);
     match counted {
-        Reached::Broken(q) => Read::Broken(q as u32),
-        Reached::Deep(q) => Read::Deep(q as u32),
+        Reached::Broken(q) => Err(ReadError::Broken(q as u32)),
+        Reached::Deep(q) => Err(ReadError::Deep(q as u32)),
         Reached::At(_, rows) => {
             if 64 < rows {
-                return Read::TooMany;
+                return Err(ReadError::TooMany);
             }
             if out.len() < 4 * rows {
-                return Read::Short;
+                return Err(ReadError::Short);
             }
             read_rows(text, out);
-            Read::Words(4 * rows as u32)
+            Ok(4 * rows as u32)
         }
     }
 }

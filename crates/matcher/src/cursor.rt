@@ -28,6 +28,14 @@ pub struct Document {
     pub starts: Cursor,
 }
 
+// The bound that all postings in front of a position of a document are below, and no posting from
+// there on is. A position of 65,536 is the next document's first.
+pub fn bound_of(doc: u32, pos: u32) -> u64
+    ensures { result ≡ doc * 65536 + pos }
+{
+    u64::from(doc) * u64::from(Posting::POSITIONS) + u64::from(pos)
+}
+
 // The first stream index from `from` up to `end` whose word is not below target; `end` where there
 // is none. The words rise; the range is halved each turn.
 fn lower_bound(volume: &[u8], from: usize, end: usize, target: u64) -> usize
@@ -38,7 +46,7 @@ fn lower_bound(volume: &[u8], from: usize, end: usize, target: u64) -> usize
     let mut high = end;
     while low < high {
         let middle = low + (high - low) / 2;
-        if (volume::word_at(volume, middle) as u64) < target {
+        if u64::from(volume::word_at(volume, middle)) < target {
             low = middle + 1;
         } else {
             high = middle;
@@ -57,7 +65,7 @@ fn leap(volume: &[u8], from: usize, end: usize, first: usize, target: u64) -> us
     let mut step = first;
     while step <= end - low {
         let probe = low + step - 1;
-        if target <= volume::word_at(volume, probe) as u64 {
+        if target <= u64::from(volume::word_at(volume, probe)) {
             return lower_bound(volume, low, probe, target);
         }
         low = probe + 1;
@@ -75,7 +83,7 @@ fn leap_on(volume: &[u8], from: usize, end: usize, target: u64) -> Reached
     let mut low = from;
     let mut step: usize = 1;
     if 8 <= end - from {
-        if target <= volume::word_at(volume, from + 7) as u64 {
+        if target <= u64::from(volume::word_at(volume, from + 7)) {
             let passed = volume::below_across(volume, from, target);
             let at = from + passed;
             return Reached {
@@ -103,7 +111,7 @@ fn gallop(volume: &[u8], from: usize, end: usize, target: u64) -> Reached
     ensures { Arrived volume.now target from end result }
 {
     if 8 <= end - from && from % 126 <= 118 {
-        if target <= volume::word_behind(volume, from, 7) as u64 {
+        if target <= u64::from(volume::word_behind(volume, from, 7)) {
             let passed = volume::below_in_window(volume, from, target);
             let at = from + passed;
             return Reached {
@@ -123,8 +131,7 @@ impl Cursor {
         ensures value { result ≡ sought volume.now (doc * 65536) self }
         ensures forward { Forward self result }
     {
-        let bound = doc as u64 * Posting::POSITIONS as u64;
-        let moved = leap_on(volume, self.at, self.end, bound);
+        let moved = leap_on(volume, self.at, self.end, bound_of(doc, 0));
         Cursor {
             at: moved.at,
             end: self.end,
@@ -136,8 +143,7 @@ impl Cursor {
         requires { Stretch volume.now self.at self.end }
         ensures { Arrived volume.now (doc * 65536) self.at self.end result }
     {
-        let bound = doc as u64 * Posting::POSITIONS as u64;
-        gallop(volume, self.at, self.end, bound)
+        self.advance(volume, bound_of(doc, 0))
     }
 
     // To the first posting from here on that is not below a bound, and the posting there; to the end
@@ -147,32 +153,6 @@ impl Cursor {
         ensures { Arrived volume.now bound self.at self.end result }
     {
         gallop(volume, self.at, self.end, bound)
-    }
-
-    // To position `pos` of document `doc`: to the first posting from here on that is not in front of
-    // it, and the posting there; to the end where there is none. A position of 65,536 is the next
-    // document's first.
-    pub fn reach(self, volume: &[u8], doc: u32, pos: u32) -> Reached
-        requires { Stretch volume.now self.at self.end }
-        ensures { Arrived volume.now (doc * 65536 + pos) self.at self.end result }
-    {
-        let bound = doc as u64 * Posting::POSITIONS as u64 + pos as u64;
-        gallop(volume, self.at, self.end, bound)
-    }
-
-    // Past position `pos` of document `doc`: to the first posting from here on behind it; to the end
-    // where there is none.
-    pub fn advance_past(self, volume: &[u8], doc: u32, pos: u32) -> Cursor
-        requires { Stretch volume.now self.at self.end }
-        ensures value { result ≡ sought volume.now (doc * 65536 + pos + 1) self }
-        ensures forward { Forward self result }
-    {
-        let bound = doc as u64 * Posting::POSITIONS as u64 + pos as u64 + 1;
-        let moved = gallop(volume, self.at, self.end, bound);
-        Cursor {
-            at: moved.at,
-            end: self.end,
-        }
     }
 }
 

@@ -7,13 +7,14 @@ ghost use Rattle.matcher.specs.Inner.Cursors.{Stretch};
 ghost use Rattle.matcher.specs.Inner.Settling.{Jumped, Standing, Within, turned, Posed};
 ghost use Rattle.matcher.specs.Inner.Order.{Order};
 
-use super::cursor::{Cursor, Document};
-use super::predicates::{Shortfall, falls_short, largest_of, later};
+use super::cursor::{Cursor, Document, bound_of};
+use super::predicates::{falls_short, largest_of};
 use plan::{Outline, predicate_at};
 use volume::Posting;
 
 // Moves variable x, whose list ends at `end`, to its first position in a document that is not below
-// `need`. Whether there is one.
+// `need`. Whether there is one. It is a part of the settling loop, where a call would store the slices.
+#[inline(always)]
 pub fn jump(
     volume: &[u8],
     doc: u32,
@@ -30,8 +31,7 @@ pub fn jump(
         here.new positions.new }
 {
     let cursor = Cursor { at: here[x], end };
-    let bound = doc as u64 * Posting::POSITIONS as u64 + need as u64;
-    let moved = cursor.advance(volume, bound);
+    let moved = cursor.advance(volume, bound_of(doc, need));
     let at = moved.at;
     if end <= at {
         return false;
@@ -101,28 +101,27 @@ pub fn match_from(
             volume, document, predicate, order, positions, n, largest, paras,
         );
         match told {
-            Shortfall::Holds => {
+            None => {
                 left -= 1;
                 turn = next_turn(turn, count);
             }
-            Shortfall::Short(x, need) => {
+            Some(short) => {
+                let x = short.var;
                 if x < held {
                     return false;
                 }
-                let end = ends[x];
-                let cursor = Cursor { at: here[x], end };
-                let moved = cursor.reach(volume, document.doc, need);
-                if end <= moved.at {
+                if !jump(
+                    volume,
+                    document.doc,
+                    ends[x],
+                    x,
+                    short.need,
+                    here,
+                    positions,
+                ) {
                     return false;
                 }
-                let posting = Posting { bits: moved.bits };
-                if posting.doc() != document.doc {
-                    return false;
-                }
-                here[x] = moved.at;
-                let pos = posting.pos();
-                positions[x] = pos;
-                largest = later(largest, pos);
+                largest = largest.max(positions[x]);
                 left = count;
             }
         }

@@ -10,27 +10,19 @@ ghost use Rattle.matcher.specs.Answers.{said_tested};
 ghost use Rattle.matcher.specs.Testing.{test_answer};
 ghost use Rattle.matcher.specs.Inner.Settling.{Asked, Found, StoodAt};
 
-use super::answers::Tested;
+use super::answers::TestError;
 use super::cursor::{Cursor, Document, list_cursor, starts_of};
 use super::least::match_from;
 use super::rarest::rarest_first;
 use super::store::put_row;
-use plan::{Checked, MOST_PATTERN_VARS, MOST_PATTERNS, Outline, lay_out, list_at, outline_at};
+use plan::{MOST_PATTERN_VARS, MOST_PATTERNS, Outline, lay_out, list_at};
 use volume::Posting;
 
 // Whether no position is over 65,535.
 pub fn in_document(positions: &[u32]) -> bool
     ensures { result ≡ all (λ q. leb q 65535) positions.now }
 {
-    let n = positions.len();
-    let mut x: usize = 0;
-    while x < n {
-        if Posting::LAST_POS < positions[x] {
-            return false;
-        }
-        x += 1;
-    }
-    true
+    positions.iter().all(|&p| p <= Posting::LAST_POS)
 }
 
 // A cursor on a list at a position of a document; at the end of the list where it does not hold the
@@ -45,7 +37,7 @@ fn cursor_at(volume: &[u8], list: usize, doc: u32, pos: u32) -> Cursor
     let first = list_cursor(volume, list);
     let end = first.end;
     let sought = Posting::new(doc as u16, pos as u16);
-    let reached = first.advance(volume, sought.bits as u64);
+    let reached = first.advance(volume, u64::from(sought.bits));
     if reached.bits == sought.bits {
         return Cursor {
             at: reached.at,
@@ -74,9 +66,7 @@ fn stand_at(
     ensures ends_len_unchanged { length ends.new ≡ length ends.old }
     ensures here_len_unchanged { length here.new ≡ length here.old }
 {
-    let n = positions.len();
-    let mut x: usize = 0;
-    while x < n {
+    for x in 0..positions.len() {
         let row = outline.condition - outline.vars + x;
         let list = list_at(plan, row);
         let cursor = cursor_at(volume, list as usize, doc, positions[x]);
@@ -85,7 +75,6 @@ fn stand_at(
         }
         here[x] = cursor.at;
         ends[x] = cursor.end;
-        x += 1;
     }
     true
 }
@@ -123,48 +112,41 @@ fn test_pattern(
     pattern: usize,
     doc: u32,
     positions: &[u32],
-) -> Tested
+) -> Result<bool, TestError>
     requires accepted { plans.Accepted volume.now plan.now }
     requires patterns_value { patterns ≡ (plans.sizes plan.now).patterns }
     requires pattern_lt_patterns { pattern < patterns }
     ensures { said_tested result ≡ test_answer volume.now plan.now pattern doc positions.now }
 {
-    let mut table: [usize; 4 * MOST_PATTERNS] = [0; 4 * MOST_PATTERNS];
+    let mut table = [Outline::NONE; MOST_PATTERNS];
     lay_out(plan, patterns, &mut table);
-    let outline = outline_at(&table, pattern);
-    let vars = outline.vars;
-    if positions.len() != vars {
-        return Tested::OutOfRange;
+    let outline = table[pattern];
+    if positions.len() != outline.vars || Posting::LAST_DOC < doc || !in_document(positions) {
+        return Err(TestError::OutOfRange);
     }
-    if Posting::LAST_DOC < doc {
-        return Tested::OutOfRange;
-    }
-    if !in_document(positions) {
-        return Tested::OutOfRange;
-    }
-    let matched = is_match(volume, plan, outline, doc, positions);
-    Tested::Answer(matched)
+    Ok(is_match(volume, plan, outline, doc, positions))
 }
 
 // Whether these positions of a pattern's variables match the pattern in a document.
-pub fn test(volume: &[u8], plan: &[u32], pattern: u32, doc: u32, positions: &[u32]) -> Tested
+pub fn test(
+    volume: &[u8],
+    plan: &[u32],
+    pattern: u32,
+    doc: u32,
+    positions: &[u32],
+) -> Result<bool, TestError>
     ensures { said_tested result ≡ test_answer volume.now plan.now pattern doc positions.now }
 {
-    let checked = plan::check(volume, plan);
-    match checked {
-        Checked::Refused(why) => Tested::Refused(why),
-        Checked::Accepted(patterns, _) => {
-            if patterns <= pattern {
-                return Tested::OutOfRange;
-            }
-            test_pattern(
-                volume,
-                plan,
-                patterns as usize,
-                pattern as usize,
-                doc,
-                positions,
-            )
-        }
+    let sizes = plan::check(volume, plan)?;
+    if sizes.patterns <= pattern {
+        return Err(TestError::OutOfRange);
     }
+    test_pattern(
+        volume,
+        plan,
+        sizes.patterns as usize,
+        pattern as usize,
+        doc,
+        positions,
+    )
 }

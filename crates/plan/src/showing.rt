@@ -3,7 +3,6 @@ ghost use Rattle.std.specs.Prelude.{◌≡◌, List, ℕ, ◌<◌};
 ghost use Rattle.plan.specs.Check.{Accepted, sizes};
 ghost use Rattle.plan.specs.Parts.{span_at, span_of, part_of};
 
-use super::answers::Checked;
 use super::checking::check;
 use super::reading::{Sort, first_of};
 
@@ -12,6 +11,11 @@ use super::reading::{Sort, first_of};
 pub struct Span {
     pub start: usize,
     pub len: usize,
+}
+
+impl Span {
+    // The span of no row.
+    pub const EMPTY: Span = Span { start: 0, len: 0 };
 }
 
 // The span of pattern number `pattern`: from the first VOICE behind the pattern before it to the
@@ -42,15 +46,9 @@ pub fn span_at(plan: &[u32], pattern: usize) -> Span
 pub fn pattern_span(volume: &[u8], plan: &[u32], pattern: u32) -> Span
     ensures { result ≡ span_of volume.now plan.now pattern }
 {
-    let checked = check(volume, plan);
-    match checked {
-        Checked::Refused(_) => Span { start: 0, len: 0 },
-        Checked::Accepted(patterns, _) => {
-            if patterns <= pattern {
-                return Span { start: 0, len: 0 };
-            }
-            span_at(plan, pattern as usize)
-        }
+    match check(volume, plan) {
+        Ok(sizes) if pattern < sizes.patterns => span_at(plan, pattern as usize),
+        _ => Span::EMPTY,
     }
 }
 
@@ -60,7 +58,5 @@ pub fn pattern_rows<'a>(volume: &[u8], plan: &'a [u32], pattern: u32) -> &'a [u3
     ensures { result.now ≡ part_of volume.now plan.now pattern }
 {
     let span = pattern_span(volume, plan, pattern);
-    let start = span.start;
-    let end = start + span.len;
-    &plan[start..end]
+    &plan[span.start..span.start + span.len]
 }

@@ -1,5 +1,5 @@
 // The answer of a plan in one document, by a stack of answers that are the bits of a number.
-ghost use Rattle.std.specs.Prelude.{◌≡◌, Bool, List, ℕ, ◌+◌, ◌<◌, ◌≤◌, length, set};
+ghost use Rattle.std.specs.Prelude.{◌≡◌, Bool, List, ℕ, ◌<◌, ◌≤◌, Some, length, set};
 ghost use Rattle.plan.specs.declared.row.Kind.TheVariants as kind;
 ghost use Rattle.plan.specs.Rows.{rows_of, InRange};
 ghost use Rattle.plan.specs.State as state;
@@ -7,7 +7,7 @@ ghost use Rattle.plan.specs.Patterns as patterns;
 ghost use Rattle.plan.specs.Patterns.{Pattern, answer};
 ghost use Rattle.plan.specs.Check.{Accepted};
 ghost use Rattle.plan.specs.Inner.Stack as bits;
-ghost use Rattle.plan.specs.Inner.Stack.{flag_of, bits_of, found_bits, Remembers};
+ghost use Rattle.plan.specs.Inner.Stack.{bits_of, found_bits, Remembers};
 
 use super::row::{Kind, Operator, row_at};
 use super::state::takes;
@@ -70,22 +70,21 @@ fn answer_by_rows(plan: &[u32], bits: u32) -> bool
     stack % 2 == 1
 }
 
-// The same, with the rows read once for each set of found patterns: `known` has a number for each
-// set, 0 where the rows were not read for it, 1 for the answer no and 2 for yes.
-pub fn answer_of(plan: &[u32], bits: u32, known: &mut [u8]) -> bool
+// The same, with the rows read once for each set of found patterns: `known` has the answer of each
+// set for which they were read.
+pub fn answer_of(plan: &[u32], bits: u32, known: &mut [Option<bool>]) -> bool
     requires by_index { (v : List ℕ) × Accepted v plan.now }
     requires remembers { Remembers plan.now known.old }
     requires bits_in_bounds { bits < length known.old }
     ensures value { (found : Pattern → Bool) → bits ≡ found_bits found plan.now
         → result ≡ answer found (rows_of plan.now) }
-    ensures known_after { known.new ≡ set known.old bits (1 + flag_of result) }
+    ensures known_after { known.new ≡ set known.old bits (Some result) }
 {
     let at = bits as usize;
-    let mark = known[at];
-    if mark != 0 {
-        return mark == 2;
+    if let Some(yes) = known[at] {
+        return yes;
     }
     let yes = answer_by_rows(plan, bits);
-    known[at] = 1 + yes as u8;
+    known[at] = Some(yes);
     yes
 }

@@ -41,13 +41,6 @@ impl State {
     };
 }
 
-// What a row does: the state behind it, or why it is refused.
-#[derive(Clone, Copy)]
-pub enum Step {
-    Stands(State),
-    Faulty(Fault),
-}
-
 // Whether a predicate names only variables below n.
 fn names_below(predicate: Predicate, n: u32) -> bool
     ensures { result ≡ state.names_below n predicate }
@@ -153,25 +146,25 @@ fn after(kind: Kind, s: State) -> State
 }
 
 // What row i of a plan does to a state, over a volume of so many lists.
-pub fn row_step(plan: &[u32], i: usize, lists: u32, s: State) -> Step
+pub fn row_step(plan: &[u32], i: usize, lists: u32, s: State) -> Result<State, Fault>
     requires i_bound { i < row_count plan.now }
     requires at_most { AtMost most_rows s }
     ensures { result ≡ state.step lists s plan.now i }
 {
     let at = 4 * i;
     if form_wrong(plan[at], plan[at + 1], plan[at + 2], plan[at + 3]) {
-        return Step::Faulty(Fault::Form);
+        return Err(Fault::Form);
     }
     let row = row_at(plan, i);
     let kind = row.kind;
     if list_wrong(kind, lists) {
-        return Step::Faulty(Fault::List);
+        return Err(Fault::List);
     }
     if too_many(kind, s) {
-        return Step::Faulty(Fault::TooMany);
+        return Err(Fault::TooMany);
     }
     if order_wrong(kind, s) {
-        return Step::Faulty(Fault::Order);
+        return Err(Fault::Order);
     }
-    Step::Stands(after(kind, s))
+    Ok(after(kind, s))
 }

@@ -7,10 +7,10 @@ ghost use Rattle.volume.specs.Inner.Places.{list_span_of};
 ghost use Rattle.volume.specs.Check.{Accepted};
 ghost use Rattle.volume.specs.Read.{read_answer, read_out};
 
-use super::answers::{Checked, ListRead};
+use super::answers::ReadError;
 use super::checking::check;
 use super::layout::{ListSpan, lead};
-use super::stream::{count_at, count_sum, posting_at, word_at};
+use super::stream::{count_at, count_sum, word_at};
 
 // The span of a list of an accepted volume.
 pub fn list_span(volume: &[u8], list: usize) -> ListSpan
@@ -37,11 +37,9 @@ pub fn list_starts(volume: &[u8], n: usize, starts: &mut [usize])
     let lists = word_at(volume, 1) as usize;
     let mut at = lead(lists);
     starts[0] = at;
-    let mut i: usize = 0;
-    while i < n {
+    for i in 0..n {
         at += count_at(volume, i) as usize;
-        i += 1;
-        starts[i] = at;
+        starts[i + 1] = at;
     }
 }
 
@@ -51,35 +49,26 @@ fn copy_postings(volume: &[u8], from: usize, n: usize, out: &mut [u32])
     requires n_in_bounds { n ≤ length out.old }
     ensures { out.new ≡ run (word volume.now) from n ++ drop n out.old }
 {
-    let mut i: usize = 0;
-    while i < n {
-        out[i] = posting_at(volume, from + i).bits;
-        i += 1;
+    for (i, posting) in out[..n].iter_mut().enumerate() {
+        *posting = word_at(volume, from + i);
     }
 }
 
 // Copies list number `list` (0 too) of a volume to the front of out, and answers how many postings
 // it has.
-pub fn read_list(volume: &[u8], list: u32, out: &mut [u32]) -> ListRead
+pub fn read_list(volume: &[u8], list: u32, out: &mut [u32]) -> Result<u32, ReadError>
     ensures result_value { said_read result ≡ read_answer volume.now list (length out.old) }
     ensures out_after { out.new ≡ read_out volume.now list out.old }
 {
-    let checked = check(volume);
-    match checked {
-        Checked::Refused(why) => ListRead::Refused(why),
-        Checked::Accepted(lists, _) => {
-            if lists <= list {
-                return ListRead::NoList;
-            }
-            let span = list_span(volume, list as usize);
-            let n = span.count;
-            if out.len() < n {
-                return ListRead::Short;
-            }
-            let start = span.start;
-            copy_postings(volume, start, n, out);
-            let count = n as u32;
-            ListRead::Read(count)
-        }
+    let sizes = check(volume)?;
+    if sizes.lists <= list {
+        return Err(ReadError::NoList);
     }
+    let span = list_span(volume, list as usize);
+    let n = span.count;
+    if out.len() < n {
+        return Err(ReadError::Short);
+    }
+    copy_postings(volume, span.start, n, out);
+    Ok(n as u32)
 }

@@ -1,5 +1,5 @@
 -- What `src/testing.rt` finds. No contract cites this file.
---     small_decides                       no position is over 65,535
+--     small_decides, all-small            no position is over 65,535
 --     list-before, found-there, found-not     a cursor on a list at a position, or at its end
 --     posed-given, vars-order             what is posed of a pattern
 --     voice-of, voice-few                 the VOICE row of a variable
@@ -20,6 +20,8 @@ use lib.ListN.{length, get_or, set, take, drop}
 use lib.Seq.{get_or-set_same, get_or-set_other, get_or-take, take_at, take-length, ext_get_or}
 use lib.Dec.{leb}
 use borrow.Author.Tests.{le-leb, leb-true}
+use Rattle.std.proofs.lemmas.List.Elements.{All-from_get_or}
+use Rattle.std.specs.Prelude.{All, IsTrue}
 use Rattle.seq.specs.Lists.{all}
 use Rattle.seq.specs.Refusals.{refused, answered}
 use Rattle.seq.proofs.Laws.Tests.{below_or, true_or, contrary}
@@ -32,7 +34,7 @@ use Rattle.plan.specs.declared.row.Kind.TheVariants as kind
 use Rattle.plan.specs.Limits.{most_rows}
 use Rattle.plan.specs.Rows.{row_at}
 use Rattle.plan.specs.Patterns.{Pattern}
-use Rattle.plan.specs.Answers.{Sizes}
+use Rattle.plan.specs.declared.answers.Sizes.{Sizes}
 use Rattle.plan.specs.Check.{verdict}
 use Rattle.plan.specs.Accepted.{pattern_at, Given}
 use Rattle.plan.specs.declared.outline.Outline.{Outline}
@@ -62,6 +64,11 @@ small_decides ps = record {
   where
     each : (all (λ q. leb q 65535) ps ≡ true) ↔ ((x : ℕ) → x < length ps → leb (get_or ps x 0) 65535 ≡ true)
     each = all-each (λ q. leb q 65535) 0 ps
+
+-- std's word for it
+pub all-small : (r : Bool) (ps : List ℕ) → (IsTrue r ↔ All (λ q. q ≤ 65535) ps) → r ≡ all (λ q. leb q 65535) ps
+all-small true ps e = sym (decides.holds (small_decides ps) (λ x l. e.0 refl x 0 l))
+all-small false ps e = sym (decides.fails (small_decides ps) (λ h. true≢false (sym (e.1 (All-from_get_or (λ q. q ≤ 65535) ps 0 h)))))
 
 -- a cursor on list l, at its first posting
 module _ (v : List ℕ) (ok : volume.Accepted v) (l : ℕ) (h : l < list_count v) (first : Cursor) (e : first ≡ list_cursor v l) where

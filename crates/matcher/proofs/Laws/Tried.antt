@@ -1,6 +1,7 @@
 -- The search for the least match of a pattern, its predicates in turn. No contract cites this file.
 --     Passed                   the predicates that hold: all but so many in turn
 --     Tried                    where the search stands: these hold, and no match is in front of the positions
+--     tried-turn               the predicate that is tried is one of the pattern's
 --     tried-first              before the first predicate
 --     tried_asks               what is asked of a predicate's row
 --     tried-holds              a predicate holds
@@ -140,6 +141,10 @@ pub record Tried (v p : List ℕ) (o : Outline) (d held : ℕ) (here₀ ps₀ he
   pub greatest : Largest ps o.vars largest
   pub holding : (j : ℕ) → j < o.last - o.condition → Passed (o.last - o.condition) turn left j
       → holds (starts_in (lists_of v) d) (get_or (pattern_at p o.pattern).predicates j (Window 1)) (take o.vars ps) ≡ true
+
+-- the predicate that is tried is one of the pattern's
+pub tried-turn : {v p : List ℕ} {o : Outline} {d held : ℕ} {here₀ ps₀ here ps : List ℕ} {largest turn left : ℕ} → Tried v p o d held here₀ ps₀ here ps largest turn left → 1 ≤ left → turn < o.last - o.condition
+tried-turn m h = let l = m.most in m.next (omega arith)
 
 module _ (v p : List ℕ) (o : Outline) (doc : Document) (ends : List ℕ) (q : Posed v p o doc ends) where
   abbrev k : ℕ

@@ -4,8 +4,6 @@ use mathlib.Core.Path.{sym, ap, ◌∙◌}
 use Rattle.plan.specs.Answers.{Sizes, said_checked}
 use Rattle.plan.proofs.Laws.Check.{verdict-sizes}
 use Rattle.matcher.proofs.Laws.Range.{range-missing}
-use Rattle.enumeration.specs.declared.answers.Enumerated.{Enumerated}
-use Rattle.enumeration.specs.Answers.{said_by}
 use Rattle.enumeration.proofs.Laws.Enumerating.{matched-refused, matched_17, told-refused}
 use Rattle.enumeration.proofs.enumerate.matches.Goals as goal
 
@@ -13,10 +11,7 @@ pub returns-then-patterns-pattern : goal.returns-then-patterns-pattern
 returns-then-patterns-pattern c =
     let a = c.args in
     let e = sym (sym (ap said_checked c.in-Accepted.is) ∙ c.check-checked.ensures) in
-    let r = c.alone-then-patterns-pattern.ensures in
-    let w = told-refused a.volume.now a.plan.now a.pattern a.doc a.from.now a.out.now c.alone-then-patterns-pattern.result 17 0 (ap (λ (x : Enumerated). said_by x c.alone-then-patterns-pattern.result.next) r.answer_value) r.next_value
-    (matched_17 _ _ _ _ _ _ _ e (range-missing _ _ _ _ _ c.if-patterns-pattern.true)) in
-    record { kept = w.0; next_value = w.1 }
+    told-refused a.volume.now a.plan.now a.pattern a.doc a.from.now a.out.now 17 0 (matched_17 _ _ _ _ _ _ _ e (range-missing _ _ _ _ _ c.if-patterns-pattern.true))
 
 pub matches_of-requires : goal.matches_of-requires
 matches_of-requires c =
@@ -33,7 +28,4 @@ pub returns-in-Refused : goal.returns-in-Refused
 returns-in-Refused c =
     let a = c.args in
     let e = sym (sym (ap said_checked c.in-Refused.is) ∙ c.check-checked.ensures) in
-    let r = c.alone.ensures in
-    let w = told-refused a.volume.now a.plan.now a.pattern a.doc a.from.now a.out.now c.alone.result _ _ (ap (λ (x : Enumerated). said_by x c.alone.result.next) r.answer_value) r.next_value
-    (matched-refused _ _ _ _ _ _ _ _ e) in
-    record { kept = w.0; next_value = w.1 }
+    told-refused a.volume.now a.plan.now a.pattern a.doc a.from.now a.out.now _ _ (matched-refused _ _ _ _ _ _ _ _ e)

@@ -3,6 +3,7 @@ use Prim.Native.Nat.{ℕ, ◌≤◌}
 use native.Mathlib.Omega.{arith}
 use mathlib.Core.Path.{sym, ap, subst, ◌∙◌}
 use mathlib.Core.Bool.{true, false}
+use Rattle.std.specs.Prelude.{Ok}
 use Rattle.plan.specs.Check.{sizes}
 use Rattle.matcher.specs.declared.cursor.Cursor.{Cursor}
 use Rattle.plan.proofs.Laws.Accepted.{given}
@@ -10,13 +11,12 @@ use Rattle.plan.proofs.Laws.Outline.{Outlined, outlined}
 use Rattle.matcher.proofs.Laws.Range.{range-number, range_doc, range_small}
 use Rattle.matcher.proofs.Laws.Testing.{small_decides}
 use Rattle.volume.proofs.Laws.Check.{good}
-use Rattle.enumeration.specs.declared.answers.Enumerated.{Enumerated}
-use Rattle.enumeration.specs.Answers.{said_matched, said_by}
+use Rattle.enumeration.specs.Answers.{said_matched}
 use Rattle.enumeration.specs.Enumeration.{Kept}
 use Rattle.enumeration.proofs.Laws.Enumerating.{matched_17, matched_16, told-refused}
 use Rattle.enumeration.proofs.Laws.Placing.{cursor-stretch, cursor-mark, document-at}
 use Rattle.enumeration.proofs.enumerate.matches_of.Goals as goal
-use Rattle.enumeration.proofs.enumerate.matches_of.Goals.{After-outline_at-outline}
+use Rattle.enumeration.proofs.enumerate.matches_of.Goals.{After-outline_at-outline, then-from-outline-via-then-from-outline, then-from-outline-via-else-from-outline+then-doc-gt-LAST_DOC, then-from-outline-via-else-from-outline+else-doc-gt-LAST_DOC+then-not-in_document}
 
 pub lay_out-requires : goal.lay_out-requires
 lay_out-requires c =
@@ -39,42 +39,26 @@ outline c =
     let l = c.lay_out in
     outlined l.new.table l.ensures c.args.pattern (let p = c.requires in omega arith) c.outline_at-outline.ensures
 
-pub returns-then-from-vars : goal.returns-then-from-vars
-returns-then-from-vars c =
-    let o = outline (goal.at.returns-then-from-vars c).After-outline_at-outline in
+pub returns-then-from-outline : goal.returns-then-from-outline
+returns-then-from-outline c =
+    let o = outline (goal.at.returns-then-from-outline c).After-outline_at-outline in
     let a = c.args in
-    let r = c.alone.ensures in
-    let w = told-refused a.volume.now a.plan.now a.pattern a.doc a.from.now a.out.now c.alone.result 17 0 (ap (λ (x : Enumerated). said_by x c.alone.result.next) r.answer_value) r.next_value
-    (matched_17 _ _ _ _ _ _ (sizes a.plan.now) c.requires.accepted (range-number _ _ _ _ _ (omega arith) (λ e. c.if-from-vars.true (omega arith)))) in
-    record { kept = w.0; next_value = w.1 }
+    told-refused a.volume.now a.plan.now a.pattern a.doc a.from.now a.out.now 17 0
+    (matched_17 _ _ _ _ _ _ (sizes a.plan.now) c.requires.accepted
+    (elim c.then-from-outline.branch [
+      | then-from-outline-via-then-from-outline w ↦ range-number _ _ _ _ _ (omega arith) (λ e. w.if-from-outline.true (omega arith))
+      | then-from-outline-via-else-from-outline+then-doc-gt-LAST_DOC w ↦ range_doc _ _ _ _ _ (omega arith) (omega arith) w.if-doc-gt-LAST_DOC.true
+      | then-from-outline-via-else-from-outline+else-doc-gt-LAST_DOC+then-not-in_document w
+          ↦ range_small _ _ _ _ _ (omega arith) (omega arith) (omega arith) false (sym w.in_document.ensures ∙ w.if-not-in_document.true)
+    ]))
 
-pub returns-then-doc-gt-LAST_DOC : goal.returns-then-doc-gt-LAST_DOC
-returns-then-doc-gt-LAST_DOC c =
-    let o = outline (goal.at.returns-then-doc-gt-LAST_DOC c).After-outline_at-outline in
+pub returns-then-out-outline : goal.returns-then-out-outline
+returns-then-out-outline c =
+    let o = outline (goal.at.returns-then-out-outline c).After-outline_at-outline in
     let a = c.args in
-    let r = c.alone-then-doc-gt-LAST_DOC.ensures in
-    let w = told-refused a.volume.now a.plan.now a.pattern a.doc a.from.now a.out.now c.alone-then-doc-gt-LAST_DOC.result 17 0 (ap (λ (x : Enumerated). said_by x c.alone-then-doc-gt-LAST_DOC.result.next) r.answer_value) r.next_value
-    (matched_17 _ _ _ _ _ _ (sizes a.plan.now) c.requires.accepted (range_doc _ _ _ _ _ (omega arith) (omega arith) c.if-doc-gt-LAST_DOC.true)) in
-    record { kept = w.0; next_value = w.1 }
-
-pub returns-then-not-in_document : goal.returns-then-not-in_document
-returns-then-not-in_document c =
-    let o = outline (goal.at.returns-then-not-in_document c).After-outline_at-outline in
-    let a = c.args in
-    let r = c.alone-then-not-in_document.ensures in
-    let w = told-refused a.volume.now a.plan.now a.pattern a.doc a.from.now a.out.now c.alone-then-not-in_document.result 17 0 (ap (λ (x : Enumerated). said_by x c.alone-then-not-in_document.result.next) r.answer_value) r.next_value
-    (matched_17 _ _ _ _ _ _ (sizes a.plan.now) c.requires.accepted (range_small _ _ _ _ _ (omega arith) (omega arith) (omega arith) false (sym c.in_document.ensures ∙ c.if-not-in_document.true))) in
-    record { kept = w.0; next_value = w.1 }
-
-pub returns-then-out-vars : goal.returns-then-out-vars
-returns-then-out-vars c =
-    let o = outline (goal.at.returns-then-out-vars c).After-outline_at-outline in
-    let a = c.args in
-    let r = c.alone-then-out-vars.ensures in
-    let w = told-refused a.volume.now a.plan.now a.pattern a.doc a.from.now a.out.now c.alone-then-out-vars.result 16 0 (ap (λ (x : Enumerated). said_by x c.alone-then-out-vars.result.next) r.answer_value) r.next_value
+    told-refused a.volume.now a.plan.now a.pattern a.doc a.from.now a.out.now 16 0
     (matched_16 _ _ _ _ _ _ (sizes a.plan.now) c.requires.accepted (range_small _ _ _ _ _ (omega arith) (omega arith) (omega arith) true (sym c.in_document.ensures ∙ c.if-not-in_document.false))
-    (let v = o.entry.outlines.vars_are in let k = o.pattern-is in let t = c.if-out-vars.true in omega arith)) in
-    record { kept = w.0; next_value = w.1 }
+    (let v = o.entry.outlines.vars_are in let k = o.pattern-is in let t = c.if-out-outline.true in omega arith))
 
 -- the pattern has at most eight variables
 few : (c : After-outline_at-outline) → c.outline_at-outline.result.vars ≤ 8
@@ -146,15 +130,8 @@ write_matches-requires c =
 
 pub returns : goal.returns
 returns c =
-    let w = c.write_matches.ensures in
     let a = c.args in
-    let r = c.write_matches in
-    let back = r.new.out in record {
-      kept = subst
-          (λ (k : ℕ).
-          Kept a.volume.now a.plan.now k a.doc a.from.now
-          (record { lent = a.out.now; says = said_matched r.result; back = back }))
-          (outline (goal.at.returns c).After-outline_at-outline).pattern-is
-          w.kept;
-      next_value = w.next_value;
-    }
+    subst
+    (λ (k : ℕ). Kept a.volume.now a.plan.now k a.doc a.from.now (record { lent = a.out.now; says = said_matched (Ok c.write_matches.result); back = c.write_matches.new.out }))
+    (outline (goal.at.returns c).After-outline_at-outline).pattern-is
+    c.write_matches.ensures

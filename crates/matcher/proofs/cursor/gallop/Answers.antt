@@ -33,22 +33,22 @@ below_in_window-passed-requires c =
 pub overflow_add-at : goal.overflow_add-at
 overflow_add-at c = let w = c.requires.within in omega arith
 
-pub word_behind-requires-then-target-word_behind : goal.word_behind-requires-then-target-word_behind
-word_behind-requires-then-target-word_behind c =
+pub word_behind-requires-then-target-from : goal.word_behind-requires-then-target-from
+word_behind-requires-then-target-from c =
     let w = c.requires.within in
-    let m = near (goal.at.word_behind-requires-then-target-word_behind c).Then-from-le118 in
+    let m = near (goal.at.word_behind-requires-then-target-from c).Then-from-le118 in
     record {
       k_bound = omega arith;
       k_bound_2 = omega arith;
     }
 
-pub returns-then-target-word_behind : goal.returns-then-target-word_behind
-returns-then-target-word_behind c =
+pub returns-then-target-from : goal.returns-then-target-from
+returns-then-target-from c =
     let a = c.args in
     let w = c.word_behind.ensures in
     let n = c.below_in_window-passed.ensures.value in
     let hit = window_hit a.volume.now a.target a.from a.end 7 c.requires (omega arith) (omega arith) in
-    record { at-is = omega (arith, n, hit); bits_are = λ h. c.word_behind-then-target-word_behind.ensures }
+    record { at-is = omega (arith, n, hit); bits_are = λ h. c.word_behind-then-target-from.ensures }
 
 pub leap_on-requires : goal.leap_on-requires
 leap_on-requires c = c.requires

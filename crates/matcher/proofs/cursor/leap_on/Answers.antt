@@ -5,7 +5,7 @@ use mathlib.Core.Path.{◌≡◌, ◌∙◌}
 use Rattle.matcher.specs.Inner.Cursors.{seek_from, Galloped}
 use Rattle.matcher.proofs.Laws.Cursors.{galloped-first, galloped-end, stretch-within, window_hit, window-passed}
 use Rattle.matcher.proofs.cursor.leap_on.Goals as goal
-use Rattle.matcher.proofs.cursor.leap_on.Goals.{then-end-from-ge8+else-target-word_at, else-end-from-ge8, After-leap-at, Joined-end-from-ge8}
+use Rattle.matcher.proofs.cursor.leap_on.Goals.{then-end-from-ge8+else-target-from, else-end-from-ge8, After-leap-at, Joined-end-from-ge8}
 
 pub overflow_sub-end : goal.overflow_sub-end
 overflow_sub-end c = let o = c.requires.order in omega arith
@@ -22,16 +22,16 @@ below_across-passed-requires c = let w = c.requires.within in omega arith
 pub overflow_add-at : goal.overflow_add-at
 overflow_add-at c = let w = c.requires.within in omega arith
 
-pub word_at-requires-then-target-word_at : goal.word_at-requires-then-target-word_at
-word_at-requires-then-target-word_at c = let w = c.requires.within in omega arith
+pub word_at-requires-then-target-from : goal.word_at-requires-then-target-from
+word_at-requires-then-target-from c = let w = c.requires.within in omega arith
 
-pub returns-then-target-word_at : goal.returns-then-target-word_at
-returns-then-target-word_at c =
+pub returns-then-target-from : goal.returns-then-target-from
+returns-then-target-from c =
     let a = c.args in
     let w = c.word_at.ensures in
     let n = c.below_across-passed.ensures.value in
     let hit = window_hit a.volume.now a.target a.from a.end 7 c.requires (omega arith) (omega arith) in
-    record { at-is = omega (arith, n, hit); bits_are = λ h. c.word_at-then-target-word_at.ensures }
+    record { at-is = omega (arith, n, hit); bits_are = λ h. c.word_at-then-target-from.ensures }
 
 pub overflow_add-low : goal.overflow_add-low
 overflow_add-low c = let w = c.requires.within in omega arith
@@ -42,7 +42,7 @@ passed : (c : Joined-end-from-ge8)
 passed c =
     let a = c.args in
     elim c.if-end-from-ge8.branch [
-      | then-end-from-ge8+else-target-word_at w ↦
+      | then-end-from-ge8+else-target-from w ↦
           let g = window-passed a.volume.now a.target a.from a.end 7 c.requires (omega arith) (omega arith) in
           let e : a.from + 7 + 1 ≡ c.if-end-from-ge8.low = omega arith in
           (rw e at g, omega arith)
@@ -62,7 +62,7 @@ passed' : (c : After-leap-at)
 passed' c =
     let a = c.args in
     elim c.if-end-from-ge8.branch [
-      | then-end-from-ge8+else-target-word_at w ↦
+      | then-end-from-ge8+else-target-from w ↦
           let g = window-passed a.volume.now a.target a.from a.end 7 c.requires (omega arith) (omega arith) in
           let e : a.from + 7 + 1 ≡ c.if-end-from-ge8.low = omega arith in
           (rw e at g, omega arith)

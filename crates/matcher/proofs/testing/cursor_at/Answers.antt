@@ -15,7 +15,7 @@ advance-reached-requires c =
 arrived : (c : After-advance-reached)
     →
     Arrived c.args.volume.now (c.args.doc * 65536 + c.args.pos) c.list_cursor-first.result.at c.list_cursor-first.result.end c.advance-reached.result
-arrived c = rw (← ap (λ (q : Posting). q.bits) c.new-sought.ensures) c.advance-reached.ensures
+arrived c = rw (c.from.ensures ∙ ap (λ (q : Posting). q.bits) c.new-sought.ensures) at c.advance-reached.ensures
 
 pub returns-then-reached-sought : goal.returns-then-reached-sought
 returns-then-reached-sought c =

@@ -2,7 +2,7 @@
 use mathlib.Core.Path.{◌≡◌, sym, ap, ◌∙◌}
 use mathlib.Core.Bool.{false}
 use Rattle.plan.specs.declared.row.Row.{Row}
-use Rattle.plan.specs.declared.state.Step.TheVariants.{Stands}
+use Rattle.std.specs.Prelude.{Ok}
 use Rattle.plan.specs.Rows.{row_at, form_wrong_at}
 use Rattle.plan.specs.State as state
 use Rattle.plan.proofs.Laws.State.{step_form, step-list, step-many, step-order, step-stands}
@@ -69,6 +69,6 @@ pub returns : goal.returns
 returns c =
     let a = c.args in
     let e = kind-is (goal.at.returns c).After-row_at-row in
-    ap Stands (c.after.ensures ∙ ap (state.after a.s) e)
+    ap Ok (c.after.ensures ∙ ap (state.after a.s) e)
     ∙ sym (step-stands a.lists a.s a.plan.now a.i (formed (goal.at.returns c).After-row_at-row) (listed (goal.at.returns c).Else-list_wrong) (few (goal.at.returns c).Else-too_many)
     (sym (ap (state.order_wrong a.s) e) ∙ sym c.order_wrong.ensures ∙ c.if-order_wrong.false))

@@ -1,6 +1,6 @@
 use native.Mathlib.Omega.{arith}
 use Prim.Native.Nat.{ℕ, ◌+◌, ◌-◌, ◌<◌, ◌≤◌}
-use mathlib.Core.Path.{◌≡◌, refl, sym, ap, ◌∙◌}
+use mathlib.Core.Path.{◌≡◌, sym, ap, ◌∙◌}
 use Rattle.seq.specs.Lists.{above, rises}
 use Rattle.seq.specs.Numbers.{run}
 use Rattle.seq.proofs.Laws.Rising.{rises-none, rises-start, above-next, above_stop, above-done}
@@ -22,12 +22,8 @@ pub loop-i-init : goal.loop-i-init
 loop-i-init c =
     let a = c.args in
     let w = word a.volume.now in
-    let some_words : 0 < a.n = omega arith in (
-      omega arith,
-      omega arith,
-      refl,
-      ap (λ (x : ℕ). above x (run w (a.from + 1) (a.from + a.n - (a.from + 1)))) (bits_are c.posting_at-last.ensures) ∙ sym (rises-start w a.from a.n some_words),
-    )
+    let some_words : 0 < a.n = omega arith in
+    ap (λ (x : ℕ). above x (run w (a.from + 1) (a.from + a.n - (a.from + 1)))) (bits_are c.posting_at-last.ensures) ∙ sym (rises-start w a.from a.n some_words)
 
 pub returns-then-next-last : goal.returns-then-next-last
 returns-then-next-last c =
@@ -36,7 +32,7 @@ returns-then-next-last c =
     let w = word a.volume.now in
     let next = bits_are c.posting_at-next.ensures in
     let low : w l.i ≤ l.last = omega arith in
-    sym (above_stop w l.last l.i (a.from + a.n) c.loop-i-test.true low) ∙ l.invariant.3
+    sym (above_stop w l.last l.i (a.from + a.n) c.loop-i-test.true low) ∙ l.invariant
 
 pub loop-i-preserved : goal.loop-i-preserved
 loop-i-preserved c =
@@ -44,15 +40,11 @@ loop-i-preserved c =
     let a = c.args in
     let w = word a.volume.now in
     let next = bits_are c.posting_at-next.ensures in
-    let up : l.last < w l.i = omega arith in (
-      omega arith,
-      omega arith,
-      l.invariant.2,
-      ap (λ (x : ℕ). above x (run w (l.i + 1) (a.from + a.n - (l.i + 1)))) next ∙ sym (above-next w l.last l.i (a.from + a.n) c.loop-i-test.true up) ∙ l.invariant.3,
-    )
+    let up : l.last < w l.i = omega arith in
+    ap (λ (x : ℕ). above x (run w (l.i + 1) (a.from + a.n - (l.i + 1)))) next ∙ sym (above-next w l.last l.i (a.from + a.n) c.loop-i-test.true up) ∙ l.invariant
 
 pub returns : goal.returns
 returns c =
     let l = c.loop-i in
     let a = c.args in
-    sym (above-done (word a.volume.now) l.last l.i (a.from + a.n) c.loop-i-test.false) ∙ l.invariant.3
+    sym (above-done (word a.volume.now) l.last l.i (a.from + a.n) c.loop-i-test.false) ∙ l.invariant

@@ -1,6 +1,6 @@
--- `order::rising` meets its contract. The loop's invariant: the postings from `from` on rise exactly if those from i on rise above the last one read.
--- The measure is what is left up to the end. Assumes nothing.
-use Prim.Native.Nat.{◌+◌, ◌-◌, ◌<◌, ◌≤◌}
+-- `order::rising` meets its contract. The loop's invariant: the postings from `from` on rise exactly if those from i on rise above the last
+-- one read. Assumes nothing.
+use Prim.Native.Nat.{◌+◌, ◌-◌}
 use mathlib.Core.Path.{◌≡◌}
 use Rattle.seq.specs.Lists.{above, rises}
 use Rattle.seq.specs.Numbers.{run}
@@ -8,7 +8,4 @@ use Rattle.volume.specs.Layout.{word}
 use Rattle.volume.proofs.order.rising.Given as goal
 
 abbrev pub invariant-loop-i : goal.invariant-loop-i
-invariant-loop-i l = (l.from < l.i) × (l.i ≤ l.end) × (l.end ≡ l.from + l.n) × (above l.last (run (word l.volume) l.i (l.end - l.i)) ≡ rises (run (word l.volume) l.from l.n))
-
-abbrev pub decreases-loop-i : goal.decreases-loop-i
-decreases-loop-i l = l.end - l.i
+invariant-loop-i l = above l.last (run (word l.volume) l.i (l.from + l.n - l.i)) ≡ rises (run (word l.volume) l.from l.n)

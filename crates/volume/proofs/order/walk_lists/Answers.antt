@@ -6,9 +6,9 @@ use mathlib.Core.Bool.{not}
 use lib.ListN.{length}
 use Rattle.seq.specs.Lists.{rises}
 use Rattle.seq.specs.Numbers.{first_from, run, sum_to}
-use Rattle.seq.proofs.Laws.Numbers.{first_hit, first_miss, first-end, sum_step}
-use Rattle.volume.specs.Layout.{count, word}
-use Rattle.volume.specs.Check.{order_wrong}
+use Rattle.seq.proofs.Laws.Numbers.{first_hit, first_miss, first-end, index-found, index-none, sum_step}
+use Rattle.volume.specs.Layout.{list_count, count, word}
+use Rattle.volume.specs.Check.{order_wrong, bad_list}
 use Rattle.volume.proofs.Laws.Check.{list-within}
 use Rattle.volume.proofs.order.walk_lists.Goals as goal
 use Rattle.volume.proofs.order.walk_lists.Goals.{After-count_at-size, After-rising}
@@ -30,13 +30,13 @@ unfolding order_wrong
 order_is c =
     let l = c.loop-i in
     let v = c.args.volume.now in
-    ap not (sym (c.rising.ensures ∙ ap₂ (λ (s n : ℕ). rises (run (word v) s n)) l.invariant.2 c.count_at-size.ensures))
+    ap not (sym (c.rising.ensures ∙ ap₂ (λ (s n : ℕ). rises (run (word v) s n)) l.invariant.0 c.count_at-size.ensures))
 
 pub loop-i-init : goal.loop-i-init
 unfolding sum_to
 loop-i-init c =
     let p = c.requires.lists_value in
-    (p, omega arith, omega arith, ap (first_from (order_wrong _) 0) (sub-zero _ ∙ p))
+    (omega arith, ap (first_from (order_wrong _) 0) (sub-zero _ ∙ p))
 
 pub rising-requires : goal.rising-requires
 rising-requires c = in_blocks c
@@ -45,7 +45,9 @@ pub returns-then-not-rising : goal.returns-then-not-rising
 returns-then-not-rising c =
     let l = c.loop-i in
     let a = c.args in
-    sym (first_hit (order_wrong a.volume.now) l.i a.lists c.loop-i-test.true (order_is (goal.at.returns-then-not-rising c).After-rising ∙ c.if-not-rising.true-raw)) ∙ l.invariant.3
+    let v = a.volume.now in
+    let bad : bad_list v ≡ l.i = sym l.invariant.1 ∙ first_hit (order_wrong v) l.i a.lists c.loop-i-test.true (order_is (goal.at.returns-then-not-rising c).After-rising ∙ c.if-not-rising.true-raw) in
+    rw bad (sym (index-found (list_count v) l.i (omega arith)))
 
 pub overflow_add-start : goal.overflow_add-start
 overflow_add-start c = let w = in_blocks (goal.at.overflow_add-start c).After-count_at-size in omega arith
@@ -57,15 +59,14 @@ loop-i-preserved c =
     let v = a.volume.now in
     let step : sum_to (count v) (l.i + 1) ≡ sum_to (count v) l.i + count v l.i = sum_step (count v) l.i in
     let size : c.count_at-size.result ≡ count v l.i = c.count_at-size.ensures in (
-      l.invariant.0,
       omega arith,
-      omega arith,
-      sym (first_miss (order_wrong v) l.i a.lists c.loop-i-test.true (order_is (goal.at.loop-i-preserved c).After-rising ∙ c.if-not-rising.false-raw)) ∙ l.invariant.3,
+      sym (first_miss (order_wrong v) l.i a.lists c.loop-i-test.true (order_is (goal.at.loop-i-preserved c).After-rising ∙ c.if-not-rising.false-raw)) ∙ l.invariant.1,
     )
 
 pub returns : goal.returns
 returns c =
     let l = c.loop-i in
     let a = c.args in
-    let e : l.i ≡ a.lists = omega arith in
-    sym e ∙ sym (first-end (order_wrong a.volume.now) l.i a.lists c.loop-i-test.false) ∙ l.invariant.3
+    let v = a.volume.now in
+    let bad : bad_list v ≡ l.i = sym l.invariant.1 ∙ first-end (order_wrong v) l.i a.lists c.loop-i-test.false in
+    sym (index-none (list_count v) (bad_list v) (omega arith))

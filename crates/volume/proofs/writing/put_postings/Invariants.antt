@@ -1,7 +1,5 @@
--- `volume::writing::put_postings` meets its contract. The first loop's invariant is `Filling`: the first j words are stored behind the first
--- four bytes, and the rest is as it was. The second's is `Onward`: what the first has begun goes on. The measures are what is left of 6 and
--- of 126 words. Assumes nothing.
-use Prim.Native.Nat.{◌-◌}
+-- `volume::writing::put_postings` meets its contract. The first loop's invariant is `Filling`: the first j words are stored behind the
+-- first four bytes, and the rest is as it was. The second's is `Onward`: what the first has begun goes on. Assumes nothing.
 use Rattle.seq.specs.Lists.{at}
 use Rattle.volume.proofs.Laws.Storing.{Filling, Onward}
 use Rattle.volume.proofs.writing.put_postings.Given as goal
@@ -9,11 +7,5 @@ use Rattle.volume.proofs.writing.put_postings.Given as goal
 abbrev pub invariant-loop-j : goal.invariant-loop-j
 invariant-loop-j l = Filling (at l.postings) l.from l.initial.out l.out l.j
 
-abbrev pub decreases-loop-j : goal.decreases-loop-j
-decreases-loop-j l = 6 - l.j
-
 abbrev pub invariant-loop-j-2 : goal.invariant-loop-j-2
-invariant-loop-j-2 l = Onward (at l.postings) l.from l.initial.out l.initial.j l.out l.j
-
-abbrev pub decreases-loop-j-2 : goal.decreases-loop-j-2
-decreases-loop-j-2 l = 126 - l.j
+invariant-loop-j-2 l = Onward (at l.postings) l.from l.initial.out 6 l.out l.j

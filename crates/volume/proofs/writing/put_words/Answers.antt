@@ -9,7 +9,7 @@ pub loop-j-preserved : goal.loop-j-preserved
 loop-j-preserved c =
     let l = c.loop-j in
     let p = c.put32 in
-    filling_again _ _ _ l.out p.new.out l.j _ l.invariant (omega arith) c.stream_word-x.ensures p.auto.out p.ensures
+    filling_again _ _ _ l.out p.new.out l.j _ l.invariant (omega arith) c.stream_word.ensures p.auto.out p.ensures
 
 pub returns : goal.returns
 returns c = filling-done _ _ _ _ c.loop-j.j c.loop-j.invariant c.loop-j-test.false
