@@ -10,7 +10,6 @@ ghost use Rattle.lister.specs.Inner.Pages.{page_turn, rows_in, last, Told, Adds,
 
 use super::files::plan_words;
 use super::text::{put_bytes, put_done, put_line, put_rows};
-use plan::Checked;
 use search::{ListError, Listing};
 use volume::Code;
 
@@ -116,11 +115,11 @@ fn list_text(volume: &[u8], plan: &[u32], start: Start, out: &mut [u8]) -> Turn
     ensures ahead { Ahead start.doc (length out.old) result }
 {
     match plan::check(volume, plan) {
-        Checked::Accepted(patterns, vars) => {
-            let width = plan::row_words(patterns, vars);
+        Ok(sizes) => {
+            let width = plan::row_words(sizes.patterns, sizes.vars);
             page_text(volume, plan, width, start, out)
         }
-        Checked::Refused(why) => Turn::last(put_refusal(plan::code_of(why), out)),
+        Err(why) => Turn::last(put_refusal(plan::code_of(why), out)),
     }
 }
 

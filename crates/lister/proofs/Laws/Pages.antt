@@ -23,7 +23,7 @@ use Rattle.seq.specs.Refusals.{Said, refused, answered}
 use Rattle.seq.proofs.Laws.Numbers.{run_ext}
 use Rattle.seq.proofs.Laws.Stores.{drop_past}
 use Rattle.plan.specs.Limits.{row_words}
-use Rattle.plan.specs.Answers.{Sizes}
+use Rattle.plan.specs.declared.answers.Sizes.{Sizes}
 use Rattle.plan.specs.Check.{verdict, sizes}
 use Rattle.plan.proofs.Laws.Check.{verdict-sizes}
 use Rattle.fulltext.specs.Positions.{limit}
@@ -171,9 +171,9 @@ module _ (v p : List ℕ) (from tally width : ℕ) (back : List ℕ) (said : Sai
         (rw turn-listed at t.0, rw answer (turn-ahead v p from blank said (sym kept.0) tally (length out) h (rw answer at t.1)));
   }
 
-pub width_is : (v p : List ℕ) (patterns vars : ℕ) → verdict v p ≡ answered (record { patterns = patterns; vars = vars }) → row_words patterns vars ≡ (work v p).width
+pub width_is : (v p : List ℕ) (s : Sizes) → verdict v p ≡ answered s → row_words s.patterns s.vars ≡ (work v p).width
 unfolding work work_of sizes
-width_is v p patterns vars e = ap (λ (s : Sizes). row_words s.patterns s.vars) (verdict-sizes v p (record { patterns = patterns; vars = vars }) e)
+width_is v p s e = ap (λ (s : Sizes). row_words s.patterns s.vars) (verdict-sizes v p s e)
 
 -- the turns that have no page
 pub list-refused : (v p : List ℕ) (from tally n q : ℕ) → verdict v p ≡ refused n q → list_turn v p from tally ≡ only (line refused_word (n ∷ q ∷ [])) tally

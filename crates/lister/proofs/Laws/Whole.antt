@@ -17,7 +17,7 @@ use Rattle.seq.specs.Lists.{joined}
 use Rattle.seq.specs.Refusals.{Said, refused, answered}
 use Rattle.seq.proofs.Laws.Tests.{below_or}
 use Rattle.seq.proofs.Laws.Lists.{joined_append}
-use Rattle.plan.specs.Answers.{Sizes}
+use Rattle.plan.specs.declared.answers.Sizes.{Sizes}
 use Rattle.plan.specs.Check.{verdict, sizes, Accepted}
 use Rattle.plan.proofs.Laws.Check.{verdict-sizes}
 use Rattle.plan.proofs.Laws.Accepted.{given}
