@@ -1,4 +1,6 @@
 // Text, stored in a lent buffer from an index on. Each function answers the index behind it.
+//
+// No `write!` stands here: the program uses no heap, and a clause names each byte of the buffer.
 ghost use Rattle.std.specs.Prelude.{◌≡◌, ◌∷◌, [], map, ◌+◌, ◌*◌, ◌≤◌, length};
 ghost use Rattle.seq.specs.Lists.{joined};
 ghost use Rattle.lister.specs.Text.{spaced, line, scene_word, done_word};
@@ -49,7 +51,8 @@ pub fn put_line(word: &[u8], ns: &[u32], at: usize, out: &mut [u8]) -> usize
     put_bytes(b"\n", end, out)
 }
 
-// The last line of a listing: the sum of the tallies.
+// The last line of a listing: the sum of the tallies. A `put_line` over two widths of numbers would
+// need a bound and a clause on their conversion, for one call each.
 pub fn put_done(tally: u64, at: usize, out: &mut [u8]) -> usize
     requires { at + 26 ≤ length out.old }
     ensures { Stored out.old at (line done_word (tally ∷ [])) out.new result }

@@ -72,7 +72,7 @@ turn-answered v b from tally page h e =
 page-answered : (v p : List ℕ) → Accepted v p → (from : ℕ) → from < limit → (page : Page) × (list_answer v p from (length blank) ≡ answered page)
 page-answered v p ok from h =
     let few = (given v p ok).width in
-    let wide = width_is v p (sizes p).patterns (sizes p).vars ok in
+    let wide = width_is v p (sizes p) ok in
     let size = sized in
     (page_of (work v p) from (length blank / (work v p).width), (accepted-answer v p from blank (sizes p) ok (omega arith) (omega arith)).0)
 
