@@ -12,6 +12,7 @@ mod answers;
 mod docs;
 mod joining;
 mod reading;
+mod sources;
 
 pub use answers::JoinError;
 pub use joining::join;
