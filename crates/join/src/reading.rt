@@ -11,8 +11,8 @@ use super::sources::Sources;
 use volume::{BLOCK_WORDS, count_at, entry, lead, word_behind};
 
 // How far both volumes are read: how many lists have been entered, and of the last of these the
-// stream index of the next posting in the first volume, where the list stops there, the index of the
-// next posting in the second volume, and where the list ends there.
+// stream index of the next posting in the first volume, where the list stops there, the index of
+// the next posting in the second volume, and where the list ends there.
 #[derive(Clone, Copy)]
 pub struct Merge {
     pub lists: usize,
@@ -45,8 +45,8 @@ fn run_length(at: usize, end: usize, room: usize) -> usize
     (end - at).min(room).min(BLOCK_WORDS - at % BLOCK_WORDS)
 }
 
-// Copies n words of one block of a volume, from stream index `from` on, into words from `to` on, with
-// `lift` added to each.
+// Copies n words of one block of a volume, from stream index `from` on, into words from `to` on,
+// with `lift` added to each.
 fn copy_run(volume: &[u8], from: usize, n: usize, lift: u32, words: &mut [u32], to: usize)
     requires n_bound { from % 126 + n ≤ 126 }
     requires n_bound_2 { from + n ≤ stream_length volume.now }
@@ -79,8 +79,8 @@ impl Sources<'_> {
         }
     }
 
-    // Makes the next words of a block, from word `to` on: a run of postings of one volume, or no word
-    // where a list is entered.
+    // Makes the next words of a block, from word `to` on: a run of postings of one volume, or no
+    // word where a list is entered.
     fn turn(&self, merge: Merge, to: usize, words: &mut [u32]) -> Merge
         requires stands_at { StandsAt self.now.first.now self.now.second.now merge }
         requires merge_bound { read_of merge < extent self.now.first.now + extent self.now.second.now }
@@ -142,8 +142,8 @@ impl Sources<'_> {
         }
     }
 
-    // Makes the words of a block from stream index `from` on that stand in front of the postings, and
-    // tells how many.
+    // Makes the words of a block from stream index `from` on that stand in front of the postings,
+    // and tells how many.
     fn put_head(&self, from: usize, words: &mut [u32]) -> usize
         requires from_bound { from ≤ 1032192 }
         requires words_len { length words.old ≡ 126 }
