@@ -1,4 +1,6 @@
 // Text, stored in a lent buffer from an index on. Each function answers the index behind it.
+//
+// No `write!` stands here: the program uses no heap, and a clause names each byte of the buffer.
 ghost use Rattle.std.specs.Prelude.{◌≡◌, ◌∷◌, [], map, ◌+◌, ◌*◌, ◌≤◌, length};
 ghost use Rattle.seq.specs.Lists.{joined};
 ghost use Rattle.lister.specs.Text.{spaced, line, scene_word, done_word};
@@ -12,12 +14,9 @@ pub fn put_bytes(bytes: &[u8], at: usize, out: &mut [u8]) -> usize
     requires { at + length bytes.now ≤ length out.old }
     ensures { Stored out.old at bytes.now out.new result }
 {
-    let mut i: usize = 0;
-    while i < bytes.len() {
-        out[at + i] = bytes[i];
-        i += 1;
-    }
-    at + i
+    let end = at + bytes.len();
+    out[at..end].copy_from_slice(bytes);
+    end
 }
 
 // A space and a number.
@@ -36,10 +35,8 @@ fn put_numbers(ns: &[u32], at: usize, out: &mut [u8]) -> usize
     ensures { Stored out.old at (joined (map spaced ns.now)) out.new result }
 {
     let mut end = at;
-    let mut i: usize = 0;
-    while i < ns.len() {
-        end = put_number(wide(ns[i]), end, out);
-        i += 1;
+    for &n in ns {
+        end = put_number(u64::from(n), end, out);
     }
     end
 }
@@ -54,7 +51,8 @@ pub fn put_line(word: &[u8], ns: &[u32], at: usize, out: &mut [u8]) -> usize
     put_bytes(b"\n", end, out)
 }
 
-// The last line of a listing: the sum of the tallies.
+// The last line of a listing: the sum of the tallies. A `put_line` over two widths of numbers would
+// need a bound and a clause on their conversion, for one call each.
 pub fn put_done(tally: u64, at: usize, out: &mut [u8]) -> usize
     requires { at + 26 ≤ length out.old }
     ensures { Stored out.old at (line done_word (tally ∷ [])) out.new result }
@@ -80,19 +78,9 @@ pub fn put_rows(page: &[u32], n: usize, width: usize, at: usize, out: &mut [u8])
     ensures upper_bound { result ≤ at + n * (6 + 11 * width) }
 {
     let mut end = at;
-    let mut first: usize = 0;
-    let mut i: usize = 0;
-    while i < n {
-        let next = first + width;
-        end = put_row(&page[first..next], end, out);
-        first = next;
-        i += 1;
+    for i in 0..n {
+        let first = i * width;
+        end = put_row(&page[first..first + width], end, out);
     }
     end
-}
-
-pub fn wide(x: u32) -> u64
-    ensures { result ≡ x }
-{
-    x as u64
 }

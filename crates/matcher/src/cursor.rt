@@ -107,7 +107,9 @@ fn leap_on(volume: &[u8], from: usize, end: usize, target: u64) -> Reached
 }
 
 // The same. Where the next eight words are of the list and of one block, and the last one is not
-// below target, the words below target are counted without a branch: most moves are short.
+// below target, the words below target are counted without a branch: most moves are short. `leap_on`
+// does so across blocks, by a division for each word.
+#[inline(always)]
 fn gallop(volume: &[u8], from: usize, end: usize, target: u64) -> Reached
     requires { Stretch volume.now from end }
     ensures { Arrived volume.now target from end result }
@@ -145,6 +147,7 @@ impl Cursor {
     }
 
     // The same, for a document that is near, and the posting there.
+    #[inline(always)]
     pub fn enter(self, volume: &[u8], doc: u32) -> Reached
         requires { Stretch volume.now self.at self.end }
         ensures { Arrived volume.now (doc * 65536) self.at self.end result }
@@ -153,7 +156,8 @@ impl Cursor {
     }
 
     // To the first posting from here on that is not below a bound, and the posting there; to the end
-    // where there is none.
+    // where there is none. It is a part of the loops that move cursors: a call would store the slice.
+    #[inline(always)]
     pub fn advance(self, volume: &[u8], bound: u64) -> Reached
         requires { Stretch volume.now self.at self.end }
         ensures { Arrived volume.now bound self.at self.end result }

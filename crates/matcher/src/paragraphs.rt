@@ -13,15 +13,16 @@ use super::cursor::{Cursor, Document, bound_of};
 use volume::{BLOCK_WORDS, LAST_WORD, Posting};
 
 // The paragraph of a position: its start, 65,536 where there is none, and the stream index of the
-// first start behind the position.
-#[derive(Clone, Copy)]
+// first start behind the position. The row of the C interface shows that number (`lhz_list`).
+#[derive(Clone, Copy, Debug, PartialEq, Eq)]
 pub struct Para {
     pub start: u32,
     pub at: usize,
 }
 
-// The start of a position's paragraph, and the block of the first start behind the position.
-#[derive(Clone, Copy)]
+// The start of a position's paragraph, 65,536 where there is none, as the row of the C interface
+// shows it (`lhz_list`), and the block of the first start behind the position.
+#[derive(Clone, Copy, Debug, PartialEq, Eq)]
 pub struct ParaInBlock {
     pub start: u32,
     pub block: usize,
@@ -29,7 +30,7 @@ pub struct ParaInBlock {
 
 // Blocks of list 0: each one from `first` on in front of `last`, and the one behind it, has starts
 // alone.
-#[derive(Clone, Copy)]
+#[derive(Clone, Copy, Debug, PartialEq, Eq)]
 pub struct Blocks {
     pub first: usize,
     pub last: usize,

@@ -12,7 +12,7 @@ ghost use Rattle.matcher.specs.Inner.Cursors.{ats_of, ends_of};
 ghost use Rattle.matcher.specs.Inner.Settling.{Asked, Found, StoodAt};
 
 use super::answers::TestError;
-use super::cursor::{Cursor, Document, list_cursor, starts_of};
+use super::cursor::{Cursor, Document, bound_of, list_cursor, starts_of};
 use super::least::match_from;
 use super::rarest::rarest_first;
 use super::store::put_row;
@@ -30,15 +30,14 @@ pub fn in_document(positions: &[u32]) -> bool
 fn cursor_at(volume: &[u8], list: usize, doc: u32, pos: u32) -> Option<Cursor>
     requires accepted { Accepted volume.now }
     requires list_bound { list < list_count volume.now }
-    requires doc_bound { doc ≤ 65535 }
     requires pos_bound { pos ≤ 65535 }
     ensures { Found volume.now list doc pos result }
 {
     let first = list_cursor(volume, list);
-    let sought = Posting::new(doc as u16, pos as u16);
-    let reached = first.advance(volume, u64::from(sought.bits));
+    let bound = bound_of(doc, pos);
+    let reached = first.advance(volume, bound);
     let posting = reached.posting?;
-    if posting.bits == sought.bits {
+    if u64::from(posting.bits) == bound {
         return Some(Cursor {
             at: reached.at,
             ..first

@@ -6,7 +6,7 @@ use plan::Refusal;
 
 // What a listing call wrote: the rows, the tally, and the least true document that is not written
 // (MORE); none where each one is written (DONE).
-#[derive(Clone, Copy)]
+#[derive(Clone, Copy, Debug, PartialEq, Eq)]
 pub struct Listing {
     pub rows: u32,
     pub tally: u32,
@@ -14,7 +14,7 @@ pub struct Listing {
 }
 
 // Why a listing call wrote nothing.
-#[derive(Clone, Copy)]
+#[derive(Clone, Copy, Debug, PartialEq, Eq)]
 pub enum ListError {
     // The volume or the plan is refused.
     Refused(Refusal),

@@ -20,4 +20,4 @@ mod walk;
 
 pub use answers::{ListError, Listing};
 pub use listing::list;
-pub use matcher::{Tested, test};
+pub use matcher::{TestError, test};

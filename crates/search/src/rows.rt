@@ -11,7 +11,7 @@ ghost use Rattle.matcher.specs.Inner.Blocks.{Whole};
 ghost use Rattle.search.specs.Inner.Rows.{halved, row_by};
 
 use matcher::{Blocks, Document, para_near};
-use plan::outline_at;
+use plan::Outline;
 
 // Writes positions of a document into out from `to` on, each followed by the start of its paragraph.
 // `block` is where a start was found last. The block in which the last one is found.
@@ -53,8 +53,7 @@ pub fn write_row(
     document: Document,
     blocks: Blocks,
     block: usize,
-    table: &[usize],
-    patterns: usize,
+    table: &[Outline],
     found: u32,
     positions: &[u32],
     out: &mut [u32],
@@ -64,26 +63,25 @@ pub fn write_row(
     requires at_document { AtDocument volume.now document }
     requires whole { Whole document.starts blocks }
     requires block_bound { 126 * block ≤ stream_length volume.now }
-    requires patterns_in_bounds { 4 * patterns ≤ length table.now }
-    requires by_index { (k : ℕ) → k < patterns
+    requires by_index { (k : ℕ) → k < length table.now
         → (outline_at table.now k).first + (outline_at table.now k).vars ≤ length positions.now }
-    requires by_index_2 { (k : ℕ) → k < patterns → halved found k % 2 ≡ 1
+    requires by_index_2 { (k : ℕ) → k < length table.now → halved found k % 2 ≡ 1
         → InDocument (take (outline_at table.now k).vars (drop (outline_at table.now k).first positions.now)) }
-    requires patterns_in_bounds_2 { from + length (row_by (starts_in (lists_of volume.now) document.doc) table.now document.doc found positions.now
-        patterns) ≤ length out.old }
+    requires row_in_bounds { from + length (row_by (starts_in (lists_of volume.now) document.doc) table.now document.doc found positions.now
+        (length table.now)) ≤ length out.old }
     ensures out_after { out.new ≡ take from out.old
         ++ row_by (starts_in (lists_of volume.now) document.doc) table.now document.doc found
-        positions.now patterns
+        positions.now (length table.now)
         ++ drop (from + length (row_by (starts_in (lists_of volume.now) document.doc) table.now document.doc found
-        positions.now patterns)) out.old }
+        positions.now
+        (length table.now))) out.old }
     ensures result_bound { 126 * result ≤ stream_length volume.now }
 {
     out[from] = document.doc;
     let mut near = block;
     let mut to = from + 1;
     let mut left = found;
-    for k in 0..patterns {
-        let outline = outline_at(table, k);
+    for &outline in table {
         let first = outline.first;
         let vars = outline.vars;
         let flag = left % 2;

@@ -35,12 +35,14 @@ use Rattle.seq.proofs.Laws.Stores.{put_next, put-over}
 use Rattle.seq.proofs.Laws.Tests.{true_or}
 use Rattle.volume.specs.Posting.{doc_of, pos_of}
 use Rattle.volume.specs.Layout.{lists_of}
+use Rattle.plan.specs.declared.outline.Outline.{Outline}
 use Rattle.plan.specs.Rows.{rows_of}
 use Rattle.plan.specs.Patterns.{Pattern, no_row, patterns_of}
 use Rattle.plan.specs.Check.{sizes}
 use Rattle.plan.specs.Accepted.{pattern_at}
 use Rattle.plan.specs.Inner.Outline.{vars_before, outline_at, Tabled}
 use Rattle.plan.specs.Inner.Stack.{flag_of, bits_of, found_bits}
+use Rattle.plan.proofs.Laws.Outline.{Outlined, outlined}
 use Rattle.fulltext.specs.Positions.{list_of, positions_in}
 use Rattle.fulltext.specs.Paragraphs.{para_start}
 use Rattle.fulltext.specs.Matches.{with_each, tuples, matches, all_hold, starts_in, vars_in, least_in}
@@ -204,7 +206,7 @@ halved-next : (bits k : ℕ) → halved bits k / 2 ≡ halved bits (k + 1)
 unfolding halved
 halved-next bits k = sym (ap (halved bits) (add-one k))
 
-module _ (starts table : List ℕ) (d bits : ℕ) (ps : List ℕ) where
+module _ (starts : List ℕ) (table : List Outline) (d bits : ℕ) (ps : List ℕ) where
   pub row_first : row_by starts table d bits ps 0 ≡ d ∷ []
   unfolding row_by joined run
   row_first = refl
@@ -406,8 +408,11 @@ least-small lists d f ps e =
     (every-keep Small (λ qs. all_hold ss f.predicates qs) (tuples vs) (tuples-small vs (vars-small lists d f.vars)))
     (first_has ps (matches ss vs f.predicates) e))
 
-module _ (v p table : List ℕ) (tabled : Tabled p table) (d bits : ℕ) (ps : List ℕ) (bits_are : bits ≡ found_bits (found (lists_of v) d) p)
+module _ (v p : List ℕ) (table : List Outline) (tabled : Tabled p table) (d bits : ℕ) (ps : List ℕ) (bits_are : bits ≡ found_bits (found (lists_of v) d) p)
     (least : (k : ℕ) → k < (sizes p).patterns → LeastAt v p d ps k) where
+  own_outline : (k : ℕ) → k < (sizes p).patterns → Outlined p k (outline_at table k)
+  own_outline k h = outlined table tabled k h refl
+
   flag_is : (k : ℕ) → k < (sizes p).patterns → halved bits k % 2 ≡ flag_of (found (lists_of v) d (pattern_at p k))
   unfolding sizes
   flag_is k h =
@@ -418,7 +423,7 @@ module _ (v p table : List ℕ) (tabled : Tabled p table) (d bits : ℕ) (ps : L
 
   shown-is : (k : ℕ) → k < (sizes p).patterns → shown_by (starts_in (lists_of v) d) table bits ps k ≡ shown_in (lists_of v) d (pattern_at p k)
   shown-is k h =
-      rw ((tabled k h).first-is, (tabled k h).outlines.vars_are, flag_is k h)
+      rw ((own_outline k h).first-is, (own_outline k h).vars_are, flag_is k h)
       (ap (shown (starts_in (lists_of v) d) (length (pattern_at p k).vars)) (⊎_elim yes no (true_or (found (lists_of v) d (pattern_at p k)))))
     where
       own : Bool → Option (List ℕ)
@@ -444,7 +449,7 @@ module _ (v p table : List ℕ) (tabled : Tabled p table) (d bits : ℕ) (ps : L
   pub row_small : (k : ℕ) → k < (sizes p).patterns → halved bits k % 2 ≡ 1
       → InDocument (take (outline_at table k).vars (drop (outline_at table k).first ps))
   row_small k h e =
-      rw ((tabled k h).first-is, (tabled k h).outlines.vars_are)
+      rw ((own_outline k h).first-is, (own_outline k h).vars_are)
       (least-small (lists_of v) d (pattern_at p k) (take (length (pattern_at p k).vars) (drop (vars_before p k) ps))
       (least k h (yes (found (lists_of v) d (pattern_at p k)) (sym (flag_is k h) ∙ e))))
     where

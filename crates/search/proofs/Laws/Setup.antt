@@ -2,16 +2,22 @@
 --     used-first, used-next     the lists of a plan's variables, variable by variable
 --     used-within               all of them are lists of the volume
 --     started-cursor            a cursor on a list, from the starts of the lists
+--     voice-at, voice-few, voice-place     a variable, as its row in the plan names it
 -- Assumes nothing.
-use Prim.Native.Nat.{ℕ, ◌+◌, ◌<◌, ◌≤◌, max}
+use Prim.Native.Nat.{ℕ, ◌+◌, ◌-◌, ◌<◌, ◌≤◌, max}
 use native.Mathlib.Omega.{arith}
-use mathlib.Core.Path.{◌≡◌, ap₂, ◌∙◌}
+use mathlib.Core.Path.{◌≡◌, refl, subst, ap, ap₂, ◌∙◌}
 use mathlib.Core.List.{List}
 use mathlib.Core.Logic.{⊎_elim}
 use Rattle.seq.proofs.Laws.Tests.{below_or}
 use Rattle.volume.specs.Layout.{list_count, start}
 use Rattle.volume.proofs.Laws.Starts.{start-next}
+use Rattle.plan.specs.Limits.{most_vars}
+use Rattle.plan.specs.declared.outline.Outline.{Outline}
 use Rattle.plan.specs.Check.{Accepted, sizes}
+use Rattle.plan.specs.Inner.Outline.{vars_before, outline_at, Tabled}
+use Rattle.plan.proofs.Laws.Outline.{vars-within, Outlined, outlined}
+use Rattle.matcher.proofs.Laws.Placed.{Voiced, voiced, var-is, var-few}
 use Rattle.matcher.specs.declared.cursor.Cursor.{Cursor}
 use Rattle.matcher.specs.Inner.Cursors.{list_cursor}
 use Rattle.matcher.specs.Inner.Tables.{var_at}
@@ -40,3 +46,26 @@ pub started-cursor :
     (v : List ℕ) (list at end : ℕ)
     → at ≡ start v list → end ≡ start v (list + 1) → record { at = at; end = end } ≡ list_cursor v list
 started-cursor v list at end a e = ap₂ (λ (i j : ℕ). let c : Cursor = record { at = i; end = j } in c) a (e ∙ start-next v list)
+
+-- variable i of pattern k, as its row in the plan names it
+module _ (v p : List ℕ) (accepted : Accepted v p) (table : List Outline) (tabled : Tabled p table) (k i : ℕ)
+    (h : k < (sizes p).patterns) (l : i < (outline_at table k).vars) where
+  here : Outlined p k (outline_at table k)
+  here = outlined table tabled k h refl
+
+  pub voice-at : Voiced v p (((outline_at table k).condition - (outline_at table k).vars) + i) (var_at p (vars_before p k + i))
+  voice-at =
+      subst (Voiced v p (((outline_at table k).condition - (outline_at table k).vars) + i))
+      (var-is v p accepted (outline_at table k) here.there here.entry i l ∙ ap (λ (x : ℕ). var_at p (x + i)) here.first-is)
+      (voiced v p accepted (outline_at table k) here.there here.entry.outlines i l)
+
+  -- it has its place among those of the plan
+  pub voice-few : (outline_at table k).first + i < most_vars
+  voice-few = var-few v p accepted (outline_at table k) here.there here.entry i l
+
+  pub voice-place : ((outline_at table k).first + i ≡ vars_before p k + i) × (vars_before p k + i < (sizes p).vars)
+  voice-place =
+      let f = here.first-is in
+      let n = here.vars_are in
+      let w = vars-within p k h in
+      (omega arith, omega arith)

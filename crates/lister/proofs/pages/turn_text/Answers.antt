@@ -10,8 +10,8 @@ use Rattle.lister.proofs.pages.turn_text.Goals as goal
 pub returns-then-volume-gt-VOLUME : goal.returns-then-volume-gt-VOLUME
 returns-then-volume-gt-VOLUME c =
     let a = c.args in
-    let w = told-only a.tally c.put_bytes-end.ensures in
-    rw (turn-long a.volume.now a.file.now a.from a.tally (omega arith)) (record { told = w.0; ahead = w.1 })
+    let w = told-only a.start.tally c.put_bytes.ensures in
+    rw (turn-long a.volume.now a.file.now a.start.doc a.start.tally (omega arith), c.last.ensures) (record { told = w.0; ahead = w.1 })
 
 pub slice_bounds-words-end : goal.slice_bounds-words-end
 slice_bounds-words-end c = let p = c.plan_words-n.ensures in omega (arith, (stored-front p).0, words-most c.args.file.now)
@@ -26,5 +26,5 @@ pub returns : goal.returns
 returns c =
     let a = c.args in
     let words = (stored-front c.plan_words-n.ensures).1 in
-    rw (turn-short a.volume.now a.file.now a.from a.tally (omega arith))
+    rw (turn-short a.volume.now a.file.now a.start.doc a.start.tally (omega arith))
     (record { told = rw words at c.list_text.ensures.told; ahead = c.list_text.ensures.ahead })

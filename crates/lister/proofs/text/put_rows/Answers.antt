@@ -1,8 +1,7 @@
 use native.Mathlib.Omega.{arith}
-use native.Mathlib.Nat.{zero-mul, suc-mul, mul-le-mul_right}
-use native.Mathlib.Numerals.{add-one}
+use native.Mathlib.Nat.{suc-mul, mul-le-mul_right}
 use Prim.Native.Nat.{ℕ, ◌+◌, ◌-◌, ◌*◌, ◌<◌, ◌≤◌}
-use mathlib.Core.Path.{◌≡◌, refl, sym}
+use mathlib.Core.Path.{◌≡◌, refl}
 use mathlib.Core.List.{List}
 use lib.ListN.{length, take, drop}
 use Rattle.seq.specs.Lists.{joined}
@@ -17,8 +16,8 @@ use Rattle.lister.proofs.text.put_rows.Goals as goal
 use Rattle.lister.proofs.text.put_rows.Goals.{Start, In-loop-i}
 
 -- row i is the part of the page that starts where i rows end
-row-part : (width : ℕ) (page : List ℕ) (first i : ℕ) → first ≡ i * width → line scene_word (take (first + width - first) (drop first page)) ≡ piece width page i
-row-part width page first i e = let l : first + width - first ≡ width = omega arith in rw (l, e)
+row-part : (width : ℕ) (page : List ℕ) (i : ℕ) → line scene_word (take (i * width + width - i * width) (drop (i * width) page)) ≡ piece width page i
+row-part width page i = let l : i * width + width - i * width ≡ width = omega arith in rw l refl
 
 -- and ends inside those that n rows take
 row_within : (width i n : ℕ) → i < n → i * width + width ≤ n * width
@@ -30,15 +29,18 @@ unfolding row_lines
 room c words = omega (arith, rows_short c.args.width c.args.page.now c.args.n words, c.requires.width_in_bounds_2)
 
 -- the row that is next lies in the page
-within : (c : In-loop-i) → c.loop-i.first + c.args.width ≤ length c.args.page.now
+within : (c : In-loop-i) → c.loop-i.i * c.args.width + c.args.width ≤ length c.args.page.now
 within c = omega (arith, row_within c.args.width c.loop-i.i c.args.n c.loop-i-test.true, c.requires.width_in_bounds)
 
 pub loop-i-init : goal.loop-i-init
 unfolding joined run
-loop-i-init c = (omega arith, sym (zero-mul c.args.width), refl, stored-none c.args.out.now c.args.at (omega arith))
+loop-i-init c = stored-none c.args.out.now c.args.at (omega arith)
 
-pub overflow_add-next : goal.overflow_add-next
-overflow_add-next c = omega (arith, within (goal.at.overflow_add-next c).In-loop-i)
+pub overflow_mul-first : goal.overflow_mul-first
+overflow_mul-first c = omega (arith, within (goal.at.overflow_mul-first c).In-loop-i)
+
+pub overflow_add-first : goal.overflow_add-first
+overflow_add-first c = omega (arith, within (goal.at.overflow_add-first c).In-loop-i)
 
 pub offset_bounds-page-first : goal.offset_bounds-page-first
 offset_bounds-page-first c = omega (arith, within (goal.at.offset_bounds-page-first c).In-loop-i)
@@ -56,25 +58,20 @@ pub put_row-end-requires : goal.put_row-end-requires
 put_row-end-requires c =
     let l = c.loop-i in
     let w = c.args.width in
-    rw (row-part w c.args.page.now l.first l.i l.invariant.1) (pieces_room (piece w c.args.page.now) {n = c.args.n} (room (goal.at.put_row-end-requires c).Start (λ i. omega (arith, c.type_inv.page i))) (omega arith) l.invariant.3)
+    rw (row-part w c.args.page.now l.i) (pieces_room (piece w c.args.page.now) {n = c.args.n} (room (goal.at.put_row-end-requires c).Start (λ i. omega (arith, c.type_inv.page i))) (omega arith) l.invariant)
 
 pub loop-i-preserved : goal.loop-i-preserved
 loop-i-preserved c =
     let l = c.loop-i in
-    let w = c.args.width in (
-      omega arith,
-      (let e = l.invariant.1 in rw (add-one l.i, suc-mul l.i w) (omega arith)),
-      omega arith,
-      pieces_more (piece w c.args.page.now) l.invariant.3
-          (rw (row-part w c.args.page.now l.first l.i l.invariant.1) at c.put_row-end.ensures),
-    )
+    let w = c.args.width in
+    pieces_more (piece w c.args.page.now) l.invariant (rw (row-part w c.args.page.now l.i) at c.put_row-end.ensures)
 
 pub returns : goal.returns
 unfolding row_lines
 returns c =
     let l = c.loop-i in
     let e : l.i ≡ c.args.n = omega arith in
-    let all = rw e at l.invariant.3 in
+    let all = rw e at l.invariant in
     record {
       stored = all;
       upper_bound = omega (arith, all.behind, rows_short c.args.width c.args.page.now c.args.n (λ i. omega (arith, c.type_inv.page i)));

