@@ -28,11 +28,10 @@ use Rattle.grammar.proofs.Laws.Written.{plan-tree}
 use Rattle.grammar.proofs.Laws.Bounds.{accepted-line}
 use Rattle.printer.specs.declared.answers.WriteError.{WriteError}
 use Rattle.printer.specs.declared.answers.WriteError.TheVariants as writeError
-use Rattle.printer.specs.declared.patterns.Back.{Back}
 use Rattle.printer.specs.declared.trees.Level.TheVariants as level
 use Rattle.printer.specs.Answers.{said_written}
 use Rattle.printer.specs.Write.{write_answer, write_out}
-use Rattle.printer.specs.Inner.Writing.{PutBack, stored_bytes}
+use Rattle.printer.specs.Inner.Writing.{PutBack, Back, stored_bytes}
 use Rattle.printer.specs.Inner.Trees.{Voiced, AllVoiced, TreeEnd, TreeRoom, TreePut, LineWritten}
 use Rattle.printer.proofs.Laws.Bytes.{stored-front}
 use Rattle.printer.proofs.Laws.Patterns.{rows_back}

@@ -9,6 +9,7 @@ use Rattle.plan.specs.Inner.Outline.{outline_at}
 use Rattle.matcher.specs.declared.cursor.Cursor.{Cursor}
 use Rattle.plan.proofs.Laws.Accepted.{given}
 use Rattle.plan.proofs.Laws.Outline.{Outlined, outlined}
+use Rattle.matcher.proofs.Laws.Cursors.{length-ats, length-ends, ats-at, ends-at}
 use Rattle.matcher.proofs.Laws.Range.{range-number, range_doc, range_small}
 use Rattle.matcher.proofs.Laws.Testing.{small_decides}
 use Rattle.volume.proofs.Laws.Check.{good}
@@ -76,7 +77,6 @@ set_cursors-requires c =
       pattern_bound = o.there;
       outlines = o.entry.outlines;
       vars_in_bounds = omega arith;
-      vars_in_bounds_2 = omega arith;
     }
 
 pub starts_of-list-requires : goal.starts_of-list-requires
@@ -104,9 +104,11 @@ write_matches-requires c =
     let m = few (goal.at.write_matches-requires c).After-lay_out in
     let v = o.entry.outlines.vars_are in
     let k = o.pattern-is in
-    let e = c.set_cursors.ensures in
-    let x = e.firsts_len_unchanged in
-    let y = e.ends_len_unchanged in
+    let firsts = c.set_cursors.new.cursors in
+    let long = c.set_cursors.auto.cursors in
+    let x = length-ats firsts in
+    let y = length-ends firsts in
+    let placed = c.set_cursors.ensures in
     let ok = (given _ _ c.requires.accepted).volume-accepted in record {
       sought = record {
         posed = record {
@@ -116,11 +118,11 @@ write_matches-requires c =
           document = document-at _ ok c.args.doc (omega arith) c.starts_of-list.result c.seek-starts.result
               c.starts_of-list.ensures c.seek-starts.ensures.value;
           room = omega arith;
-          ends_are = λ x h. ap (λ (k : Cursor). k.end) (e.by_index x h);
+          ends_are = λ x h. ends-at firsts x ∙ ap (λ (k : Cursor). k.end) (placed x h);
         };
         order_is = rw v c.rarest_first.ensures.rarest_first.each;
         firsts-room = omega arith;
-        firsts_are = λ x h. cursor-mark _ ok _ (((given _ _ c.requires.accepted).well-made _ o.there).lists x (omega arith)).1 _ _ (e.by_index x h);
+        firsts_are = λ x h. rw (ats-at firsts x) (cursor-mark _ ok _ (((given _ _ c.requires.accepted).well-made _ o.there).lists x (omega arith)).1 _ _ (placed x h));
       };
       from_len = omega arith;
       in_document = (small_decides c.args.from.now).yes (sym c.in_document.ensures ∙ c.if-not-in_document.false);

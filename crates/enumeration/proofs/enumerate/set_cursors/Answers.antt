@@ -72,11 +72,11 @@ on_list c =
     let e = c.word_at-lists.ensures in
     starts_cursor _ c.list_starts.new.starts _ c.list_starts.ensures.by_index c.list_at-list.result (omega arith)
 
-pub seek-cursor-requires : goal.seek-cursor-requires
-seek-cursor-requires c = cursor-stretch _ (accepted (goal.at.seek-cursor-requires c).Start) _ (the-list c).1 _ (on_list c)
+pub seek-requires : goal.seek-requires
+seek-requires c = cursor-stretch _ (accepted (goal.at.seek-requires c).Start) _ (the-list c).1 _ (on_list c)
 
 pub loop-x-preserved : goal.loop-x-preserved
 loop-x-preserved c =
-    let p = cursor-placed _ (accepted (goal.at.loop-x-preserved c).Start) _ (the-list (goal.at.loop-x-preserved c).After-list_at-list).1 _ (on_list (goal.at.loop-x-preserved c).After-list_at-list) _ c.seek-cursor.result c.seek-cursor.ensures.value in
-    placing-next _ _ _ _ _ c.loop-x.firsts c.loop-x.ends c.loop-x.x _ _ c.loop-x.invariant (omega arith) (omega arith)
-    (rw (← (the-list (goal.at.loop-x-preserved c).After-list_at-list).0) p)
+    let l = (goal.at.loop-x-preserved c).After-list_at-list in
+    let p = cursor-placed _ (accepted (goal.at.loop-x-preserved c).Start) _ (the-list l).1 _ (on_list l) _ c.seek.result c.seek.ensures.value in
+    placing-next _ _ _ _ c.loop-x.cursors c.loop-x.x _ c.loop-x.invariant (omega arith) (rw (← (the-list l).0) p)
