@@ -1,13 +1,13 @@
--- `join::reading::enter` meets its contract. Assumes nothing.
+-- `Sources::enter` meets its contract. Assumes nothing.
 use native.Mathlib.Omega.{arith}
 use mathlib.Core.Path.{refl}
 use Rattle.join.proofs.Laws.Reading.{Bounds, bounds, entered}
-use Rattle.join.proofs.reading.enter.Goals as goal
-use Rattle.join.proofs.reading.enter.Goals.{Start}
+use Rattle.join.proofs.sources.Sources.enter.Goals as goal
+use Rattle.join.proofs.sources.Sources.enter.Goals.{Start}
 
 -- where the merge stands
-standing : (s : Start) → Bounds s.args.first.now s.args.second.now s.args.merge
-standing s = bounds s.args.first.now s.args.second.now s.requires.joinable s.args.merge s.requires.stands_at
+standing : (s : Start) → Bounds s.args.self.now.first.now s.args.self.now.second.now s.args.merge
+standing s = bounds s.args.self.now.first.now s.args.self.now.second.now s.args.self.now.joinable s.args.merge s.requires.stands_at
 
 pub count_at-requires : goal.count_at-requires
 count_at-requires c =
@@ -35,7 +35,7 @@ pub returns : goal.returns
 returns c =
     let a = c.args in
     let r = c.requires in record {
-      stands_at_2 = entered a.first.now a.second.now r.joinable a.merge _ _ r.stands_at r.first_value r.second_value r.lists_bound
+      stands_at_2 = entered a.self.now.first.now a.self.now.second.now c.args.self.now.joinable a.merge _ _ r.stands_at r.first_value r.second_value r.lists_bound
           c.count_at.ensures c.count_at-2.ensures;
       result_value = refl;
       lists_value = refl;

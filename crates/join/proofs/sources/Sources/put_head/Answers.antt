@@ -6,22 +6,20 @@ use lib.ListN.{set, length-set}
 use Rattle.volume.proofs.Laws.Check.{good}
 use Rattle.join.specs.Inner.Reading.{head_word}
 use Rattle.join.proofs.Laws.Made.{made_none, made_more}
-use Rattle.join.proofs.reading.put_head.Goals as goal
+use Rattle.join.proofs.sources.Sources.put_head.Goals as goal
 
 pub lead-requires : goal.lead-requires
 lead-requires c =
-    let g = good c.args.first.now c.requires.joinable.first in
+    let g = good c.args.self.now.first.now c.args.self.now.joinable.first in
     omega arith
 
 pub loop-j-init : goal.loop-j-init
 loop-j-init c =
     let a = c.args in
-    (refl, sym (made_none (head_word a.first.now a.second.now) a.from 0 a.words.now))
+    (refl, sym (made_none (head_word a.self.now.first.now a.self.now.second.now) a.from 0 a.words.now))
 
 pub head_word-requires : goal.head_word-requires
 head_word-requires c = record {
-  joinable = c.requires.joinable;
-  lists_value = c.requires.lists_value;
   i_bound = omega arith;
 }
 
@@ -29,7 +27,7 @@ pub loop-j-preserved : goal.loop-j-preserved
 loop-j-preserved c =
     let l = c.loop-j in
     let a = c.args in
-    let f = head_word a.first.now a.second.now in
+    let f = head_word a.self.now.first.now a.self.now.second.now in
     let x = c.head_word.result in (
       length-set l.words l.j x ∙ l.invariant.0,
       ap (λ (xs : List ℕ). set xs l.j x) l.invariant.1

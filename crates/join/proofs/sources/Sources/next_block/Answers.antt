@@ -1,4 +1,4 @@
--- `join::reading::next_block` meets its contract: its counts, its postings and its zeros, one behind the other. Assumes nothing.
+-- `Sources::next_block` meets its contract: its counts, its postings and its zeros, one behind the other. Assumes nothing.
 use Prim.Native.Nat.{ℕ, ◌+◌, ◌*◌, ◌-◌, min}
 use native.Mathlib.Omega.{arith}
 use mathlib.Core.Path.{◌≡◌, refl, ap, ◌∙◌}
@@ -7,37 +7,35 @@ use Rattle.join.specs.Inner.Reading.{read_of}
 use Rattle.join.proofs.Laws.Reading.{Bounds, bounds}
 use Rattle.join.proofs.Laws.Made.{made_zeros}
 use Rattle.join.proofs.Laws.Blocks.{block-next, block_made}
-use Rattle.join.proofs.reading.next_block.Goals as goal
-use Rattle.join.proofs.reading.next_block.Goals.{After-fill-here}
+use Rattle.join.proofs.sources.Sources.next_block.Goals as goal
+use Rattle.join.proofs.sources.Sources.next_block.Goals.{After-fill-here}
 
 -- where the merge stands behind the postings
-behind : (c : After-fill-here) → let a = c.args in Bounds a.first.now a.second.now c.fill-here.result
+behind : (c : After-fill-here) → let a = c.args in Bounds a.self.now.first.now a.self.now.second.now c.fill-here.result
 behind c =
     let a = c.args in
-    bounds a.first.now a.second.now c.requires.joinable c.fill-here.result c.fill-here.ensures.turned.stands
+    bounds a.self.now.first.now a.self.now.second.now c.args.self.now.joinable c.fill-here.result c.fill-here.ensures.turned.stands
 
 -- the number of its counts
 counts-are : (c : After-fill-here) → let a = c.args in
-    c.put_head-head.result ≡ min 126 (lead (list_count a.first.now) - 126 * a.k)
+    c.put_head-head.result ≡ min 126 (lead (list_count a.self.now.first.now) - 126 * a.k)
 counts-are c =
     let a = c.args in
-    let e : lead a.lists ≡ lead (list_count a.first.now) = ap lead c.requires.lists_value in
+    let e : lead a.self.now.lists ≡ lead (list_count a.self.now.first.now) = ap lead c.args.self.now.lists_are in
     c.put_head-head.ensures.value ∙ ap (λ (n : ℕ). min 126 (n - 126 * a.k)) e
 
 -- how far both volumes are read
 read_is : (c : After-fill-here) → let a = c.args in let head = c.put_head-head in
-    read_of c.fill-here.result ≡ min (read_of a.merge + (126 - head.result)) (extent a.first.now + extent a.second.now)
+    read_of c.fill-here.result ≡ min (read_of a.merge + (126 - head.result)) (extent a.self.now.first.now + extent a.self.now.second.now)
 read_is c = let head = c.put_head-head in
-    c.fill-here.ensures.result_value ∙ ap (λ (n : ℕ). min (read_of c.args.merge + (126 - head.result)) n) c.requires.all_value
+    c.fill-here.ensures.result_value ∙ ap (λ (n : ℕ). min (read_of c.args.merge + (126 - head.result)) n) c.args.self.now.all_is
 
 pub put_head-head-requires : goal.put_head-head-requires
 put_head-head-requires c =
-    let f = c.requires.joinable.fits in
+    let f = c.args.self.now.joinable.fits in
     let h = c.requires.k_bound in
     let l = c.requires.words_len in
     record {
-      joinable = c.requires.joinable;
-      lists_value = c.requires.lists_value;
       from_bound = omega arith;
       words_len = omega arith;
     }
@@ -47,12 +45,9 @@ fill-here-requires c =
     let e = c.put_head-head.ensures.value in
     let l = c.requires.words_len in
     record {
-      joinable = c.requires.joinable;
-      all_value = c.requires.all_value;
       stands_at = c.requires.stands_before.stands;
       from_bound = omega arith;
       words_len = omega arith;
-      lifts = c.requires.lifts;
     }
 
 pub overflow_add-to : goal.overflow_add-to
@@ -67,9 +62,9 @@ returns c =
     let filled = (goal.at.returns c).After-fill-here in
     let head = c.put_head-head in
     let zeros = made_zeros c.fill-here.new.words c.fill.new.self _ _ refl (let l = r.words_len in omega arith) (c.fill.ensures.after (λ y e. e)) in record {
-      stands_before_2 = block-next a.lift a.first.now a.second.now r.joinable a.merge c.fill-here.result a.k head.result _ _
+      stands_before_2 = block-next a.self.now.lift a.self.now.first.now a.self.now.second.now c.args.self.now.joinable a.merge c.fill-here.result a.k head.result _ _
           r.stands_before r.k_bound (counts-are filled) c.fill-here.ensures.turned (read_is filled);
-      words_after = block_made a.lift a.first.now a.second.now r.joinable a.merge c.fill-here.result a.k head.result _
+      words_after = block_made a.self.now.lift a.self.now.first.now a.self.now.second.now c.args.self.now.joinable a.merge c.fill-here.result a.k head.result _
           a.words.now _ _ _ r.stands_before r.k_bound r.words_len (counts-are filled)
           head.ensures.words_after c.fill-here.ensures.turned (read_is filled) refl zeros;
     }
