@@ -2,9 +2,9 @@
 ghost use Rattle.std.specs.Prelude.{◌≡◌, ◌+◌, ◌*◌, ◌<◌, ◌≤◌};
 ghost use Rattle.volume.specs.Layout.{list_count};
 ghost use Rattle.volume.specs.Check as volumes;
-ghost use Rattle.matcher.specs.Inner.Cursors.{seek_from, list_cursor, Stretch, sought, Forward, Arrived};
+ghost use Rattle.matcher.specs.Inner.Cursors.{seek_from, list_cursor, Stretch, sought, Forward, Arrived, AtDocument};
 
-use volume::{BLOCK_WORDS, Posting};
+use volume::{BLOCK_WORDS, Posting, Volume};
 
 // A place in a posting list: a stream index, and the index behind the list.
 #[derive(Clone, Copy, Debug, PartialEq, Eq)]
@@ -26,6 +26,14 @@ pub struct Reached {
 pub struct Document {
     pub doc: u32,
     pub starts: Cursor,
+}
+
+// A document of an accepted volume, and a cursor on list 0 that has not passed it.
+#[derive(Clone, Copy)]
+pub struct OpenDocument<'a> {
+    pub volume: Volume<'a>,
+    pub document: Document,
+    ghost at_document: { AtDocument volume.bytes.now document },
 }
 
 // The bound that all postings in front of a position of a document are below, and no posting from

@@ -7,10 +7,10 @@ ghost use Rattle.matcher.specs.Inner.Cursors.{Stretch, ats_of, ends_of};
 ghost use Rattle.matcher.specs.Inner.Settling.{Jumped, Standing, Within, turned, Posed};
 ghost use Rattle.matcher.specs.Inner.Order.{Order};
 
-use super::cursor::{Cursor, Document, bound_of};
+use super::cursor::{Cursor, Document, OpenDocument, bound_of};
 use super::predicates::{falls_short, largest_of};
 use plan::{Outline, predicate_at};
-use volume::Posting;
+use volume::{Posting, Volume};
 
 // Moves variable x to its first position in a document that is not below `need`. Whether there is
 // one. It is a part of the settling loop, where a call would store the slices.
@@ -87,6 +87,10 @@ pub fn match_from(
     ensures ends_unchanged { ends_of cursors.new ≡ ends_of cursors.old }
     ensures paras_len_unchanged { length paras.new ≡ length paras.old }
 {
+    let opened = OpenDocument {
+        volume: Volume { bytes: volume },
+        document,
+    };
     let n = outline.vars;
     let count = outline.last - outline.condition;
     let mut largest = largest_of(&positions[..n]);
@@ -95,7 +99,7 @@ pub fn match_from(
     while 0 < left {
         let predicate = predicate_at(plan, outline.condition + turn);
         let tuple = &positions[..n];
-        match falls_short(volume, document, predicate, order, tuple, largest, paras) {
+        match falls_short(&opened, predicate, order, tuple, largest, paras) {
             None => {
                 left -= 1;
                 turn = next_turn(turn, count);

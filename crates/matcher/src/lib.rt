@@ -17,7 +17,7 @@ mod store;
 mod testing;
 
 pub use answers::TestError;
-pub use cursor::{Cursor, Document, Reached, list_cursor, starts_of};
+pub use cursor::{Cursor, Document, OpenDocument, Reached, list_cursor, starts_of};
 pub use least::{jump, match_from};
 pub use paragraphs::{Blocks, ParaInBlock, blocks_of, para_near};
 pub use rarest::rarest_first;

@@ -1,15 +1,14 @@
 // Paragraphs (01: titles) of a document, by a cursor on list 0, which has their starts.
 ghost use Rattle.std.specs.Prelude.{◌≡◌, ℕ, ◌+◌, ◌*◌, ◌/◌, ◌<◌, ◌≤◌};
-ghost use Rattle.volume.specs.Check.{Accepted};
-ghost use Rattle.volume.specs.Layout.{stream_length, lists_of};
+ghost use Rattle.volume.specs.Layout.{stream_length};
 ghost use Rattle.volume.specs.Inner.Below.{below_of};
-ghost use Rattle.fulltext.specs.Matches.{starts_in};
 ghost use Rattle.fulltext.specs.Paragraphs.{para_start};
 ghost use Rattle.fulltext.specs.Inner.Paragraphs.{needed_start};
-ghost use Rattle.matcher.specs.Inner.Cursors.{seek_from, Stretch, Galloped, AtDocument};
+ghost use Rattle.matcher.specs.Inner.Cursors.{seek_from, Stretch, Galloped};
+ghost use Rattle.matcher.specs.Inner.Opened.{starts, first_behind};
 ghost use Rattle.matcher.specs.Inner.Blocks.{RisingBlock, Across, Whole, blocks_of, start_in};
 
-use super::cursor::{Cursor, Document, bound_of};
+use super::cursor::{Cursor, OpenDocument, bound_of};
 use volume::{BLOCK_WORDS, LAST_WORD, Posting};
 
 // The paragraph of a position: its start, 65,536 where there is none, and the stream index of the
@@ -56,12 +55,12 @@ fn resume(volume: &[u8], cursor: Cursor, bound: u64, mark: usize) -> usize
 
 // The stream index of the first start behind a position of a document. The cursor on list 0 goes on
 // from the further one of two marks that has not passed it.
-fn past_start(volume: &[u8], document: Document, pos: u32, mark: usize, other: usize) -> usize
-    requires accepted { Accepted volume.now }
-    requires at_document { AtDocument volume.now document }
-    requires pos_bound { pos ≤ 65535 }
-    ensures { result ≡ seek_from volume.now (document.doc * 65536 + pos + 1) document.starts.at document.starts.end }
+fn past_start(opened: &OpenDocument<'_>, pos: u32, mark: usize, other: usize) -> usize
+    requires { pos ≤ 65535 }
+    ensures { result ≡ first_behind opened.now pos }
 {
+    let volume = opened.volume.bytes;
+    let document = opened.document;
     let starts = document.starts;
     let end = starts.end;
     let bound = bound_of(document.doc, pos) + 1;
@@ -86,48 +85,43 @@ fn start_in(doc: u32, last: Posting) -> u32
 
 // The start of the paragraph of a position, by the index of the first start behind it: the start in
 // front of that index, if it is in the document; 65,536 where there is none.
-fn para_start(volume: &[u8], document: Document, at: usize) -> u32
-    requires accepted { Accepted volume.now }
-    requires at_document { AtDocument volume.now document }
-    requires at_le_at { document.starts.at ≤ at }
-    requires at_le_end { at ≤ document.starts.end }
+fn para_start(opened: &OpenDocument<'_>, at: usize) -> u32
+    requires at_le_at { opened.now.document.starts.at ≤ at }
+    requires at_le_end { at ≤ opened.now.document.starts.end }
     ensures { (pos : ℕ) → pos ≤ 65535
-        → at ≡ seek_from volume.now (document.doc * 65536 + pos + 1) document.starts.at document.starts.end
-        → result ≡ para_start (starts_in (lists_of volume.now) document.doc) pos }
+        → at ≡ first_behind opened.now pos
+        → result ≡ para_start (starts opened.now) pos }
 {
+    let document = opened.document;
     let starts = document.starts;
     if at == starts.at {
         return Posting::POSITIONS;
     }
-    let last = volume::posting_at(volume, at - 1);
+    let last = volume::posting_at(opened.volume.bytes, at - 1);
     start_in(document.doc, last)
 }
 
 // The paragraph of a position of a document, by the cursor on list 0.
-fn find_para(volume: &[u8], document: Document, pos: u32, mark: usize, other: usize) -> Para
-    requires accepted { Accepted volume.now }
-    requires at_document { AtDocument volume.now document }
-    requires pos_bound { pos ≤ 65535 }
-    ensures start_value { result.start ≡ para_start (starts_in (lists_of volume.now) document.doc) pos }
-    ensures at_value { result.at
-        ≡ seek_from volume.now (document.doc * 65536 + pos + 1) document.starts.at document.starts.end }
+fn find_para(opened: &OpenDocument<'_>, pos: u32, mark: usize, other: usize) -> Para
+    requires { pos ≤ 65535 }
+    ensures start_value { result.start ≡ para_start (starts opened.now) pos }
+    ensures at_value { result.at ≡ first_behind opened.now pos }
 {
-    let at = past_start(volume, document, pos, mark, other);
-    let start = para_start(volume, document, at);
+    let at = past_start(opened, pos, mark, other);
+    let start = para_start(opened, at);
     Para { start, at }
 }
 
 // The paragraph of a position of a document. `mark` says where it was found last, and `other` where
 // that of another position was: whatever they are, the answer is the same. Most positions are in the
 // paragraph in which the last one was.
-pub fn para_of(volume: &[u8], document: Document, pos: u32, mark: usize, other: usize) -> Para
-    requires accepted { Accepted volume.now }
-    requires at_document { AtDocument volume.now document }
-    requires pos_bound { pos ≤ 65535 }
-    ensures start_value { result.start ≡ para_start (starts_in (lists_of volume.now) document.doc) pos }
-    ensures at_value { result.at
-        ≡ seek_from volume.now (document.doc * 65536 + pos + 1) document.starts.at document.starts.end }
+pub fn para_of(opened: &OpenDocument<'_>, pos: u32, mark: usize, other: usize) -> Para
+    requires { pos ≤ 65535 }
+    ensures start_value { result.start ≡ para_start (starts opened.now) pos }
+    ensures at_value { result.at ≡ first_behind opened.now pos }
 {
+    let volume = opened.volume.bytes;
+    let document = opened.document;
     let starts = document.starts;
     if starts.at < mark && mark < starts.end {
         let bound = bound_of(document.doc, pos) + 1;
@@ -137,7 +131,7 @@ pub fn para_of(volume: &[u8], document: Document, pos: u32, mark: usize, other: 
             return Para { start, at: mark };
         }
     }
-    find_para(volume, document, pos, mark, other)
+    find_para(opened, pos, mark, other)
 }
 
 // 1 where a word is below a bound.
@@ -193,22 +187,15 @@ pub fn blocks_of(starts: Cursor) -> Blocks
 
 // The start of a position's paragraph in a document. `block` is where it was found last: it is
 // sought there and in the block behind, by as many steps whatever the words are.
-pub fn para_near(
-    volume: &[u8],
-    document: Document,
-    blocks: Blocks,
-    pos: u32,
-    block: usize,
-) -> ParaInBlock
-    requires accepted { Accepted volume.now }
-    requires at_document { AtDocument volume.now document }
+pub fn para_near(opened: &OpenDocument<'_>, blocks: Blocks, pos: u32, block: usize) -> ParaInBlock
     requires pos_bound { pos ≤ 65535 }
-    requires whole { Whole document.starts blocks }
-    requires block_bound { 126 * block ≤ stream_length volume.now }
-    ensures start_value { result.start ≡ para_start (starts_in (lists_of volume.now) document.doc) pos }
-    ensures block_value { result.block
-        ≡ seek_from volume.now (document.doc * 65536 + pos + 1) document.starts.at document.starts.end / 126 }
+    requires whole { Whole opened.now.document.starts blocks }
+    requires block_bound { 126 * block ≤ stream_length opened.now.volume.bytes.now }
+    ensures start_value { result.start ≡ para_start (starts opened.now) pos }
+    ensures block_value { result.block ≡ first_behind opened.now pos / 126 }
 {
+    let volume = opened.volume.bytes;
+    let document = opened.document;
     if blocks.first <= block && block < blocks.last {
         let bound = bound_of(document.doc, pos) + 1;
         let near = block + below(volume::word_in_block(volume, block, LAST_WORD), bound);
@@ -223,7 +210,7 @@ pub fn para_near(
             return ParaInBlock { start, block: near };
         }
     }
-    let para = find_para(volume, document, pos, BLOCK_WORDS * block, 0);
+    let para = find_para(opened, pos, BLOCK_WORDS * block, 0);
     ParaInBlock {
         start: para.start,
         block: para.at / BLOCK_WORDS,
@@ -233,16 +220,15 @@ pub fn para_near(
 // The start that a position needs at least to stand in one paragraph with one that is not smaller,
 // by the paragraph of that one: its start; where it stands in none, the first start in the document,
 // which is then behind it; 65,536 where there is none.
-pub fn needed_start(volume: &[u8], document: Document, para: Para) -> u32
-    requires accepted { Accepted volume.now }
-    requires at_document { AtDocument volume.now document }
-    requires at_le_at { document.starts.at ≤ para.at }
-    requires at_le_end { para.at ≤ document.starts.end }
+pub fn needed_start(opened: &OpenDocument<'_>, para: Para) -> u32
+    requires at_le_at { opened.now.document.starts.at ≤ para.at }
+    requires at_le_end { para.at ≤ opened.now.document.starts.end }
     ensures { (pos : ℕ) → pos ≤ 65535
-        → para.at ≡ seek_from volume.now (document.doc * 65536 + pos + 1) document.starts.at document.starts.end
-        → para.start ≡ para_start (starts_in (lists_of volume.now) document.doc) pos
-        → result ≡ needed_start (starts_in (lists_of volume.now) document.doc) pos }
+        → para.at ≡ first_behind opened.now pos
+        → para.start ≡ para_start (starts opened.now) pos
+        → result ≡ needed_start (starts opened.now) pos }
 {
+    let document = opened.document;
     let starts = document.starts;
     if para.start != Posting::POSITIONS {
         return para.start;
@@ -250,7 +236,7 @@ pub fn needed_start(volume: &[u8], document: Document, para: Para) -> u32
     if para.at == starts.end {
         return Posting::POSITIONS;
     }
-    let first = volume::posting_at(volume, para.at);
+    let first = volume::posting_at(opened.volume.bytes, para.at);
     if first.doc() != document.doc {
         return Posting::POSITIONS;
     }

@@ -1,17 +1,14 @@
 // Position predicates on the positions of a pattern's variables in one document.
 ghost use Rattle.std.specs.Prelude.{◌≡◌, true, List, ℕ, ◌<◌, ◌≤◌, length, get_or, take};
-ghost use Rattle.volume.specs.Check.{Accepted};
-ghost use Rattle.volume.specs.Layout.{lists_of};
+ghost use Rattle.matcher.specs.Inner.Opened.{starts};
 ghost use Rattle.plan.specs.State.{names_below};
 ghost use Rattle.plan.specs.Rows.{InRange};
 ghost use Rattle.plan.specs.declared.row.Predicate.TheVariants.{Distance, Ordered, Samepara, Window, Proximity};
 ghost use Rattle.plan.specs.declared.row.Kind.TheVariants as kind;
-ghost use Rattle.fulltext.specs.Matches.{starts_in};
 ghost use Rattle.matcher.specs.Inner.Shortfall.{InDocument, Largest, Told};
 ghost use Rattle.matcher.specs.Inner.Order.{Order};
-ghost use Rattle.matcher.specs.Inner.Cursors.{AtDocument};
 
-use super::cursor::Document;
+use super::cursor::OpenDocument;
 use super::paragraphs::{needed_start, para_of};
 use plan::Predicate;
 use volume::Posting;
@@ -64,29 +61,26 @@ fn ordered(positions: &[u32], a: usize, b: usize) -> Option<Shortfall>
 // in a paragraph, so that it can fail also at one position, and where a is b. `paras` has for each
 // variable where its start was found last.
 fn samepara(
-    volume: &[u8],
-    document: Document,
+    opened: &OpenDocument<'_>,
     positions: &[u32],
     a: usize,
     b: usize,
     paras: &mut [usize],
 ) -> Option<Shortfall>
-    requires accepted { Accepted volume.now }
-    requires at_document { AtDocument volume.now document }
     requires in_document { InDocument positions.now }
     requires a_in_bounds { a < length positions.now }
     requires b_in_bounds { b < length positions.now }
     requires positions_in_bounds { length positions.now ≤ length paras.old }
-    ensures told { Told (starts_in (lists_of volume.now) document.doc) (Samepara a b) positions.now result }
+    ensures told { Told (starts opened.now) (Samepara a b) positions.now result }
     ensures paras_len_unchanged { length paras.new ≡ length paras.old }
 {
     let first = positions[a];
     let second = positions[b];
     let (last, other) = if first < second { (b, a) } else { (a, b) };
     let pos = first.max(second);
-    let para = para_of(volume, document, pos, paras[last], paras[other]);
+    let para = para_of(opened, pos, paras[last], paras[other]);
     paras[last] = para.at;
-    let need = needed_start(volume, document, para);
+    let need = needed_start(opened, para);
     if need <= first.min(second) {
         return None;
     }
@@ -165,30 +159,27 @@ pub fn largest_of(positions: &[u32]) -> u32
 // largest; none where it holds. Where it looks at each variable, it does so in the order. `paras`
 // has for each variable where the start of its paragraph was found last.
 pub fn falls_short(
-    volume: &[u8],
-    document: Document,
+    opened: &OpenDocument<'_>,
     predicate: Predicate,
     order: &[usize],
     positions: &[u32],
     largest: u32,
     paras: &mut [usize],
 ) -> Option<Shortfall>
-    requires accepted { Accepted volume.now }
-    requires at_document { AtDocument volume.now document }
     requires in_document { InDocument positions.now }
     requires predicate_value { names_below (length positions.now) predicate ≡ true }
     requires in_range { InRange (kind.Condition predicate) }
     requires order { Order (length positions.now) order.now }
     requires largest { Largest positions.now (length positions.now) largest }
     requires paras_in_bounds { length positions.now ≤ length paras.old }
-    ensures told { Told (starts_in (lists_of volume.now) document.doc) predicate positions.now result }
+    ensures told { Told (starts opened.now) predicate positions.now result }
     ensures paras_len_unchanged { length paras.new ≡ length paras.old }
 {
     match predicate {
         Predicate::Distance { a, b, limit } => distance(positions, a as usize, b as usize, limit),
         Predicate::Ordered { a, b } => ordered(positions, a as usize, b as usize),
         Predicate::Samepara { a, b } => {
-            samepara(volume, document, positions, a as usize, b as usize, paras)
+            samepara(opened, positions, a as usize, b as usize, paras)
         }
         Predicate::Window { limit } => window(positions, order, largest, limit),
         Predicate::Proximity { a, b, least, most } => {

@@ -6,6 +6,7 @@ use lib.ListN.{length, get_or, take}
 use lib.Seq.{length-take-le}
 use Rattle.volume.specs.Layout.{lists_of}
 use Rattle.fulltext.specs.Matches.{starts_in}
+use Rattle.plan.proofs.Laws.Accepted.{given}
 use Rattle.matcher.specs.Inner.Cursors.{ats_of, ends_of}
 use Rattle.matcher.specs.Inner.Settling.{Jumped}
 use Rattle.matcher.specs.Inner.Shortfall.{LeftShort, Told}
@@ -24,6 +25,9 @@ short : (c : In-Some)
     → let l = c.loop-left in let a = c.args in
     LeftShort (starts_in (lists_of a.volume.now) a.document.doc) c.predicate_at-predicate.result (take a.outline.vars l.positions) c.in-Some.short.var c.in-Some.short.need
 short c = subst (Told _ _ _) c.in-Some.is c.falls_short.ensures.told
+
+pub invariant_of-opened : goal.invariant_of-opened
+invariant_of-opened c = record { accepted = (given _ _ c.requires.posed.accepted).volume-accepted }
 
 pub overflow_sub-count : goal.overflow_sub-count
 overflow_sub-count c = let e = c.requires.posed.outlines.last-is in omega arith
@@ -66,8 +70,6 @@ falls_short-requires c =
     let t = length-take-le c.args.outline.vars l.positions (omega arith) in
     let a = predicate_asks _ _ _ _ _ s.posed l.turn (tried-turn l.invariant.tried c.loop-left-test.true) _ c.predicate_at-predicate.ensures _ _ _ _ _ _ _ l.invariant.tried s.positions_in_bounds _ s.order in
     record {
-      accepted = a.accepted;
-      at_document = a.at_document;
       in_document = a.in_document;
       predicate_value = a.names;
       in_range = a.range;

@@ -5,12 +5,11 @@ use Rattle.matcher.proofs.paragraphs.find_para.Goals as goal
 pub para_start-start-requires : goal.para_start-start-requires
 para_start-start-requires c =
     let p = c.requires in
+    let o = c.args.opened.now in
     let e = c.past_start-at.ensures in
     record {
-      accepted = p.accepted;
-      at_document = p.at_document;
-      at_le_at = past-from p.accepted p.at_document p.pos_bound e;
-      at_le_end = past_to p.accepted p.at_document p.pos_bound e;
+      at_le_at = past-from o.volume.accepted o.at_document c.requires e;
+      at_le_end = past_to o.volume.accepted o.at_document c.requires e;
     }
 
 pub returns : goal.returns
@@ -18,6 +17,6 @@ returns c =
     let p = c.requires in
     let e = c.past_start-at.ensures in
     record {
-      start_value = c.para_start-start.ensures _ p.pos_bound e;
+      start_value = c.para_start-start.ensures _ c.requires e;
       at_value = e;
     }

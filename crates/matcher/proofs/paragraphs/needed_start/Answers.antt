@@ -12,35 +12,36 @@ returns-then-para-ne-POSITIONS c = λ pos small found same. same ∙ needed_para
 
 pub returns-then-para-starts : goal.returns-then-para-starts
 returns-then-para-starts c =
-    let p = c.requires in
+    let o = c.args.opened.now in
     λ pos small found same.
     let bare = sym same ∙ c.if-para-ne-POSITIONS.false in
-    first-none p.accepted p.at_document small found bare c.if-para-starts.true ∙ needed-bare _ _ bare
+    first-none o.volume.accepted o.at_document small found bare c.if-para-starts.true ∙ needed-bare _ _ bare
 
 pub posting_at-first-requires : goal.posting_at-first-requires
 posting_at-first-requires c =
     let p = c.requires in
-    let w = (stands-stretch p.accepted p.at_document).within in
+    let o = c.args.opened.now in
+    let w = (stands-stretch o.volume.accepted o.at_document).within in
     let t = p.at_le_end in
     omega (arith, c.if-para-starts.false)
 
 pub returns-then-doc-document : goal.returns-then-doc-document
 returns-then-doc-document c =
-    let p = c.requires in
+    let o = c.args.opened.now in
     λ pos small found same.
     let bare = sym same ∙ c.if-para-ne-POSITIONS.false in
-    first-other p.accepted p.at_document small found bare c.if-para-starts.false
+    first-other o.volume.accepted o.at_document small found bare c.if-para-starts.false
     (ap (λ (r : Posting). r.bits) c.posting_at-first.ensures)
     (λ e. c.if-doc-document.true (c.doc.ensures ∙ e))
     ∙ needed-bare _ _ bare
 
 pub returns : goal.returns
 returns c =
-    let p = c.requires in
+    let o = c.args.opened.now in
     λ pos small found same.
     let bare = sym same ∙ c.if-para-ne-POSITIONS.false in
     c.pos.ensures
-    ∙ first-here p.accepted p.at_document small found bare c.if-para-starts.false
+    ∙ first-here o.volume.accepted o.at_document small found bare c.if-para-starts.false
     (ap (λ (r : Posting). r.bits) c.posting_at-first.ensures)
     (sym c.doc.ensures ∙ c.if-doc-document.false)
     ∙ needed-bare _ _ bare

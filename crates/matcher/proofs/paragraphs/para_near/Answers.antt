@@ -18,7 +18,7 @@ record Inside (i e block near : ℕ) : Type 0 where
   to : 126 * near + 126 ≤ e
 
 inside : (c : After-below) → let a = c.args in
-    Inside a.document.starts.at a.document.starts.end a.block (a.block + c.below.result)
+    Inside a.opened.now.document.starts.at a.opened.now.document.starts.end a.block (a.block + c.below.result)
 inside c =
     let a = c.args in
     let w = c.requires.whole in
@@ -28,17 +28,18 @@ inside c =
     record { this = omega arith; from = omega arith; to = omega arith }
 
 -- its words rise
-rises : (c : After-below) → let a = c.args in RisingBlock a.volume.now (a.block + c.below.result)
+rises : (c : After-below) → let a = c.args in RisingBlock a.opened.now.volume.bytes.now (a.block + c.below.result)
 rises c =
-    let p = c.requires in
+    let o = c.args.opened.now in
     let i = inside c in
-    block-rises (stands-stretch p.accepted p.at_document) _ i.from i.to
+    block-rises (stands-stretch o.volume.accepted o.at_document) _ i.from i.to
 
 pub word_in_block-requires : goal.word_in_block-requires
 word_in_block-requires c =
     let p = c.requires in
+    let o = c.args.opened.now in
     let t = p.whole.to c.args.block c.if-block-blocks.true in
-    let w = (stands-stretch p.accepted p.at_document).within in
+    let w = (stands-stretch o.volume.accepted o.at_document).within in
     record {
       k_bound = omega arith;
       k_bound_2 = omega arith;
@@ -78,18 +79,19 @@ pub returns-then-bound-from : goal.returns-then-bound-from
 returns-then-bound-from c =
     let a = c.args in
     let p = c.requires in
+    let o = c.args.opened.now in
     let i = inside (goal.at.returns-then-bound-from c).After-below in
-    let starts = a.document.starts in
+    let starts = a.opened.now.document.starts in
     let k = c.last_below-k.ensures.upper_bound in
     let e = c.word_in_block-then-bound-from.ensures in
-    let bound : c.bound_of-bound.result + 1 ≡ a.document.doc * 65536 + a.pos + 1 = omega arith in
-    let s : seek_from a.volume.now (a.document.doc * 65536 + a.pos + 1) starts.at starts.end
+    let bound : c.bound_of-bound.result + 1 ≡ a.opened.now.document.doc * 65536 + a.pos + 1 = omega arith in
+    let s : seek_from a.opened.now.volume.bytes.now (a.opened.now.document.doc * 65536 + a.pos + 1) starts.at starts.end
     ≡ 126 * (a.block + c.below.result) + c.last_below-k.result + 1 =
-    rw bound at (across_seek (stands-stretch p.accepted p.at_document) _ i.from i.to k c.last_below-k.ensures.across_2) in
+    rw bound at (across_seek (stands-stretch o.volume.accepted o.at_document) _ i.from i.to k c.last_below-k.ensures.across_2) in
     let n = a.block + c.below.result in
     let back : 126 * n + c.last_below-k.result ≡ 126 * n + c.last_below-k.result + 1 - 1 = omega arith in
     let h = i.from in
     let z : (126 * n + c.last_below-k.result + 1) / 126 ≡ n = omega arith in record {
-      start_value = c.start_in-start.ensures ∙ para_in p.accepted p.at_document p.pos_bound (sym s) (omega arith) (e ∙ ap (word a.volume.now) back);
+      start_value = c.start_in-start.ensures ∙ para_in o.volume.accepted o.at_document p.pos_bound (sym s) (omega arith) (e ∙ ap (word a.opened.now.volume.bytes.now) back);
       block_value = sym (ap (λ (x : ℕ). x / 126) s ∙ z);
     }

@@ -19,8 +19,6 @@ samepara-requires c =
     let p = c.requires in
     let w = named _ c.in-Samepara.a c.in-Samepara.b (rw c.in-Samepara.is at p.predicate_value) in
     record {
-      accepted = p.accepted;
-      at_document = p.at_document;
       in_document = p.in_document;
       a_in_bounds = w.0;
       b_in_bounds = w.1;
