@@ -25,7 +25,7 @@ use Rattle.enumeration.specs.Demands.{EveryEnumeration}
 use Rattle.enumeration.proofs.Laws.Stages.{matches-number}
 use Rattle.enumeration.proofs.Laws.MatchesFirst.{matches-sound}
 use Rattle.enumeration.proofs.Laws.Enumeration as whole
-use Rattle.lihambozy.specs.declared.ListMatchesAnswer.{ListMatchesAnswer}
+use Rattle.lihambozy.specs.declared.answers.ListMatchesAnswer.{ListMatchesAnswer}
 use Rattle.lihambozy.specs.Flat.{flat_plan, flat_matches}
 use Rattle.lihambozy.specs.Enumeration.{heard, structs}
 use Rattle.lihambozy.proofs.Laws.Search.{accepted}

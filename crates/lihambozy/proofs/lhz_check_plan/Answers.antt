@@ -3,7 +3,7 @@ use Prim.Native.Nat.{ℕ}
 use mathlib.Core.Path.{sym, ap, ap₂, ◌∙◌}
 use Rattle.plan.specs.Answers.{said_checked}
 use Rattle.lihambozy.specs.Flat.{flat_plan}
-use Rattle.lihambozy.specs.declared.CheckPlanAnswer.{CheckPlanAnswer}
+use Rattle.lihambozy.specs.declared.answers.CheckPlanAnswer.{CheckPlanAnswer}
 use Rattle.lihambozy.proofs.lhz_check_plan.Goals as goal
 
 pub returns-in-Accepted : goal.returns-in-Accepted

@@ -3,7 +3,7 @@ use Prim.Native.Nat.{ℕ}
 use mathlib.Core.Path.{sym, ap, ap₂, ◌∙◌}
 use Rattle.volume.specs.Answers.{said_checked}
 use Rattle.lihambozy.specs.Flat.{flat_sizes}
-use Rattle.lihambozy.specs.declared.CheckVolumeAnswer.{CheckVolumeAnswer}
+use Rattle.lihambozy.specs.declared.answers.CheckVolumeAnswer.{CheckVolumeAnswer}
 use Rattle.lihambozy.proofs.lhz_check_volume.Goals as goal
 
 pub returns-in-Accepted : goal.returns-in-Accepted

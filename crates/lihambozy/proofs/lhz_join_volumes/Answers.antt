@@ -3,7 +3,7 @@ use Prim.Native.Nat.{ℕ}
 use mathlib.Core.Path.{sym, ap, ap₂, ◌∙◌}
 use Rattle.join.specs.Answers.{said_joined}
 use Rattle.lihambozy.specs.Flat.{flat_join}
-use Rattle.lihambozy.specs.declared.JoinVolumesAnswer.{JoinVolumesAnswer}
+use Rattle.lihambozy.specs.declared.answers.JoinVolumesAnswer.{JoinVolumesAnswer}
 use Rattle.lihambozy.proofs.lhz_join_volumes.Goals as goal
 
 -- the struct of a refusal of one volume

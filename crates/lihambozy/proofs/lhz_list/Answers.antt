@@ -3,7 +3,7 @@ use Prim.Native.Nat.{ℕ}
 use mathlib.Core.Path.{sym, ap, ap₂, ◌∙◌}
 use Rattle.search.specs.Answers.{said_listed}
 use Rattle.lihambozy.specs.Flat.{flat_listing}
-use Rattle.lihambozy.specs.declared.ListAnswer.{ListAnswer}
+use Rattle.lihambozy.specs.declared.answers.ListAnswer.{ListAnswer}
 use Rattle.lihambozy.proofs.lhz_list.Goals as goal
 
 pub returns-in-Done : goal.returns-in-Done

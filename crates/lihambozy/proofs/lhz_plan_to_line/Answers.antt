@@ -3,7 +3,7 @@ use Prim.Native.Nat.{ℕ}
 use mathlib.Core.Path.{sym, ap, ap₂, ◌∙◌}
 use Rattle.printer.specs.Answers.{said_written}
 use Rattle.lihambozy.specs.Flat.{flat_bytes}
-use Rattle.lihambozy.specs.declared.PlanToLineAnswer.{PlanToLineAnswer}
+use Rattle.lihambozy.specs.declared.answers.PlanToLineAnswer.{PlanToLineAnswer}
 use Rattle.lihambozy.proofs.lhz_plan_to_line.Goals as goal
 
 pub returns-in-Bytes : goal.returns-in-Bytes

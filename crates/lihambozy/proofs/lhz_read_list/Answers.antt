@@ -3,7 +3,7 @@ use Prim.Native.Nat.{ℕ}
 use mathlib.Core.Path.{sym, ap, ap₂, ◌∙◌}
 use Rattle.volume.specs.Answers.{said_read}
 use Rattle.lihambozy.specs.Flat.{flat_list}
-use Rattle.lihambozy.specs.declared.ReadListAnswer.{ReadListAnswer}
+use Rattle.lihambozy.specs.declared.answers.ReadListAnswer.{ReadListAnswer}
 use Rattle.lihambozy.proofs.lhz_read_list.Goals as goal
 
 pub returns-in-Read : goal.returns-in-Read

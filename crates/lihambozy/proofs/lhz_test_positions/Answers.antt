@@ -3,7 +3,7 @@ use Prim.Native.Nat.{ℕ}
 use mathlib.Core.Path.{sym, ap, ap₂, ◌∙◌}
 use Rattle.matcher.specs.Answers.{said_tested}
 use Rattle.lihambozy.specs.Flat.{flat_test}
-use Rattle.lihambozy.specs.declared.TestPositionsAnswer.{TestPositionsAnswer}
+use Rattle.lihambozy.specs.declared.answers.TestPositionsAnswer.{TestPositionsAnswer}
 use Rattle.lihambozy.proofs.lhz_test_positions.Goals as goal
 
 pub returns-in-Answer : goal.returns-in-Answer
