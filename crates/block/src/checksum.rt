@@ -11,14 +11,14 @@ ghost use Rattle.block.specs.Inner.Sums.{plain_of, weighted_of, AtMost};
 use super::rows::{Row, RowSums, columns, four_at, half_rows, tilted};
 
 // The two sums of a block.
-#[derive(Clone, Copy)]
+#[derive(Clone, Copy, Debug, PartialEq, Eq)]
 pub struct Sums {
     pub a: u32,
     pub b: u32,
 }
 
 // The sums of a half: its bytes, and each byte i of the block 508 - i times.
-#[derive(Clone, Copy)]
+#[derive(Clone, Copy, Debug, PartialEq, Eq)]
 pub struct Half {
     pub plain: u32,
     pub weighted: u32,
@@ -33,10 +33,8 @@ fn half_sums(first: Row, rows: RowSums) -> Half
     ensures weighted_value { result.weighted ≡ weighted_of first rows }
     ensures weighted_bound { result.weighted ≤ 200000000 }
 {
+    let RowSums { all, near, far } = rows;
     let front = columns(first);
-    let all = rows.all;
-    let near = rows.near;
-    let far = rows.far;
     let plain = front + columns(all);
     let weighted = 248 * front
         + columns(tilted(first))
@@ -86,8 +84,8 @@ pub fn second_half(half: &[u8; 256]) -> Half
 pub fn sums_of(x: Half, y: Half) -> Sums
     ensures { result ≡ sums_of (x ∷ y ∷ []) }
 {
-    let a = 1 + x.plain as u64 + y.plain as u64;
-    let b = 508 + x.weighted as u64 + y.weighted as u64;
+    let a = 1 + u64::from(x.plain) + u64::from(y.plain);
+    let b = 508 + u64::from(x.weighted) + u64::from(y.weighted);
     Sums {
         a: (a % 65535) as u32,
         b: (b % 65535) as u32,

@@ -58,14 +58,14 @@ fn lanes(a: u8, b: u8, c: u8, d: u8, e: u8, f: u8, g: u8, h: u8) -> Row
     ensures at_most { AtMost 255 result }
 {
     Row {
-        a: a as u16,
-        b: b as u16,
-        c: c as u16,
-        d: d as u16,
-        e: e as u16,
-        f: f as u16,
-        g: g as u16,
-        h: h as u16,
+        a: u16::from(a),
+        b: u16::from(b),
+        c: u16::from(c),
+        d: u16::from(d),
+        e: u16::from(e),
+        f: u16::from(f),
+        g: u16::from(g),
+        h: u16::from(h),
     }
 }
 
@@ -151,14 +151,14 @@ pub fn columns(x: Row) -> u32
     ensures value { result ≡ columns x }
     ensures upper_bound { result ≤ 524280 }
 {
-    x.a as u32
-        + x.b as u32
-        + x.c as u32
-        + x.d as u32
-        + x.e as u32
-        + x.f as u32
-        + x.g as u32
-        + x.h as u32
+    u32::from(x.a)
+        + u32::from(x.b)
+        + u32::from(x.c)
+        + u32::from(x.d)
+        + u32::from(x.e)
+        + u32::from(x.f)
+        + u32::from(x.g)
+        + u32::from(x.h)
 }
 
 // n rows from `at` on, with `near` from `first` on.
@@ -170,11 +170,9 @@ fn rows_at(s: &[u8], at: usize, n: usize, first: Row) -> Stretch
 {
     let mut more = zeros();
     let mut near = first;
-    let mut j: usize = 0;
-    while j < n {
+    for j in 0..n {
         near = plus(near, more);
         more = plus(more, row_at(s, at + 8 * j));
-        j += 1;
     }
     Stretch { more, near }
 }
@@ -189,15 +187,13 @@ pub fn half_rows(s: &[u8]) -> RowSums
     let mut all = seven.more;
     let mut near = seven.near;
     let mut far = zeros();
-    let mut i: usize = 0;
-    while i < 3 {
+    for i in 0..3 {
         far = plus(far, all);
         let from = 60 + 64 * i;
         let eight = rows_at(s, from, 8, near);
         near = eight.near;
         let more = eight.more;
         all = plus(all, more);
-        i += 1;
     }
     RowSums { all, near, far }
 }

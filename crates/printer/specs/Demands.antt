@@ -3,12 +3,12 @@
 --     RoundTrips      a plan's line is in order, and gives the plan again
 --     OneToOne        no two answers are told alike
 -- That no line with a plan's rows has fewer brackets, and that none of its own could be dropped, is in `grammar/Demands.PlanLines`.
-use Rattle.std.specs.Prelude.{ℕ, ◌≤◌, ◌≡◌, List, ◌++◌, length, drop}
+use Rattle.std.specs.Prelude.{ℕ, Result, ◌≤◌, ◌≡◌, List, ◌++◌, length, drop}
 use Rattle.seq.specs.Refusals.{refused, answered, stage_in, FirstRefusal}
 use Rattle.plan.specs.Check.{Accepted}
 use Rattle.grammar.specs.Query.{plan_text}
 use Rattle.line.specs.Read.{read_answer, read_out}
-use Rattle.printer.specs.declared.answers.Written.{Written}
+use Rattle.printer.specs.declared.answers.WriteError.{WriteError}
 use Rattle.printer.specs.Answers.{said_written}
 use Rattle.printer.specs.Refusals.{WriteApplies, write_stages}
 use Rattle.printer.specs.Write.{write_answer, write_out}
@@ -38,4 +38,4 @@ RoundTrips = (v p : List ℕ) → Accepted v p → ThereAndBack v p
 
 -- no two answers have document 02's number and values in common
 unfoldable pub OneToOne : Type 0
-OneToOne = (a b : Written) → said_written a ≡ said_written b → a ≡ b
+OneToOne = (a b : Result ℕ WriteError) → said_written a ≡ said_written b → a ≡ b

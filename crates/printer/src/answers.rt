@@ -1,13 +1,22 @@
-// What writing a plan as a line answers. `specs/Answers.antt` gives the number and the values of
-// each case.
+// Why a plan is not written as a line. `specs/Answers.antt` gives the number and the values of each
+// case.
+ghost use Rattle.std.specs.Prelude.{◌≡◌};
+ghost use Rattle.printer.specs.declared.answers.WriteError.TheVariants as writeError;
+
 use plan::Refusal;
 
 #[derive(Clone, Copy)]
-pub enum Written {
-    // So many bytes are written: the line.
-    Bytes(u32),
+pub enum WriteError {
     // The volume or the plan is refused.
     Refused(Refusal),
     // The buffer is shorter than the line.
     Short,
+}
+
+impl From<Refusal> for WriteError {
+    ghost from_gives = { λ why e. e ≡ writeError.Refused why };
+
+    fn from(why: Refusal) -> WriteError {
+        WriteError::Refused(why)
+    }
 }

@@ -10,10 +10,9 @@ pub fn put_byte(byte: u8, out: &mut [u8], end: usize) -> usize
     ensures { PutBack (byte ∷ []) out.old end out.new result }
 {
     let at = end - 1;
-    if out.len() <= at {
-        return at;
+    if at < out.len() {
+        out[at] = byte;
     }
-    out[at] = byte;
     at
 }
 
@@ -23,9 +22,10 @@ pub fn put_byte_if(wanted: bool, byte: u8, out: &mut [u8], end: usize) -> usize
     ensures { PutBack (only wanted byte) out.old end out.new result }
 {
     if wanted {
-        return put_byte(byte, out, end);
+        put_byte(byte, out, end)
+    } else {
+        end
     }
-    end
 }
 
 // A digit.
@@ -45,7 +45,7 @@ pub fn put_number(n: u32, out: &mut [u8], end: usize) -> usize
     let mut at = end;
     while 10 <= left {
         at = put_byte(digit_of(left % 10), out, at);
-        left = left / 10;
+        left /= 10;
     }
     put_byte(digit_of(left), out, at)
 }

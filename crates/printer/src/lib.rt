@@ -11,5 +11,5 @@ mod patterns;
 mod trees;
 mod writer;
 
-pub use answers::Written;
+pub use answers::WriteError;
 pub use writer::write;

@@ -10,7 +10,7 @@ use super::bytes::{put_byte, put_number};
 use plan::{Kind, Predicate, is_voice, list_at, row_at};
 
 // Where rows begin, and where their text does.
-#[derive(Clone, Copy)]
+#[derive(Clone, Copy, Debug, PartialEq, Eq)]
 pub struct Back {
     pub row: usize,
     pub at: usize,
@@ -63,8 +63,8 @@ fn put_condition(predicate: Predicate, out: &mut [u8], end: usize) -> usize
             put_letter(b's', out, at)
         }
         Predicate::Proximity { a, b, least, most } => {
-            let last = put_spaced(most as u32, out, end);
-            let at = put_spaced(least as u32, out, last);
+            let last = put_spaced(u32::from(most), out, end);
+            let at = put_spaced(u32::from(least), out, last);
             put_pair(b'a', a, b, out, at)
         }
     }
@@ -75,12 +75,7 @@ fn behind_voice(plan: &[u32], row: usize) -> bool
     requires { Formed plan.now row }
     ensures { result ≡ behind_voice plan.now row }
 {
-    if row == 0 {
-        return false;
-    }
-    let before = row_at(plan, row - 1);
-    let kind = before.kind;
-    is_voice(kind)
+    row != 0 && is_voice(row_at(plan, row - 1).kind)
 }
 
 // The list numbers of a pattern whose last VOICE is row `last`, with `[` in front.
@@ -93,10 +88,11 @@ fn put_lists(plan: &[u32], last: usize, out: &mut [u8], end: usize) -> Back
     let number = put_number(list, out, end);
     if behind_voice(plan, last) {
         let at = put_byte(b' ', out, number);
-        return put_lists(plan, last - 1, out, at);
+        put_lists(plan, last - 1, out, at)
+    } else {
+        let at = put_byte(b'[', out, number);
+        Back { row: last, at }
     }
-    let at = put_byte(b'[', out, number);
-    Back { row: last, at }
 }
 
 // A pattern without its closing bracket, where row `last` is its last one in front of END.
@@ -104,16 +100,13 @@ fn put_open(plan: &[u32], last: usize, out: &mut [u8], end: usize) -> Back
     requires { OpenRoom plan.now last end }
     ensures { OpenPut plan.now last out.old end out.new result }
 {
-    let row = row_at(plan, last);
-    let kind = row.kind;
-    match kind {
+    match row_at(plan, last).kind {
         Kind::Condition(predicate) => {
             let at = put_condition(predicate, out, end);
             put_open(plan, last - 1, out, at)
         }
         Kind::Voice(_) => put_lists(plan, last, out, end),
-        Kind::End => Back { row: last, at: end },
-        Kind::Operator(_) => Back { row: last, at: end },
+        Kind::End | Kind::Operator(_) => unreachable!(),
     }
 }
 

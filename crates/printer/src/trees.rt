@@ -15,7 +15,7 @@ use grammar::Connective;
 use plan::{Kind, Operator, row_at};
 
 // What a tree is written as: a line, a part of one, or an item of a part.
-#[derive(Clone, Copy)]
+#[derive(Clone, Copy, Debug, PartialEq, Eq)]
 pub enum Level {
     Line,
     Part,
@@ -26,15 +26,10 @@ pub enum Level {
 fn is_bracketed(level: Level, connective: Connective) -> bool
     ensures { result ≡ bracketed level connective }
 {
-    match level {
-        Level::Line => false,
-        Level::Part => match connective {
-            Connective::And => false,
-            Connective::Or => true,
-            Connective::AndNot => false,
-        },
-        Level::Item => true,
-    }
+    matches!(
+        (level, connective),
+        (Level::Item, _) | (Level::Part, Connective::Or)
+    )
 }
 
 // What the first side of a connective is written as.
@@ -42,9 +37,8 @@ fn left_level(connective: Connective) -> Level
     ensures { result ≡ left_level connective }
 {
     match connective {
-        Connective::And => Level::Part,
         Connective::Or => Level::Line,
-        Connective::AndNot => Level::Part,
+        Connective::And | Connective::AndNot => Level::Part,
     }
 }
 
@@ -53,9 +47,8 @@ fn right_level(connective: Connective) -> Level
     ensures { result ≡ right_level connective }
 {
     match connective {
-        Connective::And => Level::Item,
         Connective::Or => Level::Part,
-        Connective::AndNot => Level::Item,
+        Connective::And | Connective::AndNot => Level::Item,
     }
 }
 
@@ -77,18 +70,15 @@ pub fn put_tree(plan: &[u32], last: usize, level: Level, out: &mut [u8], end: us
     ensures { TreePut plan.now last level out.old end
         out.new result }
 {
-    let row = row_at(plan, last);
-    let kind = row.kind;
-    match kind {
+    match row_at(plan, last).kind {
         Kind::Operator(operator) => match operator {
             Operator::Both => put_node(plan, last, Connective::And, level, out, end),
             Operator::Either => put_node(plan, last, Connective::Or, level, out, end),
             Operator::FirstNotSecond => put_node(plan, last, Connective::AndNot, level, out, end),
-            Operator::AtLeast { least, of } => { put_threshold(plan, last, least, of, out, end) }
+            Operator::AtLeast { least, of } => put_threshold(plan, last, least, of, out, end),
         },
         Kind::End => put_pattern(plan, last, out, end),
-        Kind::Voice(_) => Back { row: last, at: end },
-        Kind::Condition(_) => Back { row: last, at: end },
+        Kind::Voice(_) | Kind::Condition(_) => unreachable!(),
     }
 }
 
@@ -113,7 +103,7 @@ fn put_node(
     let byte = put_byte(byte_of(connective), out, right.at);
     let left = put_tree(plan, right.row - 1, left_level(connective), out, byte);
     let at = put_byte_if(bracket, b'(', out, left.at);
-    Back { row: left.row, at }
+    Back { at, ..left }
 }
 
 // The tree of an AT LEAST whose row is row `last`. It is an item, so that it is written alike at every
@@ -129,7 +119,7 @@ fn put_threshold(plan: &[u32], last: usize, least: u32, of: u32, out: &mut [u8],
     let lines = put_lines(plan, last - 1, of, out, shut);
     let number = put_byte(digit_of(least), out, lines.at);
     let at = put_byte(b'<', out, number);
-    Back { row: lines.row, at }
+    Back { at, ..lines }
 }
 
 // The trees, `count` of them, of which the last one ends at row `last`, each as a line with the byte
@@ -142,12 +132,10 @@ fn put_lines(plan: &[u32], last: usize, count: u32, out: &mut [u8], end: usize) 
 {
     let line = put_tree(plan, last, Level::Line, out, end);
     if count <= 1 {
-        let first = put_byte(b':', out, line.at);
-        return Back {
-            row: line.row,
-            at: first,
-        };
+        let at = put_byte(b':', out, line.at);
+        Back { at, ..line }
+    } else {
+        let comma = put_byte(b',', out, line.at);
+        put_lines(plan, line.row - 1, count - 1, out, comma)
     }
-    let comma = put_byte(b',', out, line.at);
-    put_lines(plan, line.row - 1, count - 1, out, comma)
 }

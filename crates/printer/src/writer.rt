@@ -5,7 +5,7 @@ ghost use Rattle.printer.specs.Answers.{said_written};
 ghost use Rattle.printer.specs.Write.{write_answer, write_out};
 ghost use Rattle.printer.specs.Inner.Trees.{LineWritten};
 
-use super::answers::Written;
+use super::answers::WriteError;
 use super::trees::{Level, put_tree};
 use plan::Checked;
 
@@ -13,23 +13,22 @@ use plan::Checked;
 const MOST_BYTES: usize = 2048;
 
 // The line of an accepted plan. The first pass counts its bytes.
-fn write_line(plan: &[u32], out: &mut [u8]) -> Written
+fn write_line(plan: &[u32], out: &mut [u8]) -> Result<u32, WriteError>
     requires { (v : List ℕ) × Accepted v plan.now }
     ensures { LineWritten plan.now out.old result out.new }
 {
     let last = plan.len() / 4 - 1;
-    let mut none = [0u8; 1];
-    let counted = put_tree(plan, last, Level::Line, &mut none, MOST_BYTES);
+    let counted = put_tree(plan, last, Level::Line, &mut [], MOST_BYTES);
     let bytes = MOST_BYTES - counted.at;
     if out.len() < bytes {
-        return Written::Short;
+        return Err(WriteError::Short);
     }
     put_tree(plan, last, Level::Line, out, bytes);
-    Written::Bytes(bytes as u32)
+    Ok(bytes as u32)
 }
 
 // Writes a plan as its line, to the front of `out`.
-pub fn write(volume: &[u8], plan: &[u32], out: &mut [u8]) -> Written
+pub fn write(volume: &[u8], plan: &[u32], out: &mut [u8]) -> Result<u32, WriteError>
     ensures result_value { said_written result
         ≡ write_answer volume.now plan.now (length out.old) }
     ensures out_after { out.new
@@ -37,7 +36,7 @@ pub fn write(volume: &[u8], plan: &[u32], out: &mut [u8]) -> Written
 {
     let checked = plan::check(volume, plan);
     match checked {
-        Checked::Refused(why) => Written::Refused(why),
+        Checked::Refused(why) => Err(WriteError::Refused(why)),
         Checked::Accepted(_, _) => write_line(plan, out),
     }
 }

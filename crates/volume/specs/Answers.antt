@@ -1,14 +1,13 @@
 -- Document 01's number and values for each answer of the crate's calls. Assumes nothing.
-use Rattle.std.specs.Prelude.{ℕ}
+use Rattle.std.specs.Prelude.{ℕ, Result, Ok, Err}
 use Rattle.seq.specs.Refusals.{Said, refused, answered}
 use Rattle.volume.specs.declared.answers.Refusal.{Refusal}
 use Rattle.volume.specs.declared.answers.Refusal.TheVariants.{Length, Number, Checksum, Version, ListCount, Extent, Order, Padding}
-use Rattle.volume.specs.declared.answers.Checked.{Checked}
-use Rattle.volume.specs.declared.answers.Checked.TheVariants as checked
-use Rattle.volume.specs.declared.answers.ListRead.{ListRead}
-use Rattle.volume.specs.declared.answers.ListRead.TheVariants as list
-use Rattle.volume.specs.declared.answers.Written.{Written}
-use Rattle.volume.specs.declared.answers.Written.TheVariants as written
+use Rattle.volume.specs.declared.answers.Sizes as volume
+use Rattle.volume.specs.declared.answers.ReadError.{ReadError}
+use Rattle.volume.specs.declared.answers.ReadError.TheVariants as read
+use Rattle.volume.specs.declared.answers.WriteError.{WriteError}
+use Rattle.volume.specs.declared.answers.WriteError.TheVariants as write
 
 -- the number of a refusal of a volume
 abbrev pub code_of : Refusal → ℕ
@@ -40,20 +39,20 @@ pub record Sizes : Type 0 where
   pub lists : ℕ
   pub postings : ℕ
 
-abbrev pub said_checked : Checked → Said Sizes
-said_checked (checked.Accepted t s) = answered (record { lists = t; postings = s })
-said_checked (checked.Refused r) = said_refusal r
+abbrev pub said_checked : Result volume.Sizes Refusal → Said Sizes
+said_checked (Ok s) = answered (record { lists = s.lists; postings = s.postings })
+said_checked (Err why) = said_refusal why
 
-abbrev pub said_read : ListRead → Said ℕ
-said_read (list.Read n) = answered n
-said_read (list.Refused r) = said_refusal r
-said_read list.NoList = refused 17 0
-said_read list.Short = refused 16 0
+abbrev pub said_read : Result ℕ ReadError → Said ℕ
+said_read (Ok n) = answered n
+said_read (Err (read.Refused why)) = said_refusal why
+said_read (Err read.NoList) = refused 17 0
+said_read (Err read.Short) = refused 16 0
 
-abbrev pub said_written : Written → Said ℕ
-said_written (written.Blocks n) = answered n
-said_written written.ListCount = refused 5 0
-said_written written.CountSum = refused 18 0
-said_written (written.Order list) = refused 7 list
-said_written written.TooLarge = refused 19 0
-said_written written.Short = refused 20 0
+abbrev pub said_written : Result ℕ WriteError → Said ℕ
+said_written (Ok n) = answered n
+said_written (Err write.ListCount) = refused 5 0
+said_written (Err write.CountSum) = refused 18 0
+said_written (Err (write.Order list)) = refused 7 list
+said_written (Err write.TooLarge) = refused 19 0
+said_written (Err write.Short) = refused 20 0

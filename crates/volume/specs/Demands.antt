@@ -6,13 +6,13 @@
 --     Damage                                     one changed byte is found, in its block
 --     OneToOne                                   no two answers are told alike
 --     Sample                                     document 01's sample volume
-use Rattle.std.specs.Prelude.{ℕ, ◌*◌, ◌/◌, ◌<◌, ◌≤◌, ◌≡◌, ◌⊎◌, ◌≢◌, ◌↔◌, List, [], ◌∷◌, ◌++◌, map, length, get_or, drop}
+use Rattle.std.specs.Prelude.{ℕ, ◌*◌, ◌/◌, ◌<◌, ◌≤◌, ◌≡◌, ◌⊎◌, ◌≢◌, ◌↔◌, List, [], ◌∷◌, ◌++◌, map, length, get_or, drop, Result}
 use Rattle.seq.specs.Lists.{total, joined, Rising}
 use Rattle.seq.specs.Refusals.{refused, answered, stage_in, FirstRefusal}
 use Rattle.volume.specs.declared.answers.Refusal.{Refusal}
-use Rattle.volume.specs.declared.answers.Checked.{Checked}
-use Rattle.volume.specs.declared.answers.ListRead.{ListRead}
-use Rattle.volume.specs.declared.answers.Written.{Written}
+use Rattle.volume.specs.declared.answers.Sizes as volume
+use Rattle.volume.specs.declared.answers.ReadError.{ReadError}
+use Rattle.volume.specs.declared.answers.WriteError.{WriteError}
 use Rattle.volume.specs.Posting.{posting_of}
 use Rattle.block.specs.Bytes.{IsBytes, IsWords}
 use Rattle.volume.specs.Layout.{list_count, count, extent_of, blocks_for, postings_of, lists_of}
@@ -119,9 +119,9 @@ Damage =
 -- no two answers have document 01's number and values in common
 pub record OneToOne : Type 0 where
   pub refusal : (a b : Refusal) → said_refusal {A = Sizes} a ≡ said_refusal b → a ≡ b
-  pub checked : (a b : Checked) → said_checked a ≡ said_checked b → a ≡ b
-  pub list : (a b : ListRead) → said_read a ≡ said_read b → a ≡ b
-  pub volume : (a b : Written) → said_written a ≡ said_written b → a ≡ b
+  pub checked : (a b : Result volume.Sizes Refusal) → said_checked a ≡ said_checked b → a ≡ b
+  pub list : (a b : Result ℕ ReadError) → said_read a ≡ said_read b → a ≡ b
+  pub volume : (a b : Result ℕ WriteError) → said_written a ≡ said_written b → a ≡ b
 
 -- document 01's sample: 1:0 1:6, then 1:2 1:8 2:4, then 1:5 1:7 2:9
 abbrev pub sample_lists : List (List ℕ)

@@ -1,7 +1,16 @@
 // What the calls answer. `specs/Answers.antt` gives document 01's number and values for each case.
+ghost use Rattle.std.specs.Prelude.{◌≡◌};
+ghost use Rattle.volume.specs.declared.answers.ReadError.TheVariants.{Refused};
+
+// What an accepted volume gives: the number of its lists and of their postings.
+#[derive(Clone, Copy, Debug, PartialEq, Eq)]
+pub struct Sizes {
+    pub lists: u32,
+    pub postings: u32,
+}
 
 // Why a volume is refused.
-#[derive(Clone, Copy)]
+#[derive(Clone, Copy, Debug, PartialEq, Eq)]
 pub enum Refusal {
     // The length is 0, no multiple of 512, or over 8,192 blocks.
     Length,
@@ -21,18 +30,9 @@ pub enum Refusal {
     Padding(u32),
 }
 
-// What checking a volume answers: the number of its lists and of its postings, or why not.
-#[derive(Clone, Copy)]
-pub enum Checked {
-    Accepted(u32, u32),
-    Refused(Refusal),
-}
-
-// What reading a list answers.
-#[derive(Clone, Copy)]
-pub enum ListRead {
-    // The number of its postings, which are at the front of the buffer.
-    Read(u32),
+// Why a list is not read.
+#[derive(Clone, Copy, Debug, PartialEq, Eq)]
+pub enum ReadError {
     // The volume is refused.
     Refused(Refusal),
     // The volume has no list of this number.
@@ -41,11 +41,17 @@ pub enum ListRead {
     Short,
 }
 
-// What writing a volume answers.
-#[derive(Clone, Copy)]
-pub enum Written {
-    // The number of its blocks, which are at the front of the output.
-    Blocks(u32),
+impl From<Refusal> for ReadError {
+    ghost from_gives = { λ why error. error ≡ Refused why };
+
+    fn from(why: Refusal) -> ReadError {
+        ReadError::Refused(why)
+    }
+}
+
+// Why a volume is not written.
+#[derive(Clone, Copy, Debug, PartialEq, Eq)]
+pub enum WriteError {
     // The number of counts is outside 1 to 1,024.
     ListCount,
     // The counts do not sum to the number of postings.

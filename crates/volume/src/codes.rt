@@ -5,7 +5,7 @@ ghost use Rattle.volume.specs.Answers.{code_of, at_of};
 use super::answers::Refusal;
 
 // The number of a refusal, and the place that it names, or 0.
-#[derive(Clone, Copy)]
+#[derive(Clone, Copy, Debug, PartialEq, Eq)]
 pub struct Code {
     pub number: u32,
     pub at: u32,

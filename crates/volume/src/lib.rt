@@ -21,7 +21,7 @@ mod reading;
 mod stream;
 mod writing;
 
-pub use answers::{Checked, ListRead, Refusal, Written};
+pub use answers::{ReadError, Refusal, Sizes, WriteError};
 pub use checking::check;
 pub use codes::{Code, code_of};
 pub use layout::{

@@ -7,7 +7,7 @@ ghost use Rattle.volume.specs.Inner.Places.{list_span_of};
 ghost use Rattle.volume.specs.Check.{Accepted};
 ghost use Rattle.volume.specs.Read.{read_answer, read_out};
 
-use super::answers::{Checked, ListRead};
+use super::answers::ReadError;
 use super::checking::check;
 use super::layout::{ListSpan, lead};
 use super::stream::{count_at, count_sum, posting_at, word_at};
@@ -60,26 +60,19 @@ fn copy_postings(volume: &[u8], from: usize, n: usize, out: &mut [u32])
 
 // Copies list number `list` (0 too) of a volume to the front of out, and answers how many postings
 // it has.
-pub fn read_list(volume: &[u8], list: u32, out: &mut [u32]) -> ListRead
+pub fn read_list(volume: &[u8], list: u32, out: &mut [u32]) -> Result<u32, ReadError>
     ensures result_value { said_read result ≡ read_answer volume.now list (length out.old) }
     ensures out_after { out.new ≡ read_out volume.now list out.old }
 {
-    let checked = check(volume);
-    match checked {
-        Checked::Refused(why) => ListRead::Refused(why),
-        Checked::Accepted(lists, _) => {
-            if lists <= list {
-                return ListRead::NoList;
-            }
-            let span = list_span(volume, list as usize);
-            let n = span.count;
-            if out.len() < n {
-                return ListRead::Short;
-            }
-            let start = span.start;
-            copy_postings(volume, start, n, out);
-            let count = n as u32;
-            ListRead::Read(count)
-        }
+    let sizes = check(volume)?;
+    if sizes.lists <= list {
+        return Err(ReadError::NoList);
     }
+    let span = list_span(volume, list as usize);
+    let n = span.count;
+    if out.len() < n {
+        return Err(ReadError::Short);
+    }
+    copy_postings(volume, span.start, n, out);
+    Ok(n as u32)
 }

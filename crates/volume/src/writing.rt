@@ -9,7 +9,7 @@ ghost use Rattle.volume.specs.Answers.{said_written};
 ghost use Rattle.volume.specs.Write.{block_body, sealed, bad_given, write_answer, write_out};
 ghost use Rattle.volume.specs.Inner.Storing.{given, filled, stored, stored_first, IsBlock};
 
-use super::answers::Written;
+use super::answers::WriteError;
 use super::layout::{
     BLOCK_BYTES, BLOCK_WORDS, LAST_WORD, MAX_LISTS, MAX_WORDS, SUM_A, SUM_B, entry, extent_of, lead,
 };
@@ -226,32 +226,31 @@ fn put_volume(counts: &[u32], postings: &[u32], n: usize, out: &mut [u8])
 
 // Writes the volume of the counts and the postings to the front of the output, and answers the
 // number of its blocks.
-pub fn write(counts: &[u32], postings: &[u32], out: &mut [u8]) -> Written
+pub fn write(counts: &[u32], postings: &[u32], out: &mut [u8]) -> Result<u32, WriteError>
     ensures result_value { said_written result ≡ write_answer counts.now postings.now (length out.old) }
     ensures out_after { out.new ≡ write_out counts.now postings.now out.old }
 {
     let lists = counts.len();
     if lists < 1 || lists > MAX_LISTS {
-        return Written::ListCount;
+        return Err(WriteError::ListCount);
     }
     if sum_of(counts) != postings.len() as u64 {
-        return Written::CountSum;
+        return Err(WriteError::CountSum);
     }
     let bad = bad_given(counts, postings);
     if bad < lists {
         let list = bad as u32;
-        return Written::Order(list);
+        return Err(WriteError::Order(list));
     }
     let words = extent_of(lists, postings.len());
     if words > MAX_WORDS {
-        return Written::TooLarge;
+        return Err(WriteError::TooLarge);
     }
     let n = (words + LAST_WORD) / BLOCK_WORDS;
     let size = BLOCK_BYTES * n;
     if out.len() < size {
-        return Written::Short;
+        return Err(WriteError::Short);
     }
     put_volume(counts, postings, n, out);
-    let blocks = n as u32;
-    Written::Blocks(blocks)
+    Ok(n as u32)
 }

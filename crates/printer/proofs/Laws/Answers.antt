@@ -5,6 +5,7 @@
 use Prim.Native.Nat.{ℕ}
 use mathlib.Core.Path.{◌≡◌, refl}
 use mathlib.Core.Bool.{cond}
+use Rattle.std.proofs.Common.{Result, Ok, Err}
 use lib.Dec.{eqb}
 use Rattle.seq.specs.Refusals.{Said, refused, answered}
 use Rattle.seq.proofs.Laws.Refusals.{alike}
@@ -12,32 +13,32 @@ use Rattle.volume.specs.declared.answers.Refusal.TheVariants as volume
 use Rattle.plan.specs.declared.answers.Fault.TheVariants as fault
 use Rattle.plan.specs.declared.answers.Refusal.TheVariants.{Volume, Length, Row, Unfinished}
 use Rattle.plan.proofs.Laws.Answers.{heard}
-use Rattle.printer.specs.declared.answers.Written.{Written}
-use Rattle.printer.specs.declared.answers.Written.TheVariants as written
+use Rattle.printer.specs.declared.answers.WriteError.{WriteError}
+use Rattle.printer.specs.declared.answers.WriteError.TheVariants as writeError
 use Rattle.printer.specs.Answers.{said_written}
 use Rattle.printer.specs.Demands.{OneToOne}
 
-abbrev heard_written : Said ℕ → Written
-heard_written (refused n q) = cond (eqb n 16) written.Short (written.Refused (heard n q))
-heard_written (answered n) = written.Bytes n
+abbrev heard_written : Said ℕ → Result ℕ WriteError
+heard_written (refused n q) = cond (eqb n 16) (Err writeError.Short) (Err (writeError.Refused (heard n q)))
+heard_written (answered n) = Ok n
 
-heard-written : (a : Written) → heard_written (said_written a) ≡ a
-heard-written (written.Bytes n) = refl
-heard-written (written.Refused (Volume volume.Length)) = refl
-heard-written (written.Refused (Volume (volume.Number k))) = refl
-heard-written (written.Refused (Volume (volume.Checksum k))) = refl
-heard-written (written.Refused (Volume volume.Version)) = refl
-heard-written (written.Refused (Volume volume.ListCount)) = refl
-heard-written (written.Refused (Volume volume.Extent)) = refl
-heard-written (written.Refused (Volume (volume.Order i))) = refl
-heard-written (written.Refused (Volume (volume.Padding i))) = refl
-heard-written (written.Refused Length) = refl
-heard-written (written.Refused (Row fault.Form i)) = refl
-heard-written (written.Refused (Row fault.List i)) = refl
-heard-written (written.Refused (Row fault.TooMany i)) = refl
-heard-written (written.Refused (Row fault.Order i)) = refl
-heard-written (written.Refused Unfinished) = refl
-heard-written written.Short = refl
+heard-written : (a : Result ℕ WriteError) → heard_written (said_written a) ≡ a
+heard-written (Ok n) = refl
+heard-written (Err (writeError.Refused (Volume volume.Length))) = refl
+heard-written (Err (writeError.Refused (Volume (volume.Number k)))) = refl
+heard-written (Err (writeError.Refused (Volume (volume.Checksum k)))) = refl
+heard-written (Err (writeError.Refused (Volume volume.Version))) = refl
+heard-written (Err (writeError.Refused (Volume volume.ListCount))) = refl
+heard-written (Err (writeError.Refused (Volume volume.Extent))) = refl
+heard-written (Err (writeError.Refused (Volume (volume.Order i)))) = refl
+heard-written (Err (writeError.Refused (Volume (volume.Padding i)))) = refl
+heard-written (Err (writeError.Refused Length)) = refl
+heard-written (Err (writeError.Refused (Row fault.Form i))) = refl
+heard-written (Err (writeError.Refused (Row fault.List i))) = refl
+heard-written (Err (writeError.Refused (Row fault.TooMany i))) = refl
+heard-written (Err (writeError.Refused (Row fault.Order i))) = refl
+heard-written (Err (writeError.Refused Unfinished)) = refl
+heard-written (Err writeError.Short) = refl
 
 pub one-to-one : OneToOne
 unfolding OneToOne

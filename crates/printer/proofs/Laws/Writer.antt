@@ -8,6 +8,7 @@ use Prim.Native.Nat.{ℕ, ◌-◌, ◌<◌, ◌≤◌}
 use native.Mathlib.Omega.{arith}
 use mathlib.Core.Path.{◌≡◌, refl, sym, ap, ◌∙◌}
 use mathlib.Core.List.{List, []}
+use Rattle.std.proofs.Common.{Result, Ok, Err}
 use lib.ListN.{length}
 use borrow.Author.Tests.{lt-ltb, le-ltb}
 use Rattle.seq.specs.Refusals.{answered, laid}
@@ -24,8 +25,8 @@ use Rattle.grammar.specs.Query.{Query, leaf, node, threshold, Queries, empty, pu
 use Rattle.grammar.specs.Query.{plan_text}
 use Rattle.grammar.proofs.Laws.Written.{plan-tree}
 use Rattle.grammar.proofs.Laws.Bounds.{accepted-line}
-use Rattle.printer.specs.declared.answers.Written.{Written}
-use Rattle.printer.specs.declared.answers.Written.TheVariants as written
+use Rattle.printer.specs.declared.answers.WriteError.{WriteError}
+use Rattle.printer.specs.declared.answers.WriteError.TheVariants as writeError
 use Rattle.printer.specs.declared.patterns.Back.{Back}
 use Rattle.printer.specs.declared.trees.Level.TheVariants as level
 use Rattle.printer.specs.Answers.{said_written}
@@ -100,13 +101,13 @@ module _ (v p : List ℕ) (ok : Accepted v p) where
 
 module _ (p out : List ℕ) where
   -- there is no room
-  pub line-short : length out < length (plan_text p) → LineWritten p out written.Short out
+  pub line-short : length out < length (plan_text p) → LineWritten p out (Err writeError.Short) out
   unfolding laid
   line-short h = let e = lt-ltb (length out) (length (plan_text p)) h in record { said = rw e; bytes = rw e }
 
   -- the line is written
   pub line-whole : {out' : List ℕ} {n at : ℕ} → n ≡ length (plan_text p) → n ≤ length out → PutBack (plan_text p) out n out' at
-      → LineWritten p out (written.Bytes n) out'
+      → LineWritten p out (Ok n) out'
   unfolding laid
   line-whole {out'} {n} {at} e h w =
       let f = le-ltb (length out) (length (plan_text p)) (omega arith) in
@@ -121,12 +122,12 @@ module _ (p out : List ℕ) where
 module _ (v p out : List ℕ) where
   -- the volume or the plan is refused
   pub write-refused : (why : Refusal) → verdict v p ≡ said_refusal why
-      → (said_written (written.Refused why) ≡ write_answer v p (length out)) × (out ≡ write_out v p out)
+      → (said_written (Err (writeError.Refused why)) ≡ write_answer v p (length out)) × (out ≡ write_out v p out)
   unfolding write_answer write_out laid
   write-refused why e = (rw e, rw e)
 
   -- the plan is accepted
-  pub write-whole : {z : Sizes} → verdict v p ≡ answered z → {r : Written} {out' : List ℕ} → LineWritten p out r out'
+  pub write-whole : {z : Sizes} → verdict v p ≡ answered z → {r : Result ℕ WriteError} {out' : List ℕ} → LineWritten p out r out'
       → (said_written r ≡ write_answer v p (length out)) × (out' ≡ write_out v p out)
   unfolding write_answer write_out
   write-whole e w = (rw e w.said, rw e w.bytes)

@@ -4,7 +4,7 @@
 --     TreePut              its text is stored
 --     LinesEnd, LinesRoom, LinesPut     the same of several trees
 --     LineWritten          the line of an accepted plan is written, or has no room
-use Rattle.std.specs.Prelude.{ℕ, ◌+◌, ◌≤◌, ◌≡◌, Bool, true, false, cond, List, ◌∷◌, ◌++◌, length, ltb}
+use Rattle.std.specs.Prelude.{ℕ, Result, ◌+◌, ◌≤◌, ◌≡◌, Bool, true, false, cond, List, ◌∷◌, ◌++◌, length, ltb}
 use Rattle.seq.specs.Refusals.{Said, refused, answered, laid}
 use Rattle.plan.specs.Rows.{rows_before}
 use Rattle.grammar.specs.declared.tokens.Connective.{Connective}
@@ -12,7 +12,7 @@ use Rattle.grammar.specs.declared.tokens.Connective.TheVariants as c
 use Rattle.grammar.specs.Grammar.{written, part_text, item_text, lines_text}
 use Rattle.grammar.specs.Query.{Query, leaf, node, threshold, Queries, empty, push, query_count, queries_rows, stack_rows, typed}
 use Rattle.grammar.specs.Query.{typed_lines, plan_text}
-use Rattle.printer.specs.declared.answers.Written.{Written}
+use Rattle.printer.specs.declared.answers.WriteError.{WriteError}
 use Rattle.printer.specs.declared.patterns.Back.{Back}
 use Rattle.printer.specs.declared.trees.Level.{Level}
 use Rattle.printer.specs.declared.trees.Level.TheVariants as level
@@ -104,6 +104,6 @@ abbrev pub line_answer : List ℕ → ℕ → Said ℕ
 line_answer s room = cond (ltb room (length s)) (refused 16 0) (answered (length s))
 
 -- the line of an accepted plan is written, or has no room
-pub record LineWritten (p out : List ℕ) (r : Written) (out' : List ℕ) : Type 0 where
+pub record LineWritten (p out : List ℕ) (r : Result ℕ WriteError) (out' : List ℕ) : Type 0 where
   pub said : said_written r ≡ line_answer (plan_text p) (length out)
   pub bytes : out' ≡ laid (line_answer (plan_text p) (length out)) (plan_text p) out

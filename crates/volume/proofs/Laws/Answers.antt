@@ -4,6 +4,7 @@
 --     one-to-one                                                  no two answers are said alike
 -- Assumes nothing.
 use Prim.Native.Nat.{ℕ}
+use Rattle.std.specs.Prelude.{Result, Ok, Err}
 use mathlib.Core.Path.{◌≡◌, refl, ap}
 use mathlib.Core.Bool.{cond}
 use mathlib.Core.List.{[], ◌∷◌}
@@ -14,12 +15,11 @@ use Rattle.seq.specs.Refusals.{Said, refused, answered, stage_in}
 use Rattle.seq.proofs.Laws.Refusals.{alike}
 use Rattle.volume.specs.declared.answers.Refusal.{Refusal}
 use Rattle.volume.specs.declared.answers.Refusal.TheVariants.{Length, Number, Checksum, Version, ListCount, Extent, Order, Padding}
-use Rattle.volume.specs.declared.answers.Checked.{Checked}
-use Rattle.volume.specs.declared.answers.Checked.TheVariants as checked
-use Rattle.volume.specs.declared.answers.ListRead.{ListRead}
-use Rattle.volume.specs.declared.answers.ListRead.TheVariants as list
-use Rattle.volume.specs.declared.answers.Written.{Written}
-use Rattle.volume.specs.declared.answers.Written.TheVariants as written
+use Rattle.volume.specs.declared.answers.Sizes as volume
+use Rattle.volume.specs.declared.answers.ReadError.{ReadError}
+use Rattle.volume.specs.declared.answers.ReadError.TheVariants as read
+use Rattle.volume.specs.declared.answers.WriteError.{WriteError}
+use Rattle.volume.specs.declared.answers.WriteError.TheVariants as write
 use Rattle.volume.specs.Answers.{Sizes, said_refusal, said_checked, said_read, said_written}
 use Rattle.volume.specs.Refusals.{write_stages}
 use Rattle.volume.specs.Demands.{OneToOne}
@@ -32,18 +32,18 @@ abbrev heard_sizes : Said Sizes → Refusal
 heard_sizes (refused n p) = heard_refusal n p
 heard_sizes (answered s) = Length
 
-abbrev heard_checked : Said Sizes → Checked
-heard_checked (refused n p) = checked.Refused (heard_refusal n p)
-heard_checked (answered s) = checked.Accepted s.lists s.postings
+abbrev heard_checked : Said Sizes → Result volume.Sizes Refusal
+heard_checked (refused n p) = Err (heard_refusal n p)
+heard_checked (answered s) = Ok (record { lists = s.lists; postings = s.postings })
 
-abbrev heard_read : Said ℕ → ListRead
-heard_read (refused n p) = cond (eqb n 17) list.NoList (cond (eqb n 16) list.Short (list.Refused (heard_refusal n p)))
-heard_read (answered n) = list.Read n
+abbrev heard_read : Said ℕ → Result ℕ ReadError
+heard_read (refused n p) = Err (cond (eqb n 17) read.NoList (cond (eqb n 16) read.Short (read.Refused (heard_refusal n p))))
+heard_read (answered n) = Ok n
 
 -- by a list in the order of the writer's refusals
-abbrev heard_written : Said ℕ → Written
-heard_written (refused n p) = get_or (written.ListCount ∷ written.CountSum ∷ written.Order p ∷ written.TooLarge ∷ written.Short ∷ []) (stage_in write_stages n) written.Short
-heard_written (answered n) = written.Blocks n
+abbrev heard_written : Said ℕ → Result ℕ WriteError
+heard_written (refused n p) = Err (get_or (write.ListCount ∷ write.CountSum ∷ write.Order p ∷ write.TooLarge ∷ write.Short ∷ []) (stage_in write_stages n) write.Short)
+heard_written (answered n) = Ok n
 
 heard-refusal : (r : Refusal) → heard_sizes (said_refusal r) ≡ r
 heard-refusal Length = refl
@@ -55,31 +55,31 @@ heard-refusal Extent = refl
 heard-refusal (Order i) = refl
 heard-refusal (Padding i) = refl
 
-heard-checked : (a : Checked) → heard_checked (said_checked a) ≡ a
-heard-checked (checked.Accepted t s) = refl
-heard-checked (checked.Refused r) = ap checked.Refused (heard-refusal r)
+heard-checked : (a : Result volume.Sizes Refusal) → heard_checked (said_checked a) ≡ a
+heard-checked (Ok s) = refl
+heard-checked (Err why) = ap Err (heard-refusal why)
 
-heard-read : (a : ListRead) → heard_read (said_read a) ≡ a
-heard-read (list.Read n) = refl
-heard-read (list.Refused Length) = refl
-heard-read (list.Refused (Number k)) = refl
-heard-read (list.Refused (Checksum k)) = refl
-heard-read (list.Refused Version) = refl
-heard-read (list.Refused ListCount) = refl
-heard-read (list.Refused Extent) = refl
-heard-read (list.Refused (Order i)) = refl
-heard-read (list.Refused (Padding i)) = refl
-heard-read list.NoList = refl
-heard-read list.Short = refl
+heard-read : (a : Result ℕ ReadError) → heard_read (said_read a) ≡ a
+heard-read (Ok n) = refl
+heard-read (Err (read.Refused Length)) = refl
+heard-read (Err (read.Refused (Number k))) = refl
+heard-read (Err (read.Refused (Checksum k))) = refl
+heard-read (Err (read.Refused Version)) = refl
+heard-read (Err (read.Refused ListCount)) = refl
+heard-read (Err (read.Refused Extent)) = refl
+heard-read (Err (read.Refused (Order i))) = refl
+heard-read (Err (read.Refused (Padding i))) = refl
+heard-read (Err read.NoList) = refl
+heard-read (Err read.Short) = refl
 
-heard-written : (a : Written) → heard_written (said_written a) ≡ a
+heard-written : (a : Result ℕ WriteError) → heard_written (said_written a) ≡ a
 unfolding stage_in elem
-heard-written (written.Blocks n) = refl
-heard-written written.ListCount = refl
-heard-written written.CountSum = refl
-heard-written (written.Order i) = refl
-heard-written written.TooLarge = refl
-heard-written written.Short = refl
+heard-written (Ok n) = refl
+heard-written (Err write.ListCount) = refl
+heard-written (Err write.CountSum) = refl
+heard-written (Err (write.Order i)) = refl
+heard-written (Err write.TooLarge) = refl
+heard-written (Err write.Short) = refl
 
 pub one-to-one : OneToOne
 one-to-one = record {

@@ -12,27 +12,24 @@ rows_at-seven-requires c = record {
 
 pub loop-i-init : goal.loop-i-init
 loop-i-init c =
-    (omega arith, eights-first c.zeros-far.ensures (rw c.zeros.ensures at c.rows_at-seven.ensures))
+    eights-first c.zeros-far.ensures (rw c.zeros.ensures at c.rows_at-seven.ensures)
 
 pub plus-far-requires : goal.plus-far-requires
-plus-far-requires c = eights-room-far c.loop-i.invariant.1 (omega arith)
+plus-far-requires c = eights-room-far c.loop-i.invariant (omega arith)
 
 pub rows_at-eight-requires : goal.rows_at-eight-requires
 rows_at-eight-requires c = record {
   n_bound = omega arith;
   n_in_bounds = omega arith;
-  at_most = eights-near c.loop-i.invariant.1 (omega arith);
+  at_most = eights-near c.loop-i.invariant (omega arith);
 }
 
 pub plus-all-requires : goal.plus-all-requires
-plus-all-requires c = eights-room-all c.loop-i.invariant.1 (omega arith) c.rows_at-eight.ensures.more_within
+plus-all-requires c = eights-room-all c.loop-i.invariant (omega arith) c.rows_at-eight.ensures.more_within
 
 pub loop-i-preserved : goal.loop-i-preserved
-loop-i-preserved c = (
-  omega arith,
-  eights_again c.loop-i.invariant.1 c.rows_at-eight.ensures c.plus-all.ensures c.plus-far.ensures
-      (omega (arith, c.loop-i-test.true, c.requires)),
-)
+loop-i-preserved c =
+    eights_again c.loop-i.invariant c.rows_at-eight.ensures c.plus-all.ensures c.plus-far.ensures (omega arith)
 
 pub returns : goal.returns
-returns c = let e : c.loop-i.i ≡ 3 = omega arith in rw e at c.loop-i.invariant.1
+returns c = let e : c.loop-i.i ≡ 3 = omega arith in rw e at c.loop-i.invariant

@@ -13,7 +13,7 @@ returns-then-wanted c =
     let w = only-true c.args.byte c.if-wanted.true in
     put_as w.0 c.put_byte.ensures
 
-pub returns : goal.returns
-returns c =
+pub returns-else-wanted : goal.returns-else-wanted
+returns-else-wanted c =
     let a = c.args in
     put_as (only-false a.byte c.if-wanted.false) (put-none a.out.now a.end)

@@ -28,11 +28,11 @@ returns-then-behind_voice t c =
     let b = sym c.behind_voice.ensures ∙ c.if-behind_voice.true in
     lists-next c.list_at-list.ensures b c.put_number-number.ensures c.put_byte-at.ensures c.put_lists.ensures
 
-pub put_byte-at-requires-2 : goal.put_byte-at-requires-2
-put_byte-at-requires-2 t c =
+pub put_byte-at-requires-else-behind_voice : goal.put_byte-at-requires-else-behind_voice
+put_byte-at-requires-else-behind_voice t c =
     omega (arith, lists-number c.list_at-list.ensures c.requires, c.put_number-number.ensures.ends)
 
-pub returns : goal.returns
-returns t c =
+pub returns-else-behind_voice : goal.returns-else-behind_voice
+returns-else-behind_voice t c =
     let b = sym c.behind_voice.ensures ∙ c.if-behind_voice.false in
-    lists-first c.list_at-list.ensures b c.put_number-number.ensures c.put_byte-at-2.ensures
+    lists-first c.list_at-list.ensures b c.put_number-number.ensures c.put_byte-at-else-behind_voice.ensures

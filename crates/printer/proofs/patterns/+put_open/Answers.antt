@@ -1,6 +1,7 @@
 -- `patterns::put_open` meets its contract: the last row of an open pattern is a condition, or its last VOICE. Assumes nothing.
 use native.Mathlib.Omega.{arith}
 use mathlib.Core.Path.{ap, sym, ◌∙◌}
+use mathlib.Core.Logic.{⊎_elim}
 use Rattle.plan.specs.declared.row.Row.{Row}
 use Rattle.printer.proofs.Laws.Patterns.{open-some, open-condition, open-room, open_next, open-lists, open-first}
 use Rattle.printer.proofs.Laws.Patterns.{open-no-end, open-no_operator}
@@ -8,41 +9,36 @@ use Rattle.printer.proofs.patterns.+put_open.Goals as goal
 
 pub put_condition-at-requires : goal.put_condition-at-requires
 put_condition-at-requires t c =
-    let e = ap (λ (r : Row). r.kind) (sym c.row_at-row.ensures) ∙ c.in-Condition.is in
+    let e = ap (λ (r : Row). r.kind) (sym c.row_at.ensures) ∙ c.in-Condition.is in
     open-condition e c.requires
 
 pub overflow_sub-last : goal.overflow_sub-last
 overflow_sub-last t c =
-    let e = ap (λ (r : Row). r.kind) (sym c.row_at-row.ensures) ∙ c.in-Condition.is in
+    let e = ap (λ (r : Row). r.kind) (sym c.row_at.ensures) ∙ c.in-Condition.is in
     open-some e c.requires
 
 pub put_open-requires : goal.put_open-requires
 put_open-requires t c =
-    let e = ap (λ (r : Row). r.kind) (sym c.row_at-row.ensures) ∙ c.in-Condition.is in
+    let e = ap (λ (r : Row). r.kind) (sym c.row_at.ensures) ∙ c.in-Condition.is in
     let s = open-some e c.requires in
     (omega (arith, c.decreases), open-room e c.put_condition-at.ensures c.requires)
 
 pub put_lists-requires : goal.put_lists-requires
 put_lists-requires t c =
-    let e = ap (λ (r : Row). r.kind) (sym c.row_at-row.ensures) ∙ c.in-Voice.is in
+    let e = ap (λ (r : Row). r.kind) (sym c.row_at.ensures) ∙ c.in-Voice.is in
     open-lists e c.requires
 
 pub returns-in-Condition : goal.returns-in-Condition
 returns-in-Condition t c =
-    let e = ap (λ (r : Row). r.kind) (sym c.row_at-row.ensures) ∙ c.in-Condition.is in
+    let e = ap (λ (r : Row). r.kind) (sym c.row_at.ensures) ∙ c.in-Condition.is in
     open_next e c.put_condition-at.ensures c.put_open.ensures
 
 pub returns-in-Voice : goal.returns-in-Voice
 returns-in-Voice t c =
-    let e = ap (λ (r : Row). r.kind) (sym c.row_at-row.ensures) ∙ c.in-Voice.is in
+    let e = ap (λ (r : Row). r.kind) (sym c.row_at.ensures) ∙ c.in-Voice.is in
     open-first e c.put_lists.ensures
 
-pub returns-in-End : goal.returns-in-End
-returns-in-End t c =
-    let e = ap (λ (r : Row). r.kind) (sym c.row_at-row.ensures) ∙ c.in-End.is in
-    absurd (open-no-end e c.requires)
-
-pub returns-in-Operator : goal.returns-in-Operator
-returns-in-Operator t c =
-    let e = ap (λ (r : Row). r.kind) (sym c.row_at-row.ensures) ∙ c.in-Operator.is in
-    absurd (open-no_operator e c.requires)
+pub unreachable-requires : goal.unreachable-requires
+unreachable-requires t c =
+    let row = ap (λ (r : Row). r.kind) (sym c.row_at.ensures) in
+    ⊎_elim (λ e. open-no-end (row ∙ e) c.requires) (λ e. open-no_operator (row ∙ e.1) c.requires) c.in-End.is

@@ -7,8 +7,8 @@ use Rattle.plan.specs.Rows.{is_voice}
 use Rattle.printer.proofs.Laws.Patterns.{behind-is}
 use Rattle.printer.proofs.patterns.behind_voice.Goals as goal
 
-pub row_at-before-requires : goal.row_at-before-requires
-row_at-before-requires c =
+pub row_at-requires : goal.row_at-requires
+row_at-requires c =
     let a = c.args in
     let i = c.requires.inside in
     record {
@@ -16,9 +16,9 @@ row_at-before-requires c =
       i_value = c.requires.formed (a.row - 1) (omega arith);
     }
 
-pub returns : goal.returns
-returns c =
+pub returns-then-row-ne0 : goal.returns-then-row-ne0
+returns-then-row-ne0 c =
     let a = c.args in
     c.is_voice.ensures
-    ∙ ap (λ (r : Row). is_voice r.kind) c.row_at-before.ensures
+    ∙ ap (λ (r : Row). is_voice r.kind) c.row_at.ensures
     ∙ sym (behind-is a.plan.now a.row (omega arith))

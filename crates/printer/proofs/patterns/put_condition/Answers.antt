@@ -56,7 +56,7 @@ put_spaced-last-requires c =
     let d = c.in-Proximity in
     let t = ap length (proximity-text d.is) in
     let x0 = length-begun 97 (d.a ∷ d.b ∷ d.least ∷ []) d.most in
-    omega (arith, c.requires)
+    rw c.from.ensures (omega (arith, c.requires))
 
 pub put_spaced-at-requires-in-Proximity : goal.put_spaced-at-requires-in-Proximity
 put_spaced-at-requires-in-Proximity c =
@@ -64,8 +64,8 @@ put_spaced-at-requires-in-Proximity c =
     let t = ap length (proximity-text d.is) in
     let x0 = length-begun 97 (d.a ∷ d.b ∷ d.least ∷ []) d.most in
     let x1 = length-begun 97 (d.a ∷ d.b ∷ []) d.least in
-    let x2 = c.put_spaced-last.ensures.ends in
-    omega (arith, c.requires)
+    let x2 = (rw c.from.ensures at c.put_spaced-last.ensures).ends in
+    rw c.from-in-Proximity.ensures (omega (arith, c.requires))
 
 pub put_pair-requires-in-Proximity : goal.put_pair-requires-in-Proximity
 put_pair-requires-in-Proximity c =
@@ -73,8 +73,8 @@ put_pair-requires-in-Proximity c =
     let t = ap length (proximity-text d.is) in
     let x0 = length-begun 97 (d.a ∷ d.b ∷ d.least ∷ []) d.most in
     let x1 = length-begun 97 (d.a ∷ d.b ∷ []) d.least in
-    let x2 = c.put_spaced-last.ensures.ends in
-    let x3 = c.put_spaced-at-in-Proximity.ensures.ends in
+    let x2 = (rw c.from.ensures at c.put_spaced-last.ensures).ends in
+    let x3 = (rw c.from-in-Proximity.ensures at c.put_spaced-at-in-Proximity.ensures).ends in
     omega (arith, c.requires)
 
 pub returns-in-Distance : goal.returns-in-Distance
@@ -99,8 +99,7 @@ returns-in-Window c =
 pub returns-in-Proximity : goal.returns-in-Proximity
 returns-in-Proximity c =
     let d = c.in-Proximity in
-    let least = put-begun 97 (d.a ∷ d.b ∷ []) d.least c.put_spaced-at-in-Proximity.ensures
-    c.put_pair-in-Proximity.ensures in
+    let most = rw c.from.ensures at c.put_spaced-last.ensures in
+    let least = rw c.from-in-Proximity.ensures at c.put_spaced-at-in-Proximity.ensures in
     put_as (proximity-text d.is)
-    (put-begun 97 (d.a ∷ d.b ∷ d.least ∷ []) d.most
-    c.put_spaced-last.ensures least)
+    (put-begun 97 (d.a ∷ d.b ∷ d.least ∷ []) d.most most (put-begun 97 (d.a ∷ d.b ∷ []) d.least least c.put_pair-in-Proximity.ensures))

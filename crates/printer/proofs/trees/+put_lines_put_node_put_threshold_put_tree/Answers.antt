@@ -2,6 +2,7 @@
 -- `Laws/Thresholds.antt` for each piece of a text. Assumes nothing.
 use native.Mathlib.Omega.{arith}
 use mathlib.Core.Path.{ap, sym, ◌∙◌}
+use mathlib.Core.Logic.{⊎_elim}
 use Rattle.plan.specs.declared.row.Operator.{Operator}
 use Rattle.plan.specs.declared.row.Kind.TheVariants as kind
 use Rattle.plan.specs.declared.row.Row.{Row}
@@ -16,13 +17,13 @@ pub put_lines-put_tree-line-requires : goal.put_lines-put_tree-line-requires
 put_lines-put_tree-line-requires t c =
     (omega (arith, c.decreases), lines-tree c.requires)
 
-pub put_lines-put_byte-first-requires : goal.put_lines-put_byte-first-requires
-put_lines-put_byte-first-requires t c =
+pub put_lines-put_byte-at-requires : goal.put_lines-put_byte-at-requires
+put_lines-put_byte-at-requires t c =
     lines-byte c.requires c.put_tree-line.ensures
 
 pub put_lines-returns-then-count-le1 : goal.put_lines-returns-then-count-le1
 put_lines-returns-then-count-le1 t c =
-    lines-first c.requires c.put_tree-line.ensures c.if-count-le1.true c.put_byte-first.ensures
+    lines-first c.requires c.put_tree-line.ensures c.if-count-le1.true c.put_byte-at.ensures
 
 pub put_lines-put_byte-comma-requires : goal.put_lines-put_byte-comma-requires
 put_lines-put_byte-comma-requires t c =
@@ -40,8 +41,8 @@ put_lines-put_lines-requires t c =
     let s = lines-begins h line more in
     (omega (arith, c.decreases), lines-room h line more c.put_byte-comma.ensures)
 
-pub put_lines-returns : goal.put_lines-returns
-put_lines-returns t c =
+pub put_lines-returns-else-count-le1 : goal.put_lines-returns-else-count-le1
+put_lines-returns-else-count-le1 t c =
     lines-put c.requires c.put_tree-line.ensures c.if-count-le1.false c.put_byte-comma.ensures c.put_lines.ensures
 
 pub put_node-put_byte_if-inner-requires : goal.put_node-put_byte_if-inner-requires
@@ -167,30 +168,25 @@ put_threshold-returns t c =
 
 pub put_tree-put_threshold-requires : goal.put_tree-put_threshold-requires
 put_tree-put_threshold-requires t c =
-    let e = ap (λ (r : Row). r.kind) (sym c.row_at-row.ensures) ∙ c.in-Operator.is ∙ ap (λ (o : Operator). kind.Operator o) c.in-AtLeast.is in
+    let e = ap (λ (r : Row). r.kind) (sym c.row_at.ensures) ∙ c.in-Operator.is ∙ ap (λ (o : Operator). kind.Operator o) c.in-AtLeast.is in
     (omega (arith, c.decreases), (level-room e c.requires, e))
 
 pub put_tree-put_pattern-requires : goal.put_tree-put_pattern-requires
 put_tree-put_pattern-requires t c =
-    let e = ap (λ (r : Row). r.kind) (sym c.row_at-row.ensures) ∙ c.in-End.is in
+    let e = ap (λ (r : Row). r.kind) (sym c.row_at.ensures) ∙ c.in-End.is in
     leaf_room e c.requires
 
 pub put_tree-returns-in-AtLeast : goal.put_tree-returns-in-AtLeast
 put_tree-returns-in-AtLeast t c =
-    let e = ap (λ (r : Row). r.kind) (sym c.row_at-row.ensures) ∙ c.in-Operator.is ∙ ap (λ (o : Operator). kind.Operator o) c.in-AtLeast.is in
+    let e = ap (λ (r : Row). r.kind) (sym c.row_at.ensures) ∙ c.in-Operator.is ∙ ap (λ (o : Operator). kind.Operator o) c.in-AtLeast.is in
     level-put e c.put_threshold.ensures
 
 pub put_tree-returns-in-End : goal.put_tree-returns-in-End
 put_tree-returns-in-End t c =
-    let e = ap (λ (r : Row). r.kind) (sym c.row_at-row.ensures) ∙ c.in-End.is in
+    let e = ap (λ (r : Row). r.kind) (sym c.row_at.ensures) ∙ c.in-End.is in
     leaf-put e c.args.level c.put_pattern.ensures
 
-pub put_tree-returns-in-Voice : goal.put_tree-returns-in-Voice
-put_tree-returns-in-Voice t c =
-    let e = ap (λ (r : Row). r.kind) (sym c.row_at-row.ensures) ∙ c.in-Voice.is in
-    absurd (tree-no-voice e c.requires)
-
-pub put_tree-returns-in-Condition : goal.put_tree-returns-in-Condition
-put_tree-returns-in-Condition t c =
-    let e = ap (λ (r : Row). r.kind) (sym c.row_at-row.ensures) ∙ c.in-Condition.is in
-    absurd (tree-no-condition e c.requires)
+pub put_tree-unreachable-requires : goal.put_tree-unreachable-requires
+put_tree-unreachable-requires t c =
+    let row = ap (λ (r : Row). r.kind) (sym c.row_at.ensures) in
+    ⊎_elim (λ e. tree-no-voice (row ∙ e.1) c.requires) (λ e. tree-no-condition (row ∙ e.1) c.requires) c.in-Voice.is

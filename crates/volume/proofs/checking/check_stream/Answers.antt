@@ -130,8 +130,8 @@ returns-then-last-end c =
     ∙ sym (stream_padding _ (version-is (goal.at.returns-then-last-end c).Else-word_at-ne1) (listCount-is (goal.at.returns-then-last-end c).Else-lists-gt-MAX_LISTS) (extent-fits (goal.at.returns-then-last-end c).Else-used-volume)
     (order_is (goal.at.returns-then-last-end c).Else-bad-lists) (tail_wrong-true _ (omega arith)))
 
-pub overflow_cast-postings : goal.overflow_cast-postings
-overflow_cast-postings c =
+pub overflow_cast-result : goal.overflow_cast-result
+overflow_cast-result c =
     let few = few-postings _ _ _ _ c.extent_of-used.ensures c.if-used-volume.false c.requires.volume_bound in
     record { fits = few }
 
