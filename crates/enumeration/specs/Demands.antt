@@ -4,7 +4,7 @@
 --     OneToOne          no two answers are told alike
 --     SampleMatches     the matches of a pattern in the sample of document 01
 -- Which matches there are from a tuple on, their order and the first of them are in `fulltext/Demands.MatchesFromIs`.
-use Rattle.std.specs.Prelude.{ℕ, ◌/◌, ◌<◌, ◌≤◌, ◌≡◌, List, [], ◌∷◌, ◌++◌, length, take, drop, replicate}
+use Rattle.std.specs.Prelude.{ℕ, ◌/◌, ◌<◌, ◌≤◌, ◌≡◌, List, [], ◌∷◌, ◌++◌, length, take, drop, replicate, Result}
 use Rattle.std.proofs.Math.Option.{none, some}
 use Rattle.seq.specs.Lists.{joined}
 use Rattle.seq.specs.Refusals.{refused, answered, stage_in, FirstRefusal}
@@ -19,7 +19,8 @@ use Rattle.plan.specs.Accepted.{pattern_at}
 use Rattle.fulltext.specs.Positions.{limit}
 use Rattle.fulltext.specs.Matches.{matches_in, least_in}
 use Rattle.fulltext.specs.Order.{matches_from}
-use Rattle.enumeration.specs.declared.answers.Matched.{Matched}
+use Rattle.enumeration.specs.declared.answers.Matches.{Matches}
+use Rattle.enumeration.specs.declared.answers.MatchError.{MatchError}
 use Rattle.enumeration.specs.Answers.{Page, said_matched}
 use Rattle.enumeration.specs.Enumerating.{var_count, matches_of, page_of, words_of, matches_answer, matches_out}
 use Rattle.enumeration.specs.Refusals.{MatchesApplies, matches_stages}
@@ -66,9 +67,9 @@ pub record EveryEnumeration {A : Type 0} (form : Form Page A) (v p : List ℕ) (
 unfoldable pub Enumerates : Type 0
 Enumerates = (v p : List ℕ) → Accepted v p → (k d : ℕ) → k < (sizes p).patterns → d < limit → EveryEnumeration plain v p k d
 
--- no two answers have document 01's number and values and the words beside them in common
+-- no two answers have document 01's number and values in common
 unfoldable pub OneToOne : Type 0
-OneToOne = (a b : Matched) → said_matched a ≡ said_matched b → a.next ≡ b.next → a ≡ b
+OneToOne = (a b : Result Matches MatchError) → said_matched a ≡ said_matched b → a ≡ b
 
 -- the sample of document 01: a pattern of variables on lists 1 and 2, with such predicates
 abbrev pub sample_pattern : List Predicate → Pattern

@@ -5,7 +5,7 @@ use Rattle.seq.specs.Lists.{joined}
 use Rattle.seq.specs.Refusals.{Said, refused, answered, laid}
 use Rattle.seq.specs.Pages.{Portion, portion}
 use Rattle.volume.specs.Layout.{lists_of}
-use Rattle.plan.specs.Answers.{Sizes}
+use Rattle.plan.specs.declared.answers.Sizes.{Sizes}
 use Rattle.plan.specs.Patterns.{Pattern}
 use Rattle.plan.specs.Check.{verdict}
 use Rattle.plan.specs.Accepted.{pattern_at}

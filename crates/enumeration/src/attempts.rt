@@ -6,7 +6,7 @@ ghost use Rattle.fulltext.specs.Inner.Bounds.{HeldMatch};
 ghost use Rattle.matcher.specs.Inner.Cursors.{Stretch};
 ghost use Rattle.matcher.specs.Inner.Settling.{Standing, Posed};
 ghost use Rattle.matcher.specs.Inner.Order.{Order};
-ghost use Rattle.enumeration.specs.Inner.Attempts.{StoodFrom, FrontTold, Marked};
+ghost use Rattle.enumeration.specs.Inner.Attempts.{StoodFrom, Marked};
 
 use matcher::{Document, jump, match_from};
 use plan::Outline;
@@ -36,30 +36,11 @@ fn stand_from(
     ensures here_len_unchanged { length here.new ≡ length here.old }
     ensures positions_len_unchanged { length positions.new ≡ length positions.old }
 {
-    let mut i: usize = 0;
-    while i < n {
-        let x = order[i];
+    for &x in &order[..n] {
         here[x] = marks[x];
         if !jump(volume, doc, ends[x], x, lows[x], here, positions) {
             return false;
         }
-        i += 1;
-    }
-    true
-}
-
-// Whether the first n of two tuples are equal.
-fn same_front(a: &[u32], b: &[u32], n: usize) -> bool
-    requires n_in_bounds { n ≤ length a.now }
-    requires n_in_bounds_2 { n ≤ length b.now }
-    ensures { FrontTold result a.now b.now n }
-{
-    let mut x: usize = 0;
-    while x < n {
-        if a[x] != b[x] {
-            return false;
-        }
-        x += 1;
     }
     true
 }
@@ -114,7 +95,7 @@ pub fn match_held(
     ) {
         return false;
     }
-    if !same_front(positions, lows, held) {
+    if positions[..held] != lows[..held] {
         return false;
     }
     match_from(

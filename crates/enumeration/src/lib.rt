@@ -1,6 +1,6 @@
 // Every match of a pattern in one document, in order.
 //
-// `matches` has no `requires`; what it answers, the match that it names beside, and each word that it
+// `matches` has no `requires`; what it answers, with the match that it names, and each word that it
 // leaves in the lent buffer are equations with definitions of `specs/`. That calls one after another,
 // each from the match that the last one names, write every match once and in order is `Enumerates`
 // in `specs/Demands.antt`.
@@ -17,5 +17,5 @@ mod attempts;
 mod enumerate;
 mod next;
 
-pub use answers::{Enumerated, Matched};
+pub use answers::{MatchError, Matches};
 pub use enumerate::matches;

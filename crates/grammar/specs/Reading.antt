@@ -6,12 +6,16 @@
 use Rattle.std.specs.Prelude.{ℕ, suc, ◌+◌, ◌-◌, ◌*◌, max, Bool, true, cond, ◌&&◌, List, [], ◌∷◌, ◌++◌, eqb, leb, ltb, length}
 use Rattle.std.proofs.Math.Option.{Option, none, some}
 use Rattle.seq.specs.Decimal.{digit}
-pub use Rattle.grammar.specs.declared.tokens.Number.{Number}
-pub use Rattle.grammar.specs.declared.tokens.Number.TheVariants.{Fresh as fresh, Digits as digits}
+use Rattle.std.specs.Prelude.{Option as Maybe}
+pub use Rattle.std.specs.Prelude.{None as fresh, Some as digits}
 use Rattle.grammar.specs.Text.{lead, gap_after}
 use Rattle.grammar.specs.Grammar.{Word, near, before, same, span, apart, letter_of, arity, most_of, Figure, Joint, both, without}
 use Rattle.grammar.specs.Grammar.{joint_byte, Line, one, either, Part, alone, join, Item, figure, round, at_least, Lines, nil, snoc}
 use Rattle.grammar.specs.Grammar.{line_count, separator, open_text, written, part_text, lines_text, fewest_lines, most_lines}
+
+-- a number as far as it has been read: none where its first digit is still to come, or its value so far
+abbrev pub Number : Type 0
+Number = Maybe ℕ
 
 -- the value of a number so far
 abbrev pub value_of : Number → ℕ

@@ -4,4 +4,4 @@
 
 mod tokens;
 
-pub use tokens::{Connective, Number, Word};
+pub use tokens::{Connective, Word};

@@ -1,7 +1,7 @@
 // What the conditions of a typed line are made of, and what joins its answers.
 
 // What a condition begins with: one letter for each kind of condition.
-#[derive(Clone, Copy)]
+#[derive(Clone, Copy, Debug, PartialEq, Eq)]
 pub enum Word {
     // `n`: NEAR
     Near,
@@ -15,15 +15,8 @@ pub enum Word {
     Apart,
 }
 
-// A number as far as it has been read: its first digit is still to come, or its value so far.
-#[derive(Clone, Copy)]
-pub enum Number {
-    Fresh,
-    Digits(u32),
-}
-
 // What joins two answers: one byte for each.
-#[derive(Clone, Copy)]
+#[derive(Clone, Copy, Debug, PartialEq, Eq)]
 pub enum Connective {
     // `&`: BOTH
     And,

@@ -2,14 +2,14 @@
 --     JoinRefuses    demand 1 for joining
 --     Joins          the joined volume is accepted, and reads as exactly the joined lists
 --     OneToOne       no two answers are told alike
-use Rattle.std.specs.Prelude.{ℕ, ◌*◌, ◌≡◌, ◌↔◌, List, ◌++◌, length, take, drop}
+use Rattle.std.specs.Prelude.{ℕ, ◌*◌, ◌≡◌, ◌↔◌, Result, List, ◌++◌, length, take, drop}
 use Rattle.seq.specs.Refusals.{refused, answered, FirstRefusalOf}
 use Rattle.block.specs.Bytes.{IsBytes}
 use Rattle.volume.specs.Layout.{lists_of, blocks_for}
 use Rattle.volume.specs.Check.{Accepted}
 use Rattle.volume.specs.Write.{volume_of}
 use Rattle.volume.specs.Refusals.{VolumeApplies}
-use Rattle.join.specs.declared.answers.Joined.{Joined}
+use Rattle.join.specs.declared.answers.JoinError.{JoinError}
 use Rattle.join.specs.Answers.{said_joined}
 use Rattle.join.specs.Join.{lists_of_both, join_answer, join_out}
 use Rattle.join.specs.Refusals.{extent_of_both, JoinApplies}
@@ -49,4 +49,4 @@ Joins =
 
 -- no two answers have document 02's number and values in common
 pub record OneToOne : Type 0 where
-  pub joined : (a b : Joined) → said_joined a ≡ said_joined b → a ≡ b
+  pub joined : (a b : Result ℕ JoinError) → said_joined a ≡ said_joined b → a ≡ b

@@ -1,10 +1,9 @@
-// What joining answers. `specs/Answers.antt` gives document 02's number and values for each case.
+// Why two volumes are not joined. `specs/Answers.antt` gives document 02's number and values for
+// each case.
 use volume::Refusal;
 
-#[derive(Clone, Copy)]
-pub enum Joined {
-    // The number of blocks of the joined volume, which are at the front of the output.
-    Blocks(u32),
+#[derive(Clone, Copy, Debug, PartialEq, Eq)]
+pub enum JoinError {
     // The first volume is refused.
     First(Refusal),
     // The second volume is refused.

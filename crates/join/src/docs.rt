@@ -1,87 +1,72 @@
 // The documents that the postings of a volume are in.
-ghost use Rattle.std.specs.Prelude.{◌≡◌, true, ◌+◌, ◌≤◌, min, max};
+ghost use Rattle.std.specs.Prelude.{◌≡◌, true, ◌+◌, ◌≤◌};
 ghost use Rattle.seq.specs.Lists.{joined, rises};
 ghost use Rattle.seq.specs.Numbers.{run};
 ghost use Rattle.volume.specs.Layout.{word, list_count, stream_length, lists_of};
 ghost use Rattle.volume.specs.Check.{Accepted};
-ghost use Rattle.join.specs.Inner.Docs.{range_of, clash};
+ghost use Rattle.join.specs.Inner.Docs.{wider, range_of, clash};
 
 use volume::{Posting, count_at, lead, posting_at};
 
-// The documents of some postings: the lowest one, 65,536 where there is no posting; and the number
-// behind the last one, 0 where there is no posting.
+// The lowest and the last document of some postings.
 #[derive(Clone, Copy)]
 pub struct DocRange {
     pub low: u32,
-    pub past: u32,
-}
-
-// The documents of no posting.
-fn no_docs() -> DocRange
-    ensures { result ≡ record { low = 65536; past = 0 } }
-{
-    DocRange {
-        low: Posting::DOCS,
-        past: 0,
-    }
+    pub last: u32,
 }
 
 // The documents of a list that rises: those of its first and of its last posting.
-fn list_docs(volume: &[u8], start: usize, count: usize) -> DocRange
+fn list_docs(volume: &[u8], start: usize, count: usize) -> Option<DocRange>
     requires count_bound { start + count ≤ stream_length volume.now }
     requires count_value { rises (run (word volume.now) start count) ≡ true }
     ensures { result ≡ range_of (run (word volume.now) start count) }
 {
     if count == 0 {
-        return no_docs();
+        return None;
     }
     let low = posting_at(volume, start).doc();
     let last = posting_at(volume, start + count - 1).doc();
-    let past = last + 1;
-    DocRange { low, past }
+    Some(DocRange { low, last })
 }
 
 // The documents of both.
-fn wider(a: DocRange, b: DocRange) -> DocRange
-    ensures low_value { result.low ≡ min a.low b.low }
-    ensures past_value { result.past ≡ max a.past b.past }
+fn wider(a: Option<DocRange>, b: Option<DocRange>) -> Option<DocRange>
+    ensures { result ≡ wider a b }
 {
-    let low = if a.low < b.low { a.low } else { b.low };
-    let past = if a.past < b.past { b.past } else { a.past };
-    DocRange { low, past }
+    match (a, b) {
+        (Some(a), Some(b)) => Some(DocRange {
+            low: a.low.min(b.low),
+            last: a.last.max(b.last),
+        }),
+        (None, range) | (range, None) => range,
+    }
 }
 
 // The documents of all lists of an accepted volume.
-pub fn doc_range(volume: &[u8], lists: usize) -> DocRange
+pub fn doc_range(volume: &[u8], lists: usize) -> Option<DocRange>
     requires accepted { Accepted volume.now }
     requires lists_value { lists ≡ list_count volume.now }
     ensures { result ≡ range_of (joined (lists_of volume.now)) }
 {
-    let mut range = no_docs();
+    let mut range = None;
     let mut start = lead(lists);
-    let mut i: usize = 0;
-    while i < lists {
+    for i in 0..lists {
         let count = count_at(volume, i) as usize;
         range = wider(range, list_docs(volume, start, count));
         start += count;
-        i += 1;
     }
     range
 }
 
 // Whether a document of the second, raised, passes 65,535 or is not above all of the first. The sums
 // are of 64 bits.
-pub fn docs_clash(first: DocRange, second: DocRange, raise: u32) -> bool
+pub fn docs_clash(first: Option<DocRange>, second: Option<DocRange>, raise: u32) -> bool
     ensures { result ≡ clash raise first second }
 {
-    if second.past == 0 {
+    let Some(second) = second else {
         return false;
-    }
-    let low = second.low as u64 + raise as u64;
-    if low < first.past as u64 {
-        return true;
-    }
-    let past = second.past as u64 + raise as u64;
-    let most = Posting::DOCS as u64;
-    most < past
+    };
+    let low = u64::from(second.low) + u64::from(raise);
+    let last = u64::from(second.last) + u64::from(raise);
+    last > u64::from(Posting::LAST_DOC) || first.is_some_and(|first| low <= u64::from(first.last))
 }

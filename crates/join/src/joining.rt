@@ -9,21 +9,20 @@ ghost use Rattle.join.specs.Refusals.{extent_of_both};
 ghost use Rattle.join.specs.Inner.Reading.{joined_word, Lifts, Joinable};
 ghost use Rattle.join.specs.Inner.Joining.{rest_out};
 
-use super::answers::Joined;
+use super::answers::JoinError;
 use super::docs::{doc_range, docs_clash};
 use super::reading::{front, next_block};
-use volume::{
-    BLOCK_BYTES, BLOCK_WORDS, Checked, LAST_WORD, MAX_WORDS, Posting, check, extent_of, put_made,
-};
+use volume::{BLOCK_BYTES, BLOCK_WORDS, MAX_WORDS, Posting, Sizes, check, extent_of, put_made};
 
 // What is added to a posting that is raised by so many documents; 0 where no posting can be.
 fn lift_of(raise: u32) -> u32
     ensures { raise ≤ 65535 → result ≡ 65536 * raise }
 {
-    if Posting::LAST_DOC < raise {
-        return 0;
+    if raise <= Posting::LAST_DOC {
+        raise * Posting::POSITIONS
+    } else {
+        0
     }
-    raise * Posting::POSITIONS
 }
 
 // Stores the n blocks of the joined volume.
@@ -46,13 +45,10 @@ fn put_joined(
 {
     let mut words: [u32; BLOCK_WORDS] = [0; BLOCK_WORDS];
     let mut merge = front(lists);
-    let mut k: usize = 0;
-    while k < n {
+    for k in 0..n {
         merge = next_block(first, second, lift, lists, all, k, merge, &mut words);
         let start = BLOCK_BYTES * k;
-        let end = start + BLOCK_BYTES;
-        put_made(&words, k, &mut out[start..end]);
-        k += 1;
+        put_made(&words, k, &mut out[start..start + BLOCK_BYTES]);
     }
 }
 
@@ -60,68 +56,50 @@ fn put_joined(
 fn join_checked(
     first: &[u8],
     second: &[u8],
-    lists: usize,
-    postings: usize,
-    more: usize,
+    one: Sizes,
+    two: Sizes,
     raise: u32,
     out: &mut [u8],
-) -> Joined
+) -> Result<u32, JoinError>
     requires accepted { Accepted first.now }
     requires accepted_2 { Accepted second.now }
-    requires lists_value { lists ≡ list_count first.now }
-    requires lists_value_2 { lists ≡ list_count second.now }
-    requires postings_value { postings ≡ posting_count first.now }
-    requires more_value { more ≡ posting_count second.now }
+    requires lists_value { one.lists ≡ list_count first.now }
+    requires lists_value_2 { one.lists ≡ list_count second.now }
+    requires postings_value { one.postings ≡ posting_count first.now }
+    requires more_value { two.postings ≡ posting_count second.now }
     ensures result_value { said_joined result
         ≡ record { volume = 0; said = join_rest raise first.now second.now (length out.old) } }
     ensures out_after { out.new ≡ rest_out raise first.now second.now out.old }
 {
+    let lists = one.lists as usize;
     if docs_clash(doc_range(first, lists), doc_range(second, lists), raise) {
-        return Joined::Documents;
+        return Err(JoinError::Documents);
     }
+    let postings = one.postings as usize;
+    let more = two.postings as usize;
     let words = extent_of(lists, postings + more);
-    if MAX_WORDS < words {
-        return Joined::TooLarge;
+    if words > MAX_WORDS {
+        return Err(JoinError::TooLarge);
     }
-    let n = (words + LAST_WORD) / BLOCK_WORDS;
-    let size = BLOCK_BYTES * n;
-    if out.len() < size {
-        return Joined::Short;
+    let n = words.div_ceil(BLOCK_WORDS);
+    if out.len() < BLOCK_BYTES * n {
+        return Err(JoinError::Short);
     }
     let all = extent_of(lists, postings) + extent_of(lists, more);
     put_joined(first, second, lift_of(raise), lists, all, n, out);
-    let blocks = n as u32;
-    Joined::Blocks(blocks)
+    Ok(n as u32)
 }
 
 // Writes the volume of the first's lists, each with the second's behind it, raised by so many
 // documents, to the front of the output, and answers the number of its blocks.
-pub fn join(first: &[u8], second: &[u8], raise: u32, out: &mut [u8]) -> Joined
+pub fn join(first: &[u8], second: &[u8], raise: u32, out: &mut [u8]) -> Result<u32, JoinError>
     ensures result_value { said_joined result ≡ join_answer raise first.now second.now (length out.old) }
     ensures out_after { out.new ≡ join_out raise first.now second.now out.old }
 {
-    let one = check(first);
-    match one {
-        Checked::Refused(why) => Joined::First(why),
-        Checked::Accepted(lists, postings) => {
-            let two = check(second);
-            match two {
-                Checked::Refused(why) => Joined::Second(why),
-                Checked::Accepted(others, more) => {
-                    if lists != others {
-                        return Joined::ListCounts;
-                    }
-                    join_checked(
-                        first,
-                        second,
-                        lists as usize,
-                        postings as usize,
-                        more as usize,
-                        raise,
-                        out,
-                    )
-                }
-            }
-        }
+    let one = check(first).map_err(JoinError::First)?;
+    let two = check(second).map_err(JoinError::Second)?;
+    if one.lists != two.lists {
+        return Err(JoinError::ListCounts);
     }
+    join_checked(first, second, one, two, raise, out)
 }

@@ -41,12 +41,7 @@ fn run_length(at: usize, end: usize, room: usize) -> usize
     requires { at ≤ end }
     ensures { result ≡ min (min (end - at) room) (126 - at % 126) }
 {
-    let mut n = end - at;
-    if room < n {
-        n = room;
-    }
-    let block = BLOCK_WORDS - at % BLOCK_WORDS;
-    if block < n { block } else { n }
+    (end - at).min(room).min(BLOCK_WORDS - at % BLOCK_WORDS)
 }
 
 // Copies n words of one block of a volume, from stream index `from` on, into words from `to` on, with
@@ -58,10 +53,8 @@ fn copy_run(volume: &[u8], from: usize, n: usize, lift: u32, words: &mut [u32], 
     requires liftable { Liftable lift volume.now from n }
     ensures { words.new ≡ made (λ i. word volume.now i + lift) from to (to + n) words.old }
 {
-    let mut j: usize = 0;
-    while j < n {
+    for j in 0..n {
         words[to + j] = word_behind(volume, from, j) + lift;
-        j += 1;
     }
 }
 
@@ -79,10 +72,9 @@ fn enter(first: &[u8], second: &[u8], merge: Merge) -> Merge
     let i = merge.lists;
     Merge {
         lists: i + 1,
-        first: merge.first,
         stop: merge.stop + count_at(first, i) as usize,
-        second: merge.second,
         end: merge.end + count_at(second, i) as usize,
+        ..merge
     }
 }
 
@@ -103,22 +95,16 @@ fn turn(first: &[u8], second: &[u8], lift: u32, merge: Merge, to: usize, words: 
         let n = run_length(merge.first, merge.stop, room);
         copy_run(first, merge.first, n, 0, words, to);
         return Merge {
-            lists: merge.lists,
             first: merge.first + n,
-            stop: merge.stop,
-            second: merge.second,
-            end: merge.end,
+            ..merge
         };
     }
     if merge.second < merge.end {
         let n = run_length(merge.second, merge.end, room);
         copy_run(second, merge.second, n, lift, words, to);
         return Merge {
-            lists: merge.lists,
-            first: merge.first,
-            stop: merge.stop,
             second: merge.second + n,
-            end: merge.end,
+            ..merge
         };
     }
     enter(first, second, merge)
@@ -161,14 +147,14 @@ fn head_word(first: &[u8], second: &[u8], lists: usize, i: usize) -> u32
     requires i_bound { i < lead lists }
     ensures { result ≡ head_word first.now second.now i }
 {
-    if i == 0 {
-        return 1;
+    match i {
+        0 => 1,
+        1 => lists as u32,
+        _ => {
+            let list = i - entry(0);
+            count_at(first, list) + count_at(second, list)
+        }
     }
-    if i == 1 {
-        return lists as u32;
-    }
-    let list = i - entry(0);
-    count_at(first, list) + count_at(second, list)
 }
 
 // Makes the words of a block from stream index `from` on that stand in front of the postings, and
@@ -181,26 +167,11 @@ fn put_head(first: &[u8], second: &[u8], lists: usize, from: usize, words: &mut 
     ensures value { result ≡ min 126 (lead lists - from) }
     ensures words_after { words.new ≡ made (head_word first.now second.now) from 0 result words.old }
 {
-    let end = lead(lists);
-    let mut j: usize = 0;
-    while j < BLOCK_WORDS && from + j < end {
+    let head = lead(lists).saturating_sub(from).min(BLOCK_WORDS);
+    for j in 0..head {
         words[j] = head_word(first, second, lists, from + j);
-        j += 1;
     }
-    j
-}
-
-// Stores zeros in the words of a block from word `from` on.
-fn put_zeros(words: &mut [u32], from: usize)
-    requires from_bound { from ≤ 126 }
-    requires words_len { length words.old ≡ 126 }
-    ensures { words.new ≡ made (λ i. 0) 0 from 126 words.old }
-{
-    let mut j = from;
-    while j < BLOCK_WORDS {
-        words[j] = 0;
-        j += 1;
-    }
+    head
 }
 
 // Makes the words of block k, and goes on behind them.
@@ -227,6 +198,6 @@ pub fn next_block(
     let head = put_head(first, second, lists, BLOCK_WORDS * k, words);
     let here = fill(first, second, lift, all, merge, head, words);
     let to = head + (here.first + here.second - (merge.first + merge.second));
-    put_zeros(words, to);
+    words[to..].fill(0);
     here
 }

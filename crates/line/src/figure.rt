@@ -3,9 +3,8 @@ ghost use Rattle.std.specs.Prelude.{◌≡◌, ◌≤◌, ◌<◌, length};
 ghost use Rattle.line.specs.Inner.Store as store;
 ghost use Rattle.line.specs.Inner.Reads.{FigureRead};
 
-use super::reading::Reached;
+use super::reading::{Reached, Stop};
 use super::steps::{Next, State, Words, step};
-use grammar::Number;
 
 const END: Words = Words {
     kind: 6,
@@ -29,19 +28,18 @@ pub fn put(out: &mut [u32], row: usize, words: Words)
 }
 
 // Reads a pattern whose opening bracket stands in front of `from`; its rows are from `first` on.
-pub fn figure(text: &[u8], from: usize, first: usize, out: &mut [u32]) -> Reached
+pub fn figure(text: &[u8], from: usize, first: usize, out: &mut [u32]) -> Result<Reached, Stop>
     requires { (from ≤ length text.now) × (length text.now ≤ 2048) × (first < from) }
     ensures { FigureRead text.now from first out.old out.new result }
 {
-    let mut state = State::Listing(Number::Fresh);
-    let mut at = from;
+    let mut state = State::Listing(None);
     let mut rows = first;
-    while at < text.len() {
-        let next = step(state, text[at]);
+    for at in from..text.len() {
+        let Some(next) = step(state, text[at]) else {
+            return Err(Stop::Broken(at));
+        };
         match next {
-            Next::Goes(goes) => {
-                state = goes;
-            }
+            Next::Goes(goes) => state = goes,
             Next::Emits(words, goes) => {
                 put(out, rows, words);
                 rows += 1;
@@ -50,13 +48,12 @@ pub fn figure(text: &[u8], from: usize, first: usize, out: &mut [u32]) -> Reache
             Next::Closes(words) => {
                 put(out, rows, words);
                 put(out, rows + 1, END);
-                return Reached::At(at + 1, rows + 2);
-            }
-            Next::Stuck => {
-                return Reached::Broken(at);
+                return Ok(Reached {
+                    at: at + 1,
+                    rows: rows + 2,
+                });
             }
         }
-        at += 1;
     }
-    Reached::Broken(at)
+    Err(Stop::Broken(text.len()))
 }

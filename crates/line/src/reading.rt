@@ -8,23 +8,22 @@ ghost use Rattle.line.specs.Inner.Store.{stored};
 
 use super::figure::{figure, put};
 use super::steps::Words;
+use grammar::Connective;
 
-// How far the reading comes: behind what was read, with the number of rows so far; or a byte that
-// breaks the grammar, or that opens a bracket inside eight.
-#[derive(Clone, Copy)]
-pub enum Reached {
-    At(usize, usize),
-    Broken(usize),
-    Deep(usize),
+// How far the reading comes: the byte behind what was read, and the number of rows so far.
+#[derive(Clone, Copy, Debug, PartialEq, Eq)]
+pub struct Reached {
+    pub at: usize,
+    pub rows: usize,
 }
 
-// The operator that waits for its second side.
-#[derive(Clone, Copy)]
-pub enum Pending {
-    Nothing,
-    Both,
-    Either,
-    Without,
+// Why the reading comes no further, with the byte.
+#[derive(Clone, Copy, Debug, PartialEq, Eq)]
+pub enum Stop {
+    // It breaks the grammar.
+    Broken(usize),
+    // It opens a bracket inside eight.
+    Deep(usize),
 }
 
 // The most brackets that may be open at once.
@@ -67,27 +66,23 @@ fn at_least(least: u32, of: u32) -> Words
     }
 }
 
-// Stores the row of an operator behind its second side; gives the number of rows.
-fn settle(out: &mut [u32], rows: usize, waiting: Pending) -> usize
+// Stores the row of the operator that waited for its second side, behind that side; gives the
+// number of rows.
+fn settle(out: &mut [u32], rows: usize, waiting: Option<Connective>) -> usize
     requires { rows ≤ 4095 }
     ensures out_after { out.new ≡ stored out.old rows (pending_rows waiting) }
     ensures value { result ≡ rows + length (pending_rows waiting) }
 {
-    match waiting {
-        Pending::Nothing => rows,
-        Pending::Both => {
-            put(out, rows, BOTH);
-            rows + 1
-        }
-        Pending::Either => {
-            put(out, rows, EITHER);
-            rows + 1
-        }
-        Pending::Without => {
-            put(out, rows, WITHOUT);
-            rows + 1
-        }
-    }
+    let Some(connective) = waiting else {
+        return rows;
+    };
+    let words = match connective {
+        Connective::And => BOTH,
+        Connective::Or => EITHER,
+        Connective::AndNot => WITHOUT,
+    };
+    put(out, rows, words);
+    rows + 1
 }
 
 // Reads a line from `at` on, inside so many brackets, where `waiting` waits for its first part.
@@ -97,27 +92,18 @@ fn line(
     at: usize,
     depth: usize,
     first: usize,
-    waiting: Pending,
+    waiting: Option<Connective>,
     out: &mut [u32],
-) -> Reached
+) -> Result<Reached, Stop>
     requires { (at ≤ length text.now) × (length text.now ≤ 2048) × (depth ≤ 8) × (first + length (pending_rows waiting) ≤ at) }
     ensures { LineRead text.now at depth first waiting out.old out.new result }
 {
-    let begun = part(text, at, depth, first, Pending::Nothing, out);
-    match begun {
-        Reached::Broken(q) => Reached::Broken(q),
-        Reached::Deep(q) => Reached::Deep(q),
-        Reached::At(end, n) => {
-            let rows = settle(out, n, waiting);
-            if text.len() <= end {
-                return Reached::At(end, rows);
-            }
-            if text[end] == b'|' {
-                return line(text, end + 1, depth, rows, Pending::Either, out);
-            }
-            Reached::At(end, rows)
-        }
+    let Reached { at: end, rows } = part(text, at, depth, first, None, out)?;
+    let rows = settle(out, rows, waiting);
+    if text.get(end) == Some(&b'|') {
+        return line(text, end + 1, depth, rows, Some(Connective::Or), out);
     }
+    Ok(Reached { at: end, rows })
 }
 
 // Reads items joined by `&` and `!`.
@@ -127,95 +113,76 @@ fn part(
     at: usize,
     depth: usize,
     first: usize,
-    waiting: Pending,
+    waiting: Option<Connective>,
     out: &mut [u32],
-) -> Reached
+) -> Result<Reached, Stop>
     requires { (at ≤ length text.now) × (length text.now ≤ 2048) × (depth ≤ 8) × (first + length (pending_rows waiting) ≤ at) }
     ensures { PartRead text.now at depth first waiting out.old out.new result }
 {
-    let begun = item(text, at, depth, first, out);
-    match begun {
-        Reached::Broken(q) => Reached::Broken(q),
-        Reached::Deep(q) => Reached::Deep(q),
-        Reached::At(end, n) => {
-            let rows = settle(out, n, waiting);
-            if text.len() <= end {
-                return Reached::At(end, rows);
-            }
-            if text[end] == b'&' {
-                return part(text, end + 1, depth, rows, Pending::Both, out);
-            }
-            if text[end] == b'!' {
-                return part(text, end + 1, depth, rows, Pending::Without, out);
-            }
-            Reached::At(end, rows)
-        }
+    let Reached { at: end, rows } = item(text, at, depth, first, out)?;
+    let rows = settle(out, rows, waiting);
+    let next = text.get(end);
+    if next == Some(&b'&') {
+        return part(text, end + 1, depth, rows, Some(Connective::And), out);
     }
+    if next == Some(&b'!') {
+        return part(text, end + 1, depth, rows, Some(Connective::AndNot), out);
+    }
+    Ok(Reached { at: end, rows })
 }
 
 // Reads a figure, a line in round brackets, or so many of several lines.
 #[cycle(item_line_lines_part_several)]
-fn item(text: &[u8], at: usize, depth: usize, first: usize, out: &mut [u32]) -> Reached
+fn item(
+    text: &[u8],
+    at: usize,
+    depth: usize,
+    first: usize,
+    out: &mut [u32],
+) -> Result<Reached, Stop>
     requires { (at ≤ length text.now) × (length text.now ≤ 2048) × (depth ≤ 8) × (first ≤ at) }
     ensures { ItemRead text.now at depth first out.old out.new result }
 {
-    if text.len() <= at {
-        return Reached::Broken(at);
-    }
-    if text[at] == b'[' {
-        return figure(text, at + 1, first, out);
-    }
-    if text[at] == b'<' {
-        if MOST_DEPTH <= depth {
-            return Reached::Deep(at);
-        }
-        return several(text, at + 1, depth + 1, first, out);
-    }
-    if text[at] != b'(' {
-        return Reached::Broken(at);
-    }
-    if MOST_DEPTH <= depth {
-        return Reached::Deep(at);
-    }
-    let inner = line(text, at + 1, depth + 1, first, Pending::Nothing, out);
-    match inner {
-        Reached::Broken(q) => Reached::Broken(q),
-        Reached::Deep(q) => Reached::Deep(q),
-        Reached::At(end, rows) => {
-            if text.len() <= end {
-                return Reached::Broken(end);
+    let Some(&byte) = text.get(at) else {
+        return Err(Stop::Broken(at));
+    };
+    match byte {
+        b'[' => figure(text, at + 1, first, out),
+        b'<' if depth < MOST_DEPTH => several(text, at + 1, depth + 1, first, out),
+        b'(' if depth < MOST_DEPTH => {
+            let Reached { at: end, rows } = line(text, at + 1, depth + 1, first, None, out)?;
+            if text.get(end) != Some(&b')') {
+                return Err(Stop::Broken(end));
             }
-            if text[end] != b')' {
-                return Reached::Broken(end);
-            }
-            Reached::At(end + 1, rows)
+            Ok(Reached { at: end + 1, rows })
         }
+        b'<' | b'(' => Err(Stop::Deep(at)),
+        _ => Err(Stop::Broken(at)),
     }
 }
 
 // Reads the number and the lines behind a `<`, to its `>`.
 #[cycle(item_line_lines_part_several)]
-fn several(text: &[u8], at: usize, depth: usize, first: usize, out: &mut [u32]) -> Reached
+fn several(
+    text: &[u8],
+    at: usize,
+    depth: usize,
+    first: usize,
+    out: &mut [u32],
+) -> Result<Reached, Stop>
     requires { (at ≤ length text.now) × (length text.now ≤ 2048) × (depth ≤ 8) × (first ≤ at) }
     ensures { SeveralRead text.now at depth first out.old out.new result }
 {
-    if text.len() <= at {
-        return Reached::Broken(at);
+    let Some(&byte) = text.get(at) else {
+        return Err(Stop::Broken(at));
+    };
+    if !matches!(byte, b'1'..=b'8') {
+        return Err(Stop::Broken(at));
     }
-    let byte = text[at];
-    if byte < b'1' {
-        return Reached::Broken(at);
+    if text.get(at + 1) != Some(&b':') {
+        return Err(Stop::Broken(at + 1));
     }
-    if b'8' < byte {
-        return Reached::Broken(at);
-    }
-    if text.len() <= at + 1 {
-        return Reached::Broken(at + 1);
-    }
-    if text[at + 1] != b':' {
-        return Reached::Broken(at + 1);
-    }
-    lines(text, at + 2, depth, (byte - b'0') as u32, 0, first, out)
+    lines(text, at + 2, depth, u32::from(byte - b'0'), 0, first, out)
 }
 
 // Reads lines joined by commas, to the `>`, where `least` of them are asked for and `count` have been
@@ -229,55 +196,37 @@ fn lines(
     count: u32,
     first: usize,
     out: &mut [u32],
-) -> Reached
+) -> Result<Reached, Stop>
     requires at_in_bounds { (at ≤ length text.now) × (length text.now ≤ 2048) × (depth ≤ 8) × (first ≤ at) }
     requires le_least { (1 ≤ least) × (least ≤ 8) × (count < 8) }
     ensures { LinesRead text.now at depth least count first out.old out.new result }
 {
-    let begun = line(text, at, depth, first, Pending::Nothing, out);
-    match begun {
-        Reached::Broken(q) => Reached::Broken(q),
-        Reached::Deep(q) => Reached::Deep(q),
-        Reached::At(end, rows) => {
-            if text.len() <= end {
-                return Reached::Broken(end);
-            }
-            let read = count + 1;
-            if text[end] == b',' {
-                if MOST_LINES <= read {
-                    return Reached::Broken(end);
-                }
-                return lines(text, end + 1, depth, least, read, rows, out);
-            }
-            if text[end] != b'>' {
-                return Reached::Broken(end);
-            }
-            if read < FEWEST_LINES {
-                return Reached::Broken(end);
-            }
-            if read < least {
-                return Reached::Broken(end);
-            }
+    let Reached { at: end, rows } = line(text, at, depth, first, None, out)?;
+    let read = count + 1;
+    let Some(&byte) = text.get(end) else {
+        return Err(Stop::Broken(end));
+    };
+    match byte {
+        b',' if read < MOST_LINES => lines(text, end + 1, depth, least, read, rows, out),
+        b'>' if FEWEST_LINES <= read && least <= read => {
             put(out, rows, at_least(least, read));
-            Reached::At(end + 1, rows + 1)
+            Ok(Reached {
+                at: end + 1,
+                rows: rows + 1,
+            })
         }
+        _ => Err(Stop::Broken(end)),
     }
 }
 
 // Reads a whole text; the rows of a line are stored from the front, as far as they fit.
-pub fn read_rows(text: &[u8], out: &mut [u32]) -> Reached
+pub fn read_rows(text: &[u8], out: &mut [u32]) -> Result<Reached, Stop>
     requires { length text.now ≤ 2048 }
     ensures { WholeRead text.now out.old out.new result (grammar.reading text.now) }
 {
-    let whole = line(text, 0, 0, 0, Pending::Nothing, out);
-    match whole {
-        Reached::Broken(q) => Reached::Broken(q),
-        Reached::Deep(q) => Reached::Deep(q),
-        Reached::At(end, rows) => {
-            if end < text.len() {
-                return Reached::Broken(end);
-            }
-            Reached::At(end, rows)
-        }
+    let whole = line(text, 0, 0, 0, None, out)?;
+    if whole.at < text.len() {
+        return Err(Stop::Broken(whole.at));
     }
+    Ok(whole)
 }

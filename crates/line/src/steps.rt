@@ -4,25 +4,26 @@ ghost use Rattle.std.specs.Prelude.{◌≡◌, ◌≤◌, ◌<◌};
 ghost use Rattle.grammar.specs.Grammar as grammar;
 ghost use Rattle.line.specs.Inner.States as states;
 
-use grammar::{Number, Word};
+use grammar::Word;
 use plan::LEAST_UNIT;
 
-// Where in a pattern the reading is.
-#[derive(Clone, Copy)]
+// Where in a pattern the reading is. The number that is being read is none where its first digit is
+// still to come.
+#[derive(Clone, Copy, Debug, PartialEq, Eq)]
 pub enum State {
     // In its list numbers.
-    Listing(Number),
+    Listing(Option<u32>),
     // Behind `;`.
     Semicolon,
     // Behind the letter of a condition.
     Lettered(Word),
     // In the numbers of a condition: how many stand in front of this one, and the first three of
     // them.
-    Counting(Word, u32, u32, u32, u32, Number),
+    Counting(Word, u32, u32, u32, u32, Option<u32>),
 }
 
 // The words of a row.
-#[derive(Clone, Copy)]
+#[derive(Clone, Copy, Debug, PartialEq, Eq)]
 pub struct Words {
     pub kind: u32,
     pub a: u32,
@@ -31,62 +32,34 @@ pub struct Words {
 }
 
 // What a byte makes of a state.
-#[derive(Clone, Copy)]
+#[derive(Clone, Copy, Debug, PartialEq, Eq)]
 pub enum Next {
     Goes(State),
     // A row is whole.
     Emits(Words, State),
     // The last row is whole, and END follows.
     Closes(Words),
-    // No line of the grammar has the byte there.
-    Stuck,
-}
-
-// A number with one more digit, or none.
-#[derive(Clone, Copy)]
-pub enum Grown {
-    Value(u32),
-    Not,
-}
-
-// A byte as a number.
-fn wide(x: u8) -> u32
-    ensures { result ≡ x }
-{
-    x as u32
 }
 
 // A number with one more digit, where the byte is one, no zero stands in front and the limit is
 // kept.
-fn grow(number: Number, byte: u8, most: u32) -> Grown
+fn grow(number: Option<u32>, byte: u8, most: u32) -> Option<u32>
     requires { states.NumberMost 65536 number }
     ensures { result ≡ states.grown_by most number byte }
 {
-    if byte < b'0' {
-        return Grown::Not;
+    if !byte.is_ascii_digit() {
+        return None;
     }
-    if b'9' < byte {
-        return Grown::Not;
+    let digit = u32::from(byte - b'0');
+    let value = match number {
+        None => digit,
+        Some(0) => return None,
+        Some(n) => 10 * n + digit,
+    };
+    if most < value {
+        return None;
     }
-    let d = wide(byte) - 48;
-    match number {
-        Number::Fresh => {
-            if most < d {
-                return Grown::Not;
-            }
-            Grown::Value(d)
-        }
-        Number::Digits(n) => {
-            if n == 0 {
-                return Grown::Not;
-            }
-            let value = n * 10 + d;
-            if most < value {
-                return Grown::Not;
-            }
-            Grown::Value(value)
-        }
-    }
+    Some(value)
 }
 
 // How many numbers a condition has.
@@ -95,8 +68,7 @@ fn arity(word: Word) -> u32
 {
     match word {
         Word::Near => 3,
-        Word::Before => 2,
-        Word::Same => 2,
+        Word::Before | Word::Same => 2,
         Word::Span => 1,
         Word::Apart => 4,
     }
@@ -108,30 +80,20 @@ fn most_of(word: Word, count: u32) -> u32
     ensures { result ≡ grammar.most_of word count }
 {
     match word {
-        Word::Near => 65536,
-        Word::Before => 65536,
-        Word::Same => 65536,
-        Word::Span => 65536,
-        Word::Apart => {
-            if count < 2 {
-                return 65536;
-            }
-            65535
-        }
+        Word::Apart if 2 <= count => 65535,
+        _ => 65536,
     }
 }
 
 // Behind a whole number at the end of a list or of a condition.
-fn ending(words: Words, byte: u8) -> Next
+fn ending(words: Words, byte: u8) -> Option<Next>
     ensures { result ≡ states.ending_state words byte }
 {
-    if byte == b';' {
-        return Next::Emits(words, State::Semicolon);
+    match byte {
+        b';' => Some(Next::Emits(words, State::Semicolon)),
+        b']' => Some(Next::Closes(words)),
+        _ => None,
     }
-    if byte == b']' {
-        return Next::Closes(words);
-    }
-    Next::Stuck
 }
 
 // The row of a list number.
@@ -187,101 +149,86 @@ fn condition(word: Word, a: u32, b: u32, c: u32, last: u32) -> Words
 }
 
 // In the list numbers.
-fn in_list(number: Number, byte: u8) -> Next
+fn in_list(number: Option<u32>, byte: u8) -> Option<Next>
     requires { states.NumberMost 65536 number }
     ensures { result ≡ states.step_listing number byte }
 {
-    let grown = grow(number, byte, 65536);
-    if let Grown::Value(value) = grown {
-        return Next::Goes(State::Listing(Number::Digits(value)));
+    if let Some(value) = grow(number, byte, 65536) {
+        return Some(Next::Goes(State::Listing(Some(value))));
     }
-    match number {
-        Number::Fresh => Next::Stuck,
-        Number::Digits(n) => {
-            let words = voice(n);
-            if byte == b' ' {
-                return Next::Emits(words, State::Listing(Number::Fresh));
-            }
-            ending(words, byte)
-        }
+    let words = voice(number?);
+    if byte == b' ' {
+        return Some(Next::Emits(words, State::Listing(None)));
     }
+    ending(words, byte)
 }
 
 // Behind `;`.
-fn letter(byte: u8) -> Next
+fn letter(byte: u8) -> Option<Next>
     ensures { result ≡ states.step_semicolon byte }
 {
-    if byte == b'n' {
-        return Next::Goes(State::Lettered(Word::Near));
-    }
-    if byte == b'b' {
-        return Next::Goes(State::Lettered(Word::Before));
-    }
-    if byte == b't' {
-        return Next::Goes(State::Lettered(Word::Same));
-    }
-    if byte == b's' {
-        return Next::Goes(State::Lettered(Word::Span));
-    }
-    if byte == b'a' {
-        return Next::Goes(State::Lettered(Word::Apart));
-    }
-    Next::Stuck
+    let word = match byte {
+        b'n' => Word::Near,
+        b'b' => Word::Before,
+        b't' => Word::Same,
+        b's' => Word::Span,
+        b'a' => Word::Apart,
+        _ => return None,
+    };
+    Some(Next::Goes(State::Lettered(word)))
 }
 
 // Behind a number n that is not the last of its condition.
-fn another(word: Word, count: u32, a: u32, b: u32, c: u32, n: u32, byte: u8) -> Next
+fn another(word: Word, count: u32, a: u32, b: u32, c: u32, n: u32, byte: u8) -> Option<Next>
     requires { count < 4 }
     ensures { result ≡ states.another_state word count a b c n byte }
 {
     if byte != b' ' {
-        return Next::Stuck;
+        return None;
     }
-    if count == 0 {
-        return Next::Goes(State::Counting(word, count + 1, n, b, c, Number::Fresh));
-    }
-    if count == 1 {
-        return Next::Goes(State::Counting(word, count + 1, a, n, c, Number::Fresh));
-    }
-    Next::Goes(State::Counting(word, count + 1, a, b, n, Number::Fresh))
+    let (a, b, c) = match count {
+        0 => (n, b, c),
+        1 => (a, n, c),
+        _ => (a, b, n),
+    };
+    Some(Next::Goes(State::Counting(word, count + 1, a, b, c, None)))
 }
 
 // In the numbers of a condition.
-fn in_condition(word: Word, count: u32, a: u32, b: u32, c: u32, number: Number, byte: u8) -> Next
+fn in_condition(
+    word: Word,
+    count: u32,
+    a: u32,
+    b: u32,
+    c: u32,
+    number: Option<u32>,
+    byte: u8,
+) -> Option<Next>
     requires { states.StateMost (states.counting word count a b c number) }
     ensures { result ≡ states.step_counting word count a b c number byte }
 {
-    let most = most_of(word, count);
-    let grown = grow(number, byte, most);
-    if let Grown::Value(value) = grown {
-        return Next::Goes(State::Counting(word, count, a, b, c, Number::Digits(value)));
+    if let Some(value) = grow(number, byte, most_of(word, count)) {
+        return Some(Next::Goes(State::Counting(word, count, a, b, c, Some(value))));
     }
-    match number {
-        Number::Fresh => Next::Stuck,
-        Number::Digits(n) => {
-            if count + 1 < arity(word) {
-                return another(word, count, a, b, c, n, byte);
-            }
-            let words = condition(word, a, b, c, n);
-            ending(words, byte)
-        }
+    let n = number?;
+    if count + 1 < arity(word) {
+        return another(word, count, a, b, c, n, byte);
     }
+    ending(condition(word, a, b, c, n), byte)
 }
 
-// What a byte makes of a state.
-pub fn step(state: State, byte: u8) -> Next
+// What a byte makes of a state; none where no line of the grammar has the byte there.
+pub fn step(state: State, byte: u8) -> Option<Next>
     requires { states.StateMost state }
     ensures { result ≡ states.step_state state byte }
 {
     match state {
         State::Listing(number) => in_list(number, byte),
         State::Semicolon => letter(byte),
-        State::Lettered(word) => {
-            if byte == b' ' {
-                return Next::Goes(State::Counting(word, 0, 0, 0, 0, Number::Fresh));
-            }
-            Next::Stuck
+        State::Lettered(word) if byte == b' ' => {
+            Some(Next::Goes(State::Counting(word, 0, 0, 0, 0, None)))
         }
+        State::Lettered(_) => None,
         State::Counting(word, count, a, b, c, number) => {
             in_condition(word, count, a, b, c, number, byte)
         }

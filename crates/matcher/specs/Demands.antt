@@ -2,7 +2,7 @@
 --     TestRefuses    demand 1 for testing positions
 --     Demand2        demand 2 for testing positions: the call says yes exactly if the calculus does
 --     OneToOne       no two answers are told alike
-use Rattle.std.specs.Prelude.{ℕ, ◌<◌, ◌≡◌, true, ◌↔◌, List, length}
+use Rattle.std.specs.Prelude.{ℕ, ◌<◌, ◌≡◌, Bool, true, ◌↔◌, List, length, Result}
 use Rattle.seq.specs.Refusals.{answered, stage_in, FirstRefusal}
 use Rattle.volume.specs.Layout.{lists_of}
 use Rattle.plan.specs.Check.{sizes, Accepted}
@@ -10,7 +10,7 @@ use Rattle.plan.specs.Accepted.{pattern_at}
 use Rattle.fulltext.specs.Positions.{limit}
 use Rattle.fulltext.specs.Calculus.{True, open_formula}
 use Rattle.fulltext.specs.Matches.{matches_at}
-use Rattle.matcher.specs.declared.answers.Tested.{Tested}
+use Rattle.matcher.specs.declared.answers.TestError.{TestError}
 use Rattle.matcher.specs.Answers.{said_tested}
 use Rattle.matcher.specs.Testing.{test_answer}
 use Rattle.matcher.specs.Refusals.{TestApplies, test_stages}
@@ -34,4 +34,4 @@ Demand2 = (v p : List ℕ) → Accepted v p → (k d : ℕ) (ps : List ℕ) → 
 
 -- no two answers have document 01's number and values in common
 unfoldable pub OneToOne : Type 0
-OneToOne = (a b : Tested) → said_tested a ≡ said_tested b → a ≡ b
+OneToOne = (a b : Result Bool TestError) → said_tested a ≡ said_tested b → a ≡ b

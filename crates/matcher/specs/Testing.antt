@@ -3,7 +3,7 @@ use Rattle.std.specs.Prelude.{ℕ, Bool, not, cond, ◌||◌, List, length, ltb,
 use Rattle.seq.specs.Lists.{all}
 use Rattle.seq.specs.Refusals.{Said, refused, answered}
 use Rattle.volume.specs.Layout.{lists_of}
-use Rattle.plan.specs.Answers.{Sizes}
+use Rattle.plan.specs.declared.answers.Sizes.{Sizes}
 use Rattle.plan.specs.Check.{verdict}
 use Rattle.plan.specs.Patterns.{Pattern}
 use Rattle.plan.specs.Accepted.{pattern_at}

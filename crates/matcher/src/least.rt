@@ -3,44 +3,41 @@ ghost use Rattle.std.specs.Prelude.{◌≡◌, ◌<◌, ◌≤◌, length, get_o
 ghost use Rattle.volume.specs.Layout.{lists_of};
 ghost use Rattle.plan.specs.Accepted.{pattern_at};
 ghost use Rattle.fulltext.specs.Inner.Bounds.{HeldMatch};
-ghost use Rattle.matcher.specs.Inner.Cursors.{Stretch};
+ghost use Rattle.matcher.specs.Inner.Cursors.{Stretch, ats_of, ends_of};
 ghost use Rattle.matcher.specs.Inner.Settling.{Jumped, Standing, Within, turned, Posed};
 ghost use Rattle.matcher.specs.Inner.Order.{Order};
 
-use super::cursor::{Cursor, Document};
-use super::predicates::{Shortfall, falls_short, largest_of, later};
+use super::cursor::{Cursor, Document, bound_of};
+use super::predicates::{falls_short, largest_of};
 use plan::{Outline, predicate_at};
 use volume::Posting;
 
-// Moves variable x, whose list ends at `end`, to its first position in a document that is not below
-// `need`. Whether there is one.
+// Moves variable x to its first position in a document that is not below `need`. Whether there is
+// one. It is a part of the settling loop, where a call would store the slices.
+#[inline(always)]
 pub fn jump(
     volume: &[u8],
     doc: u32,
-    end: usize,
     x: usize,
     need: u32,
-    here: &mut [usize],
+    cursors: &mut [Cursor],
     positions: &mut [u32],
 ) -> bool
-    requires x_in_bounds { x < length here.old }
+    requires x_in_bounds { x < length cursors.old }
     requires x_in_bounds_2 { x < length positions.old }
-    requires stretch { Stretch volume.now (get_or here.old x 0) end }
-    ensures { Jumped volume.now doc end need x here.old positions.old result
-        here.new positions.new }
+    requires stretch { Stretch volume.now (get_or (ats_of cursors.old) x 0) (get_or (ends_of cursors.old) x 0) }
+    ensures jumped { Jumped volume.now doc (get_or (ends_of cursors.old) x 0) need x (ats_of cursors.old)
+        positions.old result (ats_of cursors.new) positions.new }
+    ensures ends_unchanged { ends_of cursors.new ≡ ends_of cursors.old }
 {
-    let cursor = Cursor { at: here[x], end };
-    let bound = doc as u64 * Posting::POSITIONS as u64 + need as u64;
-    let moved = cursor.advance(volume, bound);
-    let at = moved.at;
-    if end <= at {
+    let moved = cursors[x].advance(volume, bound_of(doc, need));
+    let Some(posting) = moved.posting else {
         return false;
-    }
-    let posting = Posting { bits: moved.bits };
+    };
     if posting.doc() != doc {
         return false;
     }
-    here[x] = at;
+    cursors[x].at = moved.at;
     positions[x] = posting.pos();
     true
 }
@@ -60,8 +57,8 @@ fn next_turn(i: usize, n: usize) -> usize
 // Moves the cursors of a pattern from where they stand in a document to its least match there that
 // is not in front of them. Its predicates are tried in turn, until all of them hold one behind the
 // other: each time one fails, the variable that it leaves short jumps to the first position that it
-// needs at least. The first `held` variables must stay where they stand. `ends` has the ends of the
-// pattern's lists, and `order` its variables, each once. `paras` has for each variable where the
+// needs at least. The first `held` variables must stay where they stand. `order` has the pattern's
+// variables, each once. `paras` has for each variable where the
 // start of its paragraph was found last. Whether there is such a match; then the cursors stand at it.
 pub fn match_from(
     volume: &[u8],
@@ -70,24 +67,24 @@ pub fn match_from(
     document: Document,
     held: usize,
     order: &[usize],
-    ends: &[usize],
-    here: &mut [usize],
+    cursors: &mut [Cursor],
     positions: &mut [u32],
     paras: &mut [usize],
 ) -> bool
-    requires posed { Posed volume.now plan.now outline document ends.now }
+    requires posed { Posed volume.now plan.now outline document (ends_of cursors.old) }
     requires order { Order outline.vars order.now }
-    requires vars_in_bounds { outline.vars ≤ length here.old }
-    requires vars_in_bounds_2 { outline.vars ≤ length positions.old }
-    requires standing { Standing volume.now document.doc (pattern_at plan.now outline.pattern) here.old positions.old }
+    requires positions_in_bounds { outline.vars ≤ length positions.old }
+    requires standing { Standing volume.now document.doc (pattern_at plan.now outline.pattern) (ats_of cursors.old)
+        positions.old }
     requires held_le_vars { held ≤ outline.vars }
-    requires vars_in_bounds_3 { outline.vars ≤ length paras.old }
+    requires paras_in_bounds { outline.vars ≤ length paras.old }
     ensures held_match { HeldMatch (lists_of volume.now) document.doc (pattern_at plan.now outline.pattern)
         (take outline.vars positions.old) held result (take outline.vars positions.new) }
-    ensures standing_2 { Standing volume.now document.doc (pattern_at plan.now outline.pattern) here.new
+    ensures standing_2 { Standing volume.now document.doc (pattern_at plan.now outline.pattern) (ats_of cursors.new)
         positions.new }
-    ensures within { Within outline.vars here.old here.new }
+    ensures within { Within outline.vars (ats_of cursors.old) (ats_of cursors.new) }
     ensures within_2 { Within outline.vars positions.old positions.new }
+    ensures ends_unchanged { ends_of cursors.new ≡ ends_of cursors.old }
     ensures paras_len_unchanged { length paras.new ≡ length paras.old }
 {
     let n = outline.vars;
@@ -101,28 +98,19 @@ pub fn match_from(
             volume, document, predicate, order, positions, n, largest, paras,
         );
         match told {
-            Shortfall::Holds => {
+            None => {
                 left -= 1;
                 turn = next_turn(turn, count);
             }
-            Shortfall::Short(x, need) => {
+            Some(short) => {
+                let x = short.var;
                 if x < held {
                     return false;
                 }
-                let end = ends[x];
-                let cursor = Cursor { at: here[x], end };
-                let moved = cursor.reach(volume, document.doc, need);
-                if end <= moved.at {
+                if !jump(volume, document.doc, x, short.need, cursors, positions) {
                     return false;
                 }
-                let posting = Posting { bits: moved.bits };
-                if posting.doc() != document.doc {
-                    return false;
-                }
-                here[x] = moved.at;
-                let pos = posting.pos();
-                positions[x] = pos;
-                largest = later(largest, pos);
+                largest = largest.max(positions[x]);
                 left = count;
             }
         }

@@ -16,7 +16,7 @@ mod rarest;
 mod store;
 mod testing;
 
-pub use answers::Tested;
+pub use answers::TestError;
 pub use cursor::{Cursor, Document, Reached, list_cursor, starts_of};
 pub use least::{jump, match_from};
 pub use paragraphs::{Blocks, ParaInBlock, blocks_of, para_near};

@@ -2,25 +2,27 @@
 ghost use Rattle.std.specs.Prelude.{◌≡◌, ℕ, ◌+◌, ◌*◌, ◌/◌, ◌<◌, ◌≤◌};
 ghost use Rattle.volume.specs.Check.{Accepted};
 ghost use Rattle.volume.specs.Layout.{stream_length, lists_of};
+ghost use Rattle.volume.specs.Inner.Below.{below_of};
 ghost use Rattle.fulltext.specs.Matches.{starts_in};
 ghost use Rattle.fulltext.specs.Paragraphs.{para_start};
 ghost use Rattle.fulltext.specs.Inner.Paragraphs.{needed_start};
 ghost use Rattle.matcher.specs.Inner.Cursors.{seek_from, Stretch, Galloped, AtDocument};
 ghost use Rattle.matcher.specs.Inner.Blocks.{RisingBlock, Across, Whole, blocks_of, start_in};
 
-use super::cursor::{Cursor, Document};
+use super::cursor::{Cursor, Document, bound_of};
 use volume::{BLOCK_WORDS, LAST_WORD, Posting};
 
 // The paragraph of a position: its start, 65,536 where there is none, and the stream index of the
-// first start behind the position.
-#[derive(Clone, Copy)]
+// first start behind the position. The row of the C interface shows that number (`lhz_list`).
+#[derive(Clone, Copy, Debug, PartialEq, Eq)]
 pub struct Para {
     pub start: u32,
     pub at: usize,
 }
 
-// The start of a position's paragraph, and the block of the first start behind the position.
-#[derive(Clone, Copy)]
+// The start of a position's paragraph, 65,536 where there is none, as the row of the C interface
+// shows it (`lhz_list`), and the block of the first start behind the position.
+#[derive(Clone, Copy, Debug, PartialEq, Eq)]
 pub struct ParaInBlock {
     pub start: u32,
     pub block: usize,
@@ -28,7 +30,7 @@ pub struct ParaInBlock {
 
 // Blocks of list 0: each one from `first` on in front of `last`, and the one behind it, has starts
 // alone.
-#[derive(Clone, Copy)]
+#[derive(Clone, Copy, Debug, PartialEq, Eq)]
 pub struct Blocks {
     pub first: usize,
     pub last: usize,
@@ -46,7 +48,7 @@ fn resume(volume: &[u8], cursor: Cursor, bound: u64, mark: usize) -> usize
     if cursor.end < mark {
         return cursor.at;
     }
-    if bound <= volume::word_at(volume, mark - 1) as u64 {
+    if bound <= u64::from(volume::word_at(volume, mark - 1)) {
         return cursor.at;
     }
     mark
@@ -62,12 +64,12 @@ fn past_start(volume: &[u8], document: Document, pos: u32, mark: usize, other: u
 {
     let starts = document.starts;
     let end = starts.end;
-    let bound = document.doc as u64 * Posting::POSITIONS as u64 + pos as u64 + 1;
+    let bound = bound_of(document.doc, pos) + 1;
     let at = resume(volume, starts, bound, mark);
     let first = Cursor { at, end };
     let from = resume(volume, first, bound, other);
     let cursor = Cursor { at: from, end };
-    let next = cursor.advance_past(volume, document.doc, pos);
+    let next = cursor.advance(volume, bound);
     next.at
 }
 
@@ -127,19 +129,23 @@ pub fn para_of(volume: &[u8], document: Document, pos: u32, mark: usize, other: 
         ≡ seek_from volume.now (document.doc * 65536 + pos + 1) document.starts.at document.starts.end }
 {
     let starts = document.starts;
-    if starts.at < mark {
-        if mark < starts.end {
-            let bound = document.doc as u64 * Posting::POSITIONS as u64 + pos as u64 + 1;
-            let last = volume::posting_at(volume, mark - 1);
-            if (last.bits as u64) < bound {
-                if bound <= volume::word_at(volume, mark) as u64 {
-                    let start = start_in(document.doc, last);
-                    return Para { start, at: mark };
-                }
-            }
+    if starts.at < mark && mark < starts.end {
+        let bound = bound_of(document.doc, pos) + 1;
+        let last = volume::posting_at(volume, mark - 1);
+        if u64::from(last.bits) < bound && bound <= u64::from(volume::word_at(volume, mark)) {
+            let start = start_in(document.doc, last);
+            return Para { start, at: mark };
         }
     }
     find_para(volume, document, pos, mark, other)
+}
+
+// 1 where a word is below a bound.
+fn below(word: u32, bound: u64) -> usize
+    ensures value { result ≡ below_of word bound }
+    ensures upper_bound { result ≤ 1 }
+{
+    usize::from(u64::from(word) < bound)
 }
 
 // Of a block whose word k is below a bound, and whose word k + 5 * step is not: the last of the
@@ -152,10 +158,10 @@ fn narrow(volume: &[u8], block: usize, bound: u64, k: usize, step: usize) -> usi
     ensures across_2 { Across volume.now block bound result step }
     ensures upper_bound { result ≤ k + 4 * step }
 {
-    let a = volume::below(volume::word_in_block(volume, block, k + step), bound);
-    let b = volume::below(volume::word_in_block(volume, block, k + 2 * step), bound);
-    let c = volume::below(volume::word_in_block(volume, block, k + 3 * step), bound);
-    let d = volume::below(volume::word_in_block(volume, block, k + 4 * step), bound);
+    let a = below(volume::word_in_block(volume, block, k + step), bound);
+    let b = below(volume::word_in_block(volume, block, k + 2 * step), bound);
+    let c = below(volume::word_in_block(volume, block, k + 3 * step), bound);
+    let d = below(volume::word_in_block(volume, block, k + 4 * step), bound);
     k + step * (a + b + c + d)
 }
 
@@ -203,21 +209,18 @@ pub fn para_near(
     ensures block_value { result.block
         ≡ seek_from volume.now (document.doc * 65536 + pos + 1) document.starts.at document.starts.end / 126 }
 {
-    if blocks.first <= block {
-        if block < blocks.last {
-            let bound = document.doc as u64 * Posting::POSITIONS as u64 + pos as u64 + 1;
-            let near = block
-                + volume::below(volume::word_in_block(volume, block, LAST_WORD), bound);
-            if (volume::word_in_block(volume, near, 0) as u64) < bound {
-                if bound <= volume::word_in_block(volume, near, LAST_WORD) as u64 {
-                    let k = last_below(volume, near, bound);
-                    let last = Posting {
-                        bits: volume::word_in_block(volume, near, k),
-                    };
-                    let start = start_in(document.doc, last);
-                    return ParaInBlock { start, block: near };
-                }
-            }
+    if blocks.first <= block && block < blocks.last {
+        let bound = bound_of(document.doc, pos) + 1;
+        let near = block + below(volume::word_in_block(volume, block, LAST_WORD), bound);
+        let front = volume::word_in_block(volume, near, 0);
+        let back = volume::word_in_block(volume, near, LAST_WORD);
+        if u64::from(front) < bound && bound <= u64::from(back) {
+            let k = last_below(volume, near, bound);
+            let last = Posting {
+                bits: volume::word_in_block(volume, near, k),
+            };
+            let start = start_in(document.doc, last);
+            return ParaInBlock { start, block: near };
         }
     }
     let para = find_para(volume, document, pos, BLOCK_WORDS * block, 0);

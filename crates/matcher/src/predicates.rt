@@ -1,5 +1,5 @@
 // Position predicates on the positions of a pattern's variables in one document.
-ghost use Rattle.std.specs.Prelude.{◌≡◌, true, List, ℕ, ◌<◌, ◌≤◌, min, max, length, get_or, take};
+ghost use Rattle.std.specs.Prelude.{◌≡◌, true, List, ℕ, ◌<◌, ◌≤◌, length, get_or, take};
 ghost use Rattle.volume.specs.Check.{Accepted};
 ghost use Rattle.volume.specs.Layout.{lists_of};
 ghost use Rattle.plan.specs.State.{names_below};
@@ -16,30 +16,16 @@ use super::paragraphs::{needed_start, para_of};
 use plan::Predicate;
 use volume::Posting;
 
-// What a predicate says of some positions: that it holds, or a variable that stands before a position
-// which it needs at least.
-#[derive(Clone, Copy)]
-pub enum Shortfall {
-    Holds,
-    Short(usize, u32),
-}
-
-// The later of two positions.
-pub fn later(p: u32, q: u32) -> u32
-    ensures { result ≡ max p q }
-{
-    if p < q { q } else { p }
-}
-
-// The earlier of two positions.
-fn earlier(p: u32, q: u32) -> u32
-    ensures { result ≡ min p q }
-{
-    if p < q { p } else { q }
+// A variable that a predicate leaves short, and the position that it needs at least: it stands before
+// that. Where a predicate leaves none short, it holds.
+#[derive(Clone, Copy, Debug, PartialEq, Eq)]
+pub struct Shortfall {
+    pub var: usize,
+    pub need: u32,
 }
 
 // NEAR: whether at most `limit` positions lie between a and b; if not, the earlier one is left short.
-fn distance(positions: &[u32], a: usize, b: usize, limit: u32) -> Shortfall
+fn distance(positions: &[u32], a: usize, b: usize, limit: u32) -> Option<Shortfall>
     requires in_document { InDocument positions.now }
     requires a_in_bounds { a < length positions.now }
     requires b_in_bounds { b < length positions.now }
@@ -48,18 +34,17 @@ fn distance(positions: &[u32], a: usize, b: usize, limit: u32) -> Shortfall
 {
     let first = positions[a];
     let second = positions[b];
-    let far = later(first, second);
-    if far - earlier(first, second) <= limit + 1 {
-        return Shortfall::Holds;
+    let far = first.max(second);
+    if far - first.min(second) <= limit + 1 {
+        return None;
     }
-    if first < second {
-        return Shortfall::Short(a, far - (limit + 1));
-    }
-    Shortfall::Short(b, far - (limit + 1))
+    let need = far - (limit + 1);
+    let var = if first < second { a } else { b };
+    Some(Shortfall { var, need })
 }
 
 // BEFORE: whether a stands in front of b; if not, b is left short.
-fn ordered(positions: &[u32], a: usize, b: usize) -> Shortfall
+fn ordered(positions: &[u32], a: usize, b: usize) -> Option<Shortfall>
     requires in_document { InDocument positions.now }
     requires a_in_bounds { a < length positions.now }
     requires b_in_bounds { b < length positions.now }
@@ -67,9 +52,10 @@ fn ordered(positions: &[u32], a: usize, b: usize) -> Shortfall
 {
     let first = positions[a];
     if first < positions[b] {
-        return Shortfall::Holds;
+        return None;
     }
-    Shortfall::Short(b, first + 1)
+    let need = first + 1;
+    Some(Shortfall { var: b, need })
 }
 
 // SAME TITLE: whether a and b stand in one paragraph: both have a start, and it is the same. It is
@@ -84,7 +70,7 @@ fn samepara(
     a: usize,
     b: usize,
     paras: &mut [usize],
-) -> Shortfall
+) -> Option<Shortfall>
     requires accepted { Accepted volume.now }
     requires at_document { AtDocument volume.now document }
     requires in_document { InDocument positions.now }
@@ -96,24 +82,20 @@ fn samepara(
 {
     let first = positions[a];
     let second = positions[b];
-    let last = if first < second { b } else { a };
-    let other = if first < second { a } else { b };
-    let pos = later(first, second);
+    let (last, other) = if first < second { (b, a) } else { (a, b) };
+    let pos = first.max(second);
     let para = para_of(volume, document, pos, paras[last], paras[other]);
     paras[last] = para.at;
-    let start = needed_start(volume, document, para);
-    if start <= earlier(first, second) {
-        return Shortfall::Holds;
+    let need = needed_start(volume, document, para);
+    if need <= first.min(second) {
+        return None;
     }
-    if first < second {
-        return Shortfall::Short(a, start);
-    }
-    Shortfall::Short(b, start)
+    Some(Shortfall { var: other, need })
 }
 
 // SPAN: whether the largest and the smallest position differ by at most limit - 1; if not, the first
 // variable of the order that stands too far in front of the largest is left short.
-fn window(positions: &[u32], order: &[usize], largest: u32, limit: u32) -> Shortfall
+fn window(positions: &[u32], order: &[usize], largest: u32, limit: u32) -> Option<Shortfall>
     requires in_document { InDocument positions.now }
     requires order { Order (length positions.now) order.now }
     requires largest { Largest positions.now (length positions.now) largest }
@@ -122,26 +104,23 @@ fn window(positions: &[u32], order: &[usize], largest: u32, limit: u32) -> Short
     ensures { (ss : List ℕ) → Told ss (Window limit) positions.now result }
 {
     if largest < limit {
-        return Shortfall::Holds;
+        return None;
     }
     let need = largest - (limit - 1);
     let n = positions.len();
-    let mut i: usize = 0;
-    while i < n {
-        let x = order[i];
+    for &x in &order[..n] {
         if positions[x] < need {
-            return Shortfall::Short(x, need);
+            return Some(Shortfall { var: x, need });
         }
-        i += 1;
     }
-    Shortfall::Holds
+    None
 }
 
 // APART: whether a stands in front of b, with at least `least` and at most `most` positions between
 // them; if not, b is left short where it is too near, and a where b is too far. Where a is b, or b
 // would have to stand behind the last position, b needs 65,536: no position is left. No position is
 // too far for a `most` of 65,535.
-fn proximity(positions: &[u32], a: usize, b: usize, least: u16, most: u16) -> Shortfall
+fn proximity(positions: &[u32], a: usize, b: usize, least: u16, most: u16) -> Option<Shortfall>
     requires in_document { InDocument positions.now }
     requires a_in_bounds { a < length positions.now }
     requires b_in_bounds { b < length positions.now }
@@ -149,17 +128,25 @@ fn proximity(positions: &[u32], a: usize, b: usize, least: u16, most: u16) -> Sh
 {
     let first = positions[a];
     let second = positions[b];
-    let nearest = first + least as u32 + 1;
+    let nearest = first + u32::from(least) + 1;
     if second < nearest {
         if a == b || Posting::LAST_POS < nearest {
-            return Shortfall::Short(b, Posting::POSITIONS);
+            return Some(Shortfall {
+                var: b,
+                need: Posting::POSITIONS,
+            });
         }
-        return Shortfall::Short(b, nearest);
+        return Some(Shortfall {
+            var: b,
+            need: nearest,
+        });
     }
-    if first + most as u32 + 1 < second {
-        return Shortfall::Short(a, second - (most as u32 + 1));
+    let span = u32::from(most) + 1;
+    if first + span < second {
+        let need = second - span;
+        return Some(Shortfall { var: a, need });
     }
-    Shortfall::Holds
+    None
 }
 
 // The largest of the first n positions.
@@ -169,16 +156,14 @@ pub fn largest_of(positions: &[u32], n: usize) -> u32
     ensures { Largest positions.now n result }
 {
     let mut largest = positions[0];
-    let mut x: usize = 1;
-    while x < n {
-        largest = later(largest, positions[x]);
-        x += 1;
+    for x in 1..n {
+        largest = largest.max(positions[x]);
     }
     largest
 }
 
-// Whether a predicate holds of the first n positions, of which `largest` is the largest; if not, a
-// variable that it leaves short. Where it looks at each variable, it does so in the order. `paras`
+// The variable that a predicate leaves short of the first n positions, of which `largest` is the
+// largest; none where it holds. Where it looks at each variable, it does so in the order. `paras`
 // has for each variable where the start of its paragraph was found last.
 pub fn falls_short(
     volume: &[u8],
@@ -189,7 +174,7 @@ pub fn falls_short(
     n: usize,
     largest: u32,
     paras: &mut [usize],
-) -> Shortfall
+) -> Option<Shortfall>
     requires accepted { Accepted volume.now }
     requires at_document { AtDocument volume.now document }
     requires le_n { 1 ≤ n }

@@ -7,9 +7,5 @@ pub fn put_row(row: &[u32], n: usize, out: &mut [u32], to: usize)
     requires n_in_bounds_2 { to + n ≤ length out.old }
     ensures { out.new ≡ take to out.old ++ take n row.now ++ drop (to + n) out.old }
 {
-    let mut i: usize = 0;
-    while i < n {
-        out[to + i] = row[i];
-        i += 1;
-    }
+    out[to..to + n].copy_from_slice(&row[..n]);
 }

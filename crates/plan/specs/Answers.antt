@@ -1,13 +1,12 @@
 -- Document 01's number and values for each answer of the crate's calls. Assumes nothing.
-use Rattle.std.specs.Prelude.{ℕ}
+use Rattle.std.specs.Prelude.{ℕ, Result, Ok, Err}
 use Rattle.seq.specs.Refusals.{Said, refused, answered}
 use Rattle.volume.specs.Answers as volumeAnswers
 use Rattle.plan.specs.declared.answers.Fault.{Fault}
 use Rattle.plan.specs.declared.answers.Fault.TheVariants as fault
 use Rattle.plan.specs.declared.answers.Refusal.{Refusal}
 use Rattle.plan.specs.declared.answers.Refusal.TheVariants.{Volume, Length, Row, Unfinished}
-use Rattle.plan.specs.declared.answers.Checked.{Checked}
-use Rattle.plan.specs.declared.answers.Checked.TheVariants as checked
+pub use Rattle.plan.specs.declared.answers.Sizes.{Sizes}
 
 -- the number of a row's fault
 abbrev pub fault_code : Fault → ℕ
@@ -33,11 +32,7 @@ at_of Unfinished = 0
 abbrev pub said_refusal : {A : Type 0} → Refusal → Said A
 said_refusal why = refused (code_of why) (at_of why)
 
--- what an accepted plan gives (01: F and V)
-pub record Sizes : Type 0 where
-  pub patterns : ℕ
-  pub vars : ℕ
-
-abbrev pub said_checked : Checked → Said Sizes
-said_checked (checked.Accepted f v) = answered (record { patterns = f; vars = v })
-said_checked (checked.Refused r) = said_refusal r
+-- an accepted plan gives its numbers of patterns and variables (01: F and V), the struct `Sizes` of `src/answers.rt`
+abbrev pub said_checked : Result Sizes Refusal → Said Sizes
+said_checked (Ok s) = answered s
+said_checked (Err r) = said_refusal r

@@ -1,12 +1,12 @@
 -- The verdict on a plan over a volume: a test for each of document 01's refusals 9 to 14, and the first that applies. Assumes nothing.
-use Rattle.std.specs.Prelude.{ℕ, ◌%◌, Bool, true, false, not, cond, ◌||◌, ◌≡◌, List, length, ltb, eqb}
+use Rattle.std.specs.Prelude.{ℕ, ◌%◌, Bool, true, false, not, cond, ◌||◌, ◌≡◌, List, length, Result, Ok, Err, ltb, eqb}
 use Rattle.seq.specs.Lists.{total}
 use Rattle.seq.specs.Numbers.{first_from}
 use Rattle.seq.specs.Refusals.{Said, refused, answered}
 use Rattle.volume.specs.Answers as volumeAnswers
 use Rattle.volume.specs.Check as volume
-use Rattle.plan.specs.declared.state.Step.{Step}
-use Rattle.plan.specs.declared.state.Step.TheVariants.{Stands, Faulty}
+use Rattle.plan.specs.declared.answers.Fault.{Fault}
+use Rattle.plan.specs.declared.state.State.{State}
 use Rattle.plan.specs.Answers.{Sizes, fault_code}
 use Rattle.plan.specs.Limits.{most_words}
 use Rattle.plan.specs.Rows.{row_count, rows_of}
@@ -18,13 +18,13 @@ unfoldable pub length_wrong : List ℕ → Bool
 length_wrong p = eqb (length p) 0 || (not (eqb (length p % 4) 0) || ltb most_words (length p))
 
 -- a row is refused, and its number
-abbrev pub faulty : Step → Bool
-faulty (Stands s) = false
-faulty (Faulty why) = true
+abbrev pub faulty : Result State Fault → Bool
+faulty (Ok s) = false
+faulty (Err why) = true
 
-abbrev pub fault_of : Step → ℕ
-fault_of (Stands s) = 0
-fault_of (Faulty why) = fault_code why
+abbrev pub fault_of : Result State Fault → ℕ
+fault_of (Ok s) = 0
+fault_of (Err why) = fault_code why
 
 -- 10 to 13 at row i, over t lists
 unfoldable pub row_wrong : ℕ → List ℕ → ℕ → Bool

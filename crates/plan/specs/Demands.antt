@@ -5,12 +5,11 @@
 --     Parts                         the rows of a pattern are those it was read from; with the operators between them they are the plan
 --     AtLeastIs                     what AT LEAST answers
 --     OneToOne                      no two answers are told alike
-use Rattle.std.specs.Prelude.{ℕ, ◌<◌, ◌≤◌, ◌≡◌, Bool, true, false, ◌↔◌, List, [], ◌∷◌, ◌++◌, get_or, drop}
+use Rattle.std.specs.Prelude.{ℕ, ◌<◌, ◌≤◌, ◌≡◌, Bool, true, false, ◌↔◌, List, [], ◌∷◌, ◌++◌, Result, get_or, drop}
 use Rattle.seq.specs.Lists.{all, joined}
 use Rattle.seq.specs.Numbers.{run}
 use Rattle.seq.specs.Refusals.{stage_in, FirstRefusal}
 use Rattle.plan.specs.declared.answers.Refusal.{Refusal}
-use Rattle.plan.specs.declared.answers.Checked.{Checked}
 use Rattle.plan.specs.declared.row.Operator.TheVariants.{Both, Either, AtLeast}
 use Rattle.plan.specs.declared.row.Row.{Row}
 use Rattle.plan.specs.Rows.{row_of, rows_of, form_wrong, words_of, plan_of, InRange, is_operator}
@@ -70,4 +69,4 @@ AtLeastIs = (of : ℕ) (answers : List Bool) → AtLeasts of answers
 -- no two answers have document 01's number and values in common
 pub record OneToOne : Type 0 where
   pub refusal : (a b : Refusal) → said_refusal {A = Sizes} a ≡ said_refusal b → a ≡ b
-  pub checked : (a b : Checked) → said_checked a ≡ said_checked b → a ≡ b
+  pub checked : (a b : Result Sizes Refusal) → said_checked a ≡ said_checked b → a ≡ b

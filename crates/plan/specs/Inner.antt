@@ -1,9 +1,7 @@
 -- What serves contracts inside the engine only.
 --     State      a bound on the numbers of a state
---     Reading    the sorts of rows that are looked for in a plan
 --     Outline    where each pattern of a plan lies
 --     Stack      a plan's answers as the bits of a number
 pub mod State
-pub mod Reading
 pub mod Outline
 pub mod Stack

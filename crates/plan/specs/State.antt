@@ -5,7 +5,8 @@
 --     list_wrong, too_many, order_wrong     document 01's refusals 11, 12 and 13 of a row
 --     step           the first of 10 to 13 that applies to a row, or the state behind it
 -- Assumes nothing.
-use Rattle.std.specs.Prelude.{ℕ, ◌+◌, ◌-◌, Bool, true, false, not, cond, ◌&&◌, ◌||◌, List, [], ◌∷◌, eqb, ltb, leb}
+use Rattle.std.specs.Prelude.{ℕ, ◌+◌, ◌-◌, Bool, true, false, not, cond, ◌&&◌, ◌||◌, List, [], ◌∷◌, Result, Ok, Err, eqb, ltb, leb}
+use Rattle.plan.specs.declared.answers.Fault.{Fault}
 use Rattle.plan.specs.declared.answers.Fault.TheVariants as fault
 use Rattle.plan.specs.declared.row.Predicate.{Predicate}
 use Rattle.plan.specs.declared.row.Predicate.TheVariants.{Distance, Ordered, Samepara, Window, Proximity}
@@ -15,8 +16,6 @@ use Rattle.plan.specs.declared.row.Kind.{Kind}
 use Rattle.plan.specs.declared.row.Kind.TheVariants as kind
 use Rattle.plan.specs.declared.row.Row.{Row}
 use Rattle.plan.specs.declared.state.State.{State}
-use Rattle.plan.specs.declared.state.Step.{Step}
-use Rattle.plan.specs.declared.state.Step.TheVariants.{Stands, Faulty}
 use Rattle.plan.specs.Limits.{most_patterns, most_pattern_vars}
 use Rattle.plan.specs.Rows.{row_at, rows_before, form_wrong_at}
 
@@ -82,10 +81,10 @@ order_wrong s kind.End = eqb s.vars 0
 order_wrong s (kind.Operator o) = not (eqb s.vars 0) || ltb s.answers (takes o)
 
 -- what row i does to a state, over t lists: the first of 10 to 13 that applies, or the state behind it
-unfoldable pub step : ℕ → State → List ℕ → ℕ → Step
+unfoldable pub step : ℕ → State → List ℕ → ℕ → Result State Fault
 step t s p i =
     let k = (row_at p i).kind in
-    let from13 = cond (order_wrong s k) (Faulty fault.Order) (Stands (after s k)) in
-    let from12 = cond (too_many s k) (Faulty fault.TooMany) from13 in
-    let from11 = cond (list_wrong t k) (Faulty fault.List) from12 in
-    cond (form_wrong_at p i) (Faulty fault.Form) from11
+    let from13 = cond (order_wrong s k) (Err fault.Order) (Ok (after s k)) in
+    let from12 = cond (too_many s k) (Err fault.TooMany) from13 in
+    let from11 = cond (list_wrong t k) (Err fault.List) from12 in
+    cond (form_wrong_at p i) (Err fault.Form) from11

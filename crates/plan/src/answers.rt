@@ -1,8 +1,11 @@
 // What the calls answer. `specs/Answers.antt` gives document 01's number and values for each case.
+ghost use Rattle.std.specs.Prelude.{◌≡◌};
+ghost use Rattle.plan.specs.declared.answers.Refusal.TheVariants.{Volume};
+
 use volume::Refusal as VolumeRefusal;
 
 // Why a row is refused.
-#[derive(Clone, Copy)]
+#[derive(Clone, Copy, Debug, PartialEq, Eq)]
 pub enum Fault {
     // Its kind is unknown, a word that it does not use is not 0, c is out of its range, or its
     // numbers do not fit each other.
@@ -16,7 +19,7 @@ pub enum Fault {
 }
 
 // Why a volume and a plan are refused.
-#[derive(Clone, Copy)]
+#[derive(Clone, Copy, Debug, PartialEq, Eq)]
 pub enum Refusal {
     // The volume is refused.
     Volume(VolumeRefusal),
@@ -28,9 +31,17 @@ pub enum Refusal {
     Unfinished,
 }
 
-// What checking a plan answers: the number of its patterns and of its variables, or why not.
-#[derive(Clone, Copy)]
-pub enum Checked {
-    Accepted(u32, u32),
-    Refused(Refusal),
+impl From<VolumeRefusal> for Refusal {
+    ghost from_gives = { λ why refusal. refusal ≡ Volume why };
+
+    fn from(why: VolumeRefusal) -> Refusal {
+        Refusal::Volume(why)
+    }
+}
+
+// What an accepted plan gives: the number of its patterns and of its variables.
+#[derive(Clone, Copy, Debug, PartialEq, Eq)]
+pub struct Sizes {
+    pub patterns: u32,
+    pub vars: u32,
 }

@@ -1,14 +1,14 @@
 // The words that rows of each kind use.
 ghost use Rattle.std.specs.Prelude.{◌≡◌, ℕ, ◌≤◌};
 ghost use Rattle.plan.specs.Limits.{last_kind};
-ghost use Rattle.plan.specs.Rows.{kind_of, uses_of, pair_wrong, form_wrong};
+ghost use Rattle.plan.specs.Rows.{kind_of, uses_of, misused, pair_wrong, form_wrong};
 ghost use Rattle.plan.specs.Rows as rows;
 
 use super::limits::{LAST_KIND, LEAST_TAKEN, MOST_TAKEN};
 use super::row::{Kind, Operator, Predicate, row_of};
 
 // Whether a, b and c are used, and the range of c; 0 to 0 where c is not used.
-#[derive(Clone, Copy)]
+#[derive(Clone, Copy, Debug, PartialEq, Eq)]
 pub struct Uses {
     pub a: bool,
     pub b: bool,
@@ -17,96 +17,52 @@ pub struct Uses {
     pub most: u32,
 }
 
+// What the kinds use: nothing, a alone, and a and b.
+const NOTHING: Uses = Uses {
+    a: false,
+    b: false,
+    c: false,
+    least: 0,
+    most: 0,
+};
+
+const A: Uses = Uses { a: true, ..NOTHING };
+
+const A_AND_B: Uses = Uses { b: true, ..A };
+
+// All three words, with these ranges of c.
+const NEAR: Uses = Uses {
+    c: true,
+    most: 65535,
+    ..A_AND_B
+};
+
+const APART: Uses = Uses {
+    most: u32::MAX,
+    ..NEAR
+};
+
+// c alone.
+const SPAN: Uses = Uses {
+    c: true,
+    least: 1,
+    most: 65536,
+    ..NOTHING
+};
+
 // Of each kind, in order.
 const KINDS: [Uses; LAST_KIND as usize] = [
-    // 1 VOICE: a
-    Uses {
-        a: true,
-        b: false,
-        c: false,
-        least: 0,
-        most: 0,
-    },
-    // 2 NEAR: a, b, c
-    Uses {
-        a: true,
-        b: true,
-        c: true,
-        least: 0,
-        most: 65535,
-    },
-    // 3 BEFORE: a, b
-    Uses {
-        a: true,
-        b: true,
-        c: false,
-        least: 0,
-        most: 0,
-    },
-    // 4 SAME TITLE: a, b
-    Uses {
-        a: true,
-        b: true,
-        c: false,
-        least: 0,
-        most: 0,
-    },
-    // 5 SPAN: c
-    Uses {
-        a: false,
-        b: false,
-        c: true,
-        least: 1,
-        most: 65536,
-    },
-    // 6 END
-    Uses {
-        a: false,
-        b: false,
-        c: false,
-        least: 0,
-        most: 0,
-    },
-    // 7 BOTH
-    Uses {
-        a: false,
-        b: false,
-        c: false,
-        least: 0,
-        most: 0,
-    },
-    // 8 EITHER
-    Uses {
-        a: false,
-        b: false,
-        c: false,
-        least: 0,
-        most: 0,
-    },
-    // 9 FIRST NOT SECOND
-    Uses {
-        a: false,
-        b: false,
-        c: false,
-        least: 0,
-        most: 0,
-    },
-    // 10 APART: a, b, c
-    Uses {
-        a: true,
-        b: true,
-        c: true,
-        least: 0,
-        most: 4294967295,
-    },
-    // 11 AT LEAST: a, b
-    Uses {
-        a: true,
-        b: true,
-        c: false,
-        least: 0,
-        most: 0,
-    },
+    A, // 1 VOICE
+    NEAR, // 2 NEAR
+    A_AND_B, // 3 BEFORE
+    A_AND_B, // 4 SAME TITLE
+    SPAN, // 5 SPAN
+    NOTHING, // 6 END
+    NOTHING, // 7 BOTH
+    NOTHING, // 8 EITHER
+    NOTHING, // 9 FIRST NOT SECOND
+    APART, // 10 APART
+    A_AND_B, // 11 AT LEAST
 ];
 
 // What rows of a kind use.
@@ -122,10 +78,16 @@ fn used_by(kind: u32) -> Uses
 fn stray(used: bool, word: u32) -> bool
     ensures { result ≡ rows.stray used word }
 {
-    if used {
-        return false;
-    }
-    word != 0
+    !used && word != 0
+}
+
+// Whether the words are not as a kind uses them: one that is not used is not 0, or c is out of its
+// range.
+#[tactic(auto, unfolding(crate::specs::Rows::misused))]
+fn misused(used: Uses, a: u32, b: u32, c: u32) -> bool
+    ensures { result ≡ misused used a b c }
+{
+    stray(used.a, a) || stray(used.b, b) || stray(used.c, c) || c < used.least || used.most < c
 }
 
 // Whether the numbers that a row carries do not fit each other: the least of APART exceeds its most,
@@ -134,32 +96,11 @@ fn pair_wrong(kind: Kind) -> bool
     ensures { result ≡ pair_wrong kind }
 {
     match kind {
-        Kind::Voice(_) => false,
-        Kind::Condition(predicate) => match predicate {
-            Predicate::Distance {
-                a: _,
-                b: _,
-                limit: _,
-            } => false,
-            Predicate::Ordered { a: _, b: _ } => false,
-            Predicate::Samepara { a: _, b: _ } => false,
-            Predicate::Window { limit: _ } => false,
-            Predicate::Proximity {
-                a: _,
-                b: _,
-                least,
-                most,
-            } => most < least,
-        },
-        Kind::End => false,
-        Kind::Operator(operator) => match operator {
-            Operator::Both => false,
-            Operator::Either => false,
-            Operator::FirstNotSecond => false,
-            Operator::AtLeast { least, of } => {
-                least < 1 || of < least || of < LEAST_TAKEN || MOST_TAKEN < of
-            }
-        },
+        Kind::Condition(Predicate::Proximity { least, most, .. }) => most < least,
+        Kind::Operator(Operator::AtLeast { least, of }) => {
+            least < 1 || of < least || of < LEAST_TAKEN || MOST_TAKEN < of
+        }
+        _ => false,
     }
 }
 
@@ -168,29 +109,8 @@ fn pair_wrong(kind: Kind) -> bool
 pub fn form_wrong(kind: u32, a: u32, b: u32, c: u32) -> bool
     ensures { result ≡ form_wrong kind a b c }
 {
-    if kind < 1 {
+    if kind < 1 || LAST_KIND < kind {
         return true;
     }
-    if LAST_KIND < kind {
-        return true;
-    }
-    let used = used_by(kind);
-    if stray(used.a, a) {
-        return true;
-    }
-    if stray(used.b, b) {
-        return true;
-    }
-    if stray(used.c, c) {
-        return true;
-    }
-    if c < used.least {
-        return true;
-    }
-    if used.most < c {
-        return true;
-    }
-    let row = row_of(kind, a, b, c);
-    let carried = row.kind;
-    pair_wrong(carried)
+    misused(used_by(kind), a, b, c) || pair_wrong(row_of(kind, a, b, c).kind)
 }

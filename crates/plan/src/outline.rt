@@ -1,14 +1,14 @@
 // Where each pattern of a plan lies: its rows, and its variables among those of the plan.
-ghost use Rattle.std.specs.Prelude.{◌≡◌, List, ℕ, ◌+◌, ◌*◌, ◌≤◌, length};
+ghost use Rattle.std.specs.Prelude.{◌≡◌, List, ℕ, ◌≤◌, length};
 ghost use Rattle.plan.specs.Check.{Accepted, sizes};
-ghost use Rattle.plan.specs.Inner.Outline.{outline_at, Tabled};
+ghost use Rattle.plan.specs.Inner.Outline.{Tabled};
 
-use super::reading::{Sort, first_of};
+use super::reading::{first_of, is_voice};
 use super::showing::span_at;
 
 // A pattern's number, its first variable among those of the plan, how many it has, the row of its
 // first condition, and that of its END.
-#[derive(Clone, Copy)]
+#[derive(Clone, Copy, Debug, PartialEq, Eq)]
 pub struct Outline {
     pub pattern: usize,
     pub first: usize,
@@ -17,41 +17,37 @@ pub struct Outline {
     pub last: usize,
 }
 
-// The outlines of a plan's patterns, in a table of four numbers for each pattern.
-pub fn lay_out(plan: &[u32], patterns: usize, table: &mut [usize])
-    requires by_index { (v : List ℕ) × Accepted v plan.now }
-    requires patterns_value { patterns ≡ (sizes plan.now).patterns }
-    requires patterns_in_bounds { 4 * patterns ≤ length table.old }
-    ensures { Tabled plan.now table.new }
-{
-    let mut vars: usize = 0;
-    let mut k: usize = 0;
-    while k < patterns {
-        let span = span_at(plan, k);
-        let first = span.start / 4;
-        let condition = first_of(plan, Sort::Other, first);
-        let count = condition - first;
-        let at = 4 * k;
-        table[at] = vars;
-        table[at + 1] = count;
-        table[at + 2] = condition;
-        table[at + 3] = first + span.len / 4 - 1;
-        vars += count;
-        k += 1;
-    }
+impl Outline {
+    // What stands in a table where no pattern is laid out.
+    pub const NONE: Outline = Outline {
+        pattern: 0,
+        first: 0,
+        vars: 0,
+        condition: 0,
+        last: 0,
+    };
 }
 
-// The outline of pattern k, from such a table.
-pub fn outline_at(table: &[usize], k: usize) -> Outline
-    requires { 4 * k + 4 ≤ length table.now }
-    ensures { result ≡ outline_at table.now k }
+// The outlines of a plan's patterns, pattern k as entry k.
+pub fn lay_out(plan: &[u32], patterns: usize, table: &mut [Outline])
+    requires by_index { (v : List ℕ) × Accepted v plan.now }
+    requires patterns_value { patterns ≡ (sizes plan.now).patterns }
+    requires patterns_in_bounds { patterns ≤ length table.old }
+    ensures { Tabled plan.now table.new }
 {
-    let at = 4 * k;
-    Outline {
-        pattern: k,
-        first: table[at],
-        vars: table[at + 1],
-        condition: table[at + 2],
-        last: table[at + 3],
+    let mut first: usize = 0;
+    for pattern in 0..patterns {
+        let span = span_at(plan, pattern);
+        let voice = span.start / 4;
+        let condition = first_of(plan, voice, |kind| !is_voice(kind));
+        let vars = condition - voice;
+        table[pattern] = Outline {
+            pattern,
+            first,
+            vars,
+            condition,
+            last: voice + span.len / 4 - 1,
+        };
+        first += vars;
     }
 }

@@ -6,7 +6,7 @@ ghost use Rattle.plan.specs.Rows.{row_count, row_of, row_at, form_wrong_at};
 use super::limits::LEAST_UNIT;
 
 // A position predicate (01: condition) on the variables of a pattern, which are numbered from 0.
-#[derive(Clone, Copy)]
+#[derive(Clone, Copy, Debug, PartialEq, Eq)]
 pub enum Predicate {
     // NEAR: at most `limit` positions lie between a and b.
     Distance {
@@ -39,7 +39,7 @@ pub enum Predicate {
 }
 
 // What makes one answer of several.
-#[derive(Clone, Copy)]
+#[derive(Clone, Copy, Debug, PartialEq, Eq)]
 pub enum Operator {
     Both,
     Either,
@@ -48,7 +48,7 @@ pub enum Operator {
     AtLeast { least: u32, of: u32 },
 }
 
-#[derive(Clone, Copy)]
+#[derive(Clone, Copy, Debug, PartialEq, Eq)]
 pub enum Kind {
     // A variable (01: voice) over this list.
     Voice(u32),
@@ -58,55 +58,37 @@ pub enum Kind {
     Operator(Operator),
 }
 
-#[derive(Clone, Copy)]
+#[derive(Clone, Copy, Debug, PartialEq, Eq)]
 pub struct Row {
     pub kind: Kind,
 }
 
-// The row of four words, of a kind that there is.
+// The row of four words, of a kind that there is. The numbers are the words of a plan (01: rows).
 pub fn row_of(kind: u32, a: u32, b: u32, c: u32) -> Row
     requires le_kind { 1 ≤ kind }
     requires kind_le_last_kind { kind ≤ last_kind }
     ensures { result ≡ row_of kind a b c }
 {
-    match kind {
-        1 => Row {
-            kind: Kind::Voice(a),
-        },
-        2 => Row {
-            kind: Kind::Condition(Predicate::Distance { a, b, limit: c }),
-        },
-        3 => Row {
-            kind: Kind::Condition(Predicate::Ordered { a, b }),
-        },
-        4 => Row {
-            kind: Kind::Condition(Predicate::Samepara { a, b }),
-        },
-        5 => Row {
-            kind: Kind::Condition(Predicate::Window { limit: c }),
-        },
-        6 => Row { kind: Kind::End },
-        7 => Row {
-            kind: Kind::Operator(Operator::Both),
-        },
-        8 => Row {
-            kind: Kind::Operator(Operator::Either),
-        },
-        9 => Row {
-            kind: Kind::Operator(Operator::FirstNotSecond),
-        },
-        10 => Row {
-            kind: Kind::Condition(Predicate::Proximity {
-                a,
-                b,
-                least: (c / LEAST_UNIT) as u16,
-                most: (c % LEAST_UNIT) as u16,
-            }),
-        },
-        _ => Row {
-            kind: Kind::Operator(Operator::AtLeast { least: a, of: b }),
-        },
-    }
+    let kind = match kind {
+        1 => Kind::Voice(a),
+        2 => Kind::Condition(Predicate::Distance { a, b, limit: c }),
+        3 => Kind::Condition(Predicate::Ordered { a, b }),
+        4 => Kind::Condition(Predicate::Samepara { a, b }),
+        5 => Kind::Condition(Predicate::Window { limit: c }),
+        6 => Kind::End,
+        7 => Kind::Operator(Operator::Both),
+        8 => Kind::Operator(Operator::Either),
+        9 => Kind::Operator(Operator::FirstNotSecond),
+        10 => Kind::Condition(Predicate::Proximity {
+            a,
+            b,
+            least: (c / LEAST_UNIT) as u16,
+            most: (c % LEAST_UNIT) as u16,
+        }),
+        11 => Kind::Operator(Operator::AtLeast { least: a, of: b }),
+        _ => unreachable!(),
+    };
+    Row { kind }
 }
 
 // Row i of a plan, whose form is right.

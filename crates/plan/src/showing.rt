@@ -3,15 +3,19 @@ ghost use Rattle.std.specs.Prelude.{◌≡◌, List, ℕ, ◌<◌};
 ghost use Rattle.plan.specs.Check.{Accepted, sizes};
 ghost use Rattle.plan.specs.Parts.{span_at, span_of, part_of};
 
-use super::answers::Checked;
 use super::checking::check;
-use super::reading::{Sort, first_of};
+use super::reading::{first_of, is_end, is_voice};
 
 // Where the rows of a pattern lie in the plan, in words.
-#[derive(Clone, Copy)]
+#[derive(Clone, Copy, Debug, PartialEq, Eq)]
 pub struct Span {
     pub start: usize,
     pub len: usize,
+}
+
+impl Span {
+    // The span of no row.
+    pub const EMPTY: Span = Span { start: 0, len: 0 };
 }
 
 // The span of pattern number `pattern`: from the first VOICE behind the pattern before it to the
@@ -22,15 +26,12 @@ pub fn span_at(plan: &[u32], pattern: usize) -> Span
     ensures { result ≡ span_at plan.now pattern }
 {
     let mut behind: usize = 0;
-    let mut k: usize = 0;
-    while k < pattern {
-        let first = first_of(plan, Sort::Voice, behind);
-        let last = first_of(plan, Sort::End, first);
-        behind = last + 1;
-        k += 1;
+    for _ in 0..pattern {
+        let first = first_of(plan, behind, is_voice);
+        behind = first_of(plan, first, is_end) + 1;
     }
-    let first = first_of(plan, Sort::Voice, behind);
-    let last = first_of(plan, Sort::End, first);
+    let first = first_of(plan, behind, is_voice);
+    let last = first_of(plan, first, is_end);
     Span {
         start: 4 * first,
         len: 4 * (last + 1 - first),
@@ -42,15 +43,9 @@ pub fn span_at(plan: &[u32], pattern: usize) -> Span
 pub fn pattern_span(volume: &[u8], plan: &[u32], pattern: u32) -> Span
     ensures { result ≡ span_of volume.now plan.now pattern }
 {
-    let checked = check(volume, plan);
-    match checked {
-        Checked::Refused(_) => Span { start: 0, len: 0 },
-        Checked::Accepted(patterns, _) => {
-            if patterns <= pattern {
-                return Span { start: 0, len: 0 };
-            }
-            span_at(plan, pattern as usize)
-        }
+    match check(volume, plan) {
+        Ok(sizes) if pattern < sizes.patterns => span_at(plan, pattern as usize),
+        _ => Span::EMPTY,
     }
 }
 
@@ -60,7 +55,5 @@ pub fn pattern_rows<'a>(volume: &[u8], plan: &'a [u32], pattern: u32) -> &'a [u3
     ensures { result.now ≡ part_of volume.now plan.now pattern }
 {
     let span = pattern_span(volume, plan, pattern);
-    let start = span.start;
-    let end = start + span.len;
-    &plan[start..end]
+    &plan[span.start..span.start + span.len]
 }

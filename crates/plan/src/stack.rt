@@ -1,5 +1,5 @@
 // The answer of a plan in one document, by a stack of answers that are the bits of a number.
-ghost use Rattle.std.specs.Prelude.{◌≡◌, Bool, List, ℕ, ◌+◌, ◌<◌, ◌≤◌, length, set};
+ghost use Rattle.std.specs.Prelude.{◌≡◌, Bool, List, ℕ, ◌<◌, ◌≤◌, Some, length, set};
 ghost use Rattle.plan.specs.declared.row.Kind.TheVariants as kind;
 ghost use Rattle.plan.specs.Rows.{rows_of, InRange};
 ghost use Rattle.plan.specs.State as state;
@@ -7,7 +7,7 @@ ghost use Rattle.plan.specs.Patterns as patterns;
 ghost use Rattle.plan.specs.Patterns.{Pattern, answer};
 ghost use Rattle.plan.specs.Check.{Accepted};
 ghost use Rattle.plan.specs.Inner.Stack as bits;
-ghost use Rattle.plan.specs.Inner.Stack.{flag_of, bits_of, found_bits, Remembers};
+ghost use Rattle.plan.specs.Inner.Stack.{bits_of, found_bits, Remembers};
 
 use super::row::{Kind, Operator, row_at};
 use super::state::takes;
@@ -20,7 +20,7 @@ fn joins(operator: Operator, taken: u32) -> bool
         Operator::Both => taken == 3,
         Operator::Either => taken != 0,
         Operator::FirstNotSecond => taken == 2,
-        Operator::AtLeast { least, of: _ } => least <= u32::count_ones(taken),
+        Operator::AtLeast { least, .. } => least <= taken.count_ones(),
     }
 }
 
@@ -33,11 +33,7 @@ fn operate(operator: Operator, stack: u32) -> u32
 {
     let count = takes(operator);
     let taken = stack & ((1 << count) - 1);
-    let rest = (stack >> count) * 2;
-    if joins(operator, taken) {
-        return rest + 1;
-    }
-    rest
+    (stack >> count) * 2 + u32::from(joins(operator, taken))
 }
 
 // The one answer left, where `bits` has a bit for each pattern, the first one the lowest: 1 if it is
@@ -47,45 +43,38 @@ fn answer_by_rows(plan: &[u32], bits: u32) -> bool
     ensures { (found : Pattern → Bool) → bits ≡ found_bits found plan.now
         → result ≡ answer found (rows_of plan.now) }
 {
-    let n = plan.len() / 4;
     let mut stack: u32 = 0;
     let mut rest = bits;
-    let mut i: usize = 0;
-    while i < n {
-        let row = row_at(plan, i);
-        let kind = row.kind;
-        match kind {
-            Kind::Voice(_) => {}
-            Kind::Condition(_) => {}
+    for i in 0..plan.len() / 4 {
+        match row_at(plan, i).kind {
+            Kind::Voice(_) | Kind::Condition(_) => {}
             Kind::End => {
                 stack = stack * 2 + rest % 2;
-                rest = rest / 2;
+                rest /= 2;
             }
             Kind::Operator(operator) => {
                 stack = operate(operator, stack);
             }
         }
-        i += 1;
     }
     stack % 2 == 1
 }
 
-// The same, with the rows read once for each set of found patterns: `known` has a number for each
-// set, 0 where the rows were not read for it, 1 for the answer no and 2 for yes.
-pub fn answer_of(plan: &[u32], bits: u32, known: &mut [u8]) -> bool
+// The same, with the rows read once for each set of found patterns: `known` has the answer of each
+// set for which they were read.
+pub fn answer_of(plan: &[u32], bits: u32, known: &mut [Option<bool>]) -> bool
     requires by_index { (v : List ℕ) × Accepted v plan.now }
     requires remembers { Remembers plan.now known.old }
     requires bits_in_bounds { bits < length known.old }
     ensures value { (found : Pattern → Bool) → bits ≡ found_bits found plan.now
         → result ≡ answer found (rows_of plan.now) }
-    ensures known_after { known.new ≡ set known.old bits (1 + flag_of result) }
+    ensures known_after { known.new ≡ set known.old bits (Some result) }
 {
     let at = bits as usize;
-    let mark = known[at];
-    if mark != 0 {
-        return mark == 2;
+    if let Some(yes) = known[at] {
+        return yes;
     }
     let yes = answer_by_rows(plan, bits);
-    known[at] = 1 + yes as u8;
+    known[at] = Some(yes);
     yes
 }

@@ -11,12 +11,12 @@ use super::limits;
 use super::row::{Kind, Operator, Predicate, row_at};
 
 // The most variables of a pattern and the most patterns of a plan, as a state counts them.
-const MOST_VARS: u32 = limits::MOST_PATTERN_VARS as u32;
+const MOST_PATTERN_VARS: u32 = limits::MOST_PATTERN_VARS as u32;
 
 const MOST_PATTERNS: u32 = limits::MOST_PATTERNS as u32;
 
 // The state in front of a row.
-#[derive(Clone, Copy)]
+#[derive(Clone, Copy, Debug, PartialEq, Eq)]
 pub struct State {
     // The variables of the open pattern; 0 where none is open.
     pub vars: u32,
@@ -41,28 +41,16 @@ impl State {
     };
 }
 
-// What a row does: the state behind it, or why it is refused.
-#[derive(Clone, Copy)]
-pub enum Step {
-    Stands(State),
-    Faulty(Fault),
-}
-
 // Whether a predicate names only variables below n.
 fn names_below(predicate: Predicate, n: u32) -> bool
     ensures { result ≡ state.names_below n predicate }
 {
     match predicate {
-        Predicate::Distance { a, b, limit: _ } => a < n && b < n,
-        Predicate::Ordered { a, b } => a < n && b < n,
-        Predicate::Samepara { a, b } => a < n && b < n,
-        Predicate::Window { limit: _ } => true,
-        Predicate::Proximity {
-            a,
-            b,
-            least: _,
-            most: _,
-        } => a < n && b < n,
+        Predicate::Distance { a, b, .. }
+        | Predicate::Ordered { a, b }
+        | Predicate::Samepara { a, b }
+        | Predicate::Proximity { a, b, .. } => a < n && b < n,
+        Predicate::Window { .. } => true,
     }
 }
 
@@ -71,10 +59,8 @@ pub fn takes(operator: Operator) -> u32
     ensures { result ≡ state.takes operator }
 {
     match operator {
-        Operator::Both => 2,
-        Operator::Either => 2,
-        Operator::FirstNotSecond => 2,
-        Operator::AtLeast { least: _, of } => of,
+        Operator::Both | Operator::Either | Operator::FirstNotSecond => 2,
+        Operator::AtLeast { of, .. } => of,
     }
 }
 
@@ -84,9 +70,7 @@ fn list_wrong(kind: Kind, lists: u32) -> bool
 {
     match kind {
         Kind::Voice(list) => list == 0 || lists <= list,
-        Kind::Condition(_) => false,
-        Kind::End => false,
-        Kind::Operator(_) => false,
+        _ => false,
     }
 }
 
@@ -95,10 +79,10 @@ fn too_many(kind: Kind, s: State) -> bool
     ensures { result ≡ state.too_many s kind }
 {
     match kind {
-        Kind::Voice(_) => MOST_VARS <= s.vars || (s.vars == 0 && MOST_PATTERNS <= s.patterns),
-        Kind::Condition(_) => false,
-        Kind::End => false,
-        Kind::Operator(_) => false,
+        Kind::Voice(_) => {
+            MOST_PATTERN_VARS <= s.vars || (s.vars == 0 && MOST_PATTERNS <= s.patterns)
+        }
+        _ => false,
     }
 }
 
@@ -123,55 +107,43 @@ fn after(kind: Kind, s: State) -> State
     match kind {
         Kind::Voice(_) => State {
             vars: s.vars + 1,
-            begun: s.begun,
-            patterns: s.patterns,
-            answers: s.answers,
             total: s.total + 1,
+            ..s
         },
-        Kind::Condition(_) => State {
-            vars: s.vars,
-            begun: true,
-            patterns: s.patterns,
-            answers: s.answers,
-            total: s.total,
-        },
+        Kind::Condition(_) => State { begun: true, ..s },
         Kind::End => State {
             vars: 0,
             begun: false,
             patterns: s.patterns + 1,
             answers: s.answers + 1,
-            total: s.total,
+            ..s
         },
         Kind::Operator(operator) => State {
-            vars: s.vars,
-            begun: s.begun,
-            patterns: s.patterns,
             answers: s.answers + 1 - takes(operator),
-            total: s.total,
+            ..s
         },
     }
 }
 
 // What row i of a plan does to a state, over a volume of so many lists.
-pub fn row_step(plan: &[u32], i: usize, lists: u32, s: State) -> Step
+pub fn row_step(plan: &[u32], i: usize, lists: u32, s: State) -> Result<State, Fault>
     requires i_bound { i < row_count plan.now }
     requires at_most { AtMost most_rows s }
     ensures { result ≡ state.step lists s plan.now i }
 {
     let at = 4 * i;
     if form_wrong(plan[at], plan[at + 1], plan[at + 2], plan[at + 3]) {
-        return Step::Faulty(Fault::Form);
+        return Err(Fault::Form);
     }
-    let row = row_at(plan, i);
-    let kind = row.kind;
+    let kind = row_at(plan, i).kind;
     if list_wrong(kind, lists) {
-        return Step::Faulty(Fault::List);
+        return Err(Fault::List);
     }
     if too_many(kind, s) {
-        return Step::Faulty(Fault::TooMany);
+        return Err(Fault::TooMany);
     }
     if order_wrong(kind, s) {
-        return Step::Faulty(Fault::Order);
+        return Err(Fault::Order);
     }
-    Step::Stands(after(kind, s))
+    Ok(after(kind, s))
 }

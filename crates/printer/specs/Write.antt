@@ -1,7 +1,7 @@
 -- Writing a plan as a line: the answer, and the lent bytes afterwards. Assumes nothing.
 use Rattle.std.specs.Prelude.{ℕ, cond, List, length, ltb}
 use Rattle.seq.specs.Refusals.{Said, refused, answered, laid}
-use Rattle.plan.specs.Answers.{Sizes}
+use Rattle.plan.specs.declared.answers.Sizes.{Sizes}
 use Rattle.plan.specs.Check.{verdict}
 use Rattle.grammar.specs.Query.{plan_text}
 

@@ -5,7 +5,7 @@ ghost use Rattle.printer.specs.declared.answers.WriteError.TheVariants as writeE
 
 use plan::Refusal;
 
-#[derive(Clone, Copy)]
+#[derive(Clone, Copy, Debug, PartialEq, Eq)]
 pub enum WriteError {
     // The volume or the plan is refused.
     Refused(Refusal),

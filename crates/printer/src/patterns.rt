@@ -1,71 +1,57 @@
-// Patterns (01: figures), written from the end of their text to its beginning.
+// Patterns (01: figures), written from the end of their text to its beginning. Where their rows
+// begin is what is answered.
 ghost use Rattle.std.specs.Prelude.{◌∷◌, [], ◌≡◌, ◌≤◌, length};
 ghost use Rattle.grammar.specs.Grammar.{condition_text};
 ghost use Rattle.grammar.specs.Query.{condition_of};
-ghost use Rattle.printer.specs.Inner.Writing.{PutBack, spaced, begun, Formed, behind_voice};
+ghost use Rattle.printer.specs.Inner.Writing.{Put, Over, begun, Formed, behind_voice};
 ghost use Rattle.printer.specs.Inner.Writing.{ListsRoom, ListsPut, OpenRoom, OpenPut};
 ghost use Rattle.printer.specs.Inner.Writing.{PatternRoom, PatternPut};
 
-use super::bytes::{put_byte, put_number};
+use super::bytes::Text;
 use plan::{Kind, Predicate, is_voice, list_at, row_at};
 
-// Where rows begin, and where their text does.
-#[derive(Clone, Copy, Debug, PartialEq, Eq)]
-pub struct Back {
-    pub row: usize,
-    pub at: usize,
-}
-
-// A number and the space in front of it.
-fn put_spaced(n: u32, out: &mut [u8], end: usize) -> usize
-    requires { length (spaced n) ≤ end }
-    ensures { PutBack (spaced n) out.old end out.new result }
-{
-    let at = put_number(n, out, end);
-    put_byte(b' ', out, at)
-}
-
 // The beginning of a condition: `;` and its letter.
-fn put_letter(letter: u8, out: &mut [u8], end: usize) -> usize
-    requires { 2 ≤ end }
-    ensures { PutBack (begun letter []) out.old end out.new result }
+fn put_letter(letter: u8, text: &mut Text)
+    requires { 2 ≤ text.old.at }
+    ensures put { Put (begun letter []) text.old text.new }
+    ensures same { text.new.out.ghost_name ≡ text.old.out.ghost_name }
 {
-    let at = put_byte(letter, out, end);
-    put_byte(b';', out, at)
+    text.put_byte(letter);
+    text.put_byte(b';');
 }
 
 // The same with the two variables that it names.
-fn put_pair(letter: u8, a: u32, b: u32, out: &mut [u8], end: usize) -> usize
-    requires { length (begun letter (a ∷ b ∷ [])) ≤ end }
-    ensures { PutBack (begun letter (a ∷ b ∷ [])) out.old end
-        out.new result }
+fn put_pair(letter: u8, a: u32, b: u32, text: &mut Text)
+    requires { length (begun letter (a ∷ b ∷ [])) ≤ text.old.at }
+    ensures put { Put (begun letter (a ∷ b ∷ [])) text.old text.new }
+    ensures same { text.new.out.ghost_name ≡ text.old.out.ghost_name }
 {
-    let second = put_spaced(b, out, end);
-    let first = put_spaced(a, out, second);
-    put_letter(letter, out, first)
+    text.put_spaced(b);
+    text.put_spaced(a);
+    put_letter(letter, text);
 }
 
 // A condition.
-fn put_condition(predicate: Predicate, out: &mut [u8], end: usize) -> usize
-    requires { length (condition_text (condition_of predicate)) ≤ end }
-    ensures { PutBack (condition_text (condition_of predicate)) out.old end
-        out.new result }
+fn put_condition(predicate: Predicate, text: &mut Text)
+    requires { length (condition_text (condition_of predicate)) ≤ text.old.at }
+    ensures put { Put (condition_text (condition_of predicate)) text.old text.new }
+    ensures same { text.new.out.ghost_name ≡ text.old.out.ghost_name }
 {
     match predicate {
         Predicate::Distance { a, b, limit } => {
-            let at = put_spaced(limit, out, end);
-            put_pair(b'n', a, b, out, at)
+            text.put_spaced(limit);
+            put_pair(b'n', a, b, text);
         }
-        Predicate::Ordered { a, b } => put_pair(b'b', a, b, out, end),
-        Predicate::Samepara { a, b } => put_pair(b't', a, b, out, end),
+        Predicate::Ordered { a, b } => put_pair(b'b', a, b, text),
+        Predicate::Samepara { a, b } => put_pair(b't', a, b, text),
         Predicate::Window { limit } => {
-            let at = put_spaced(limit, out, end);
-            put_letter(b's', out, at)
+            text.put_spaced(limit);
+            put_letter(b's', text);
         }
         Predicate::Proximity { a, b, least, most } => {
-            let last = put_spaced(u32::from(most), out, end);
-            let at = put_spaced(u32::from(least), out, last);
-            put_pair(b'a', a, b, out, at)
+            text.put_spaced(u32::from(most));
+            text.put_spaced(u32::from(least));
+            put_pair(b'a', a, b, text);
         }
     }
 }
@@ -79,43 +65,43 @@ fn behind_voice(plan: &[u32], row: usize) -> bool
 }
 
 // The list numbers of a pattern whose last VOICE is row `last`, with `[` in front.
-fn put_lists(plan: &[u32], last: usize, out: &mut [u8], end: usize) -> Back
-    requires { ListsRoom plan.now last end }
-    ensures { ListsPut plan.now last out.old end
-        out.new result }
+fn put_lists(plan: &[u32], last: usize, text: &mut Text) -> usize
+    requires { ListsRoom plan.now last text.old.at }
+    ensures put { Over (ListsPut plan.now last) text.old text.new result }
+    ensures same { text.new.out.ghost_name ≡ text.old.out.ghost_name }
 {
-    let list = list_at(plan, last);
-    let number = put_number(list, out, end);
+    text.put_number(list_at(plan, last));
     if behind_voice(plan, last) {
-        let at = put_byte(b' ', out, number);
-        put_lists(plan, last - 1, out, at)
+        text.put_byte(b' ');
+        put_lists(plan, last - 1, text)
     } else {
-        let at = put_byte(b'[', out, number);
-        Back { row: last, at }
+        text.put_byte(b'[');
+        last
     }
 }
 
 // A pattern without its closing bracket, where row `last` is its last one in front of END.
-fn put_open(plan: &[u32], last: usize, out: &mut [u8], end: usize) -> Back
-    requires { OpenRoom plan.now last end }
-    ensures { OpenPut plan.now last out.old end out.new result }
+fn put_open(plan: &[u32], last: usize, text: &mut Text) -> usize
+    requires { OpenRoom plan.now last text.old.at }
+    ensures put { Over (OpenPut plan.now last) text.old text.new result }
+    ensures same { text.new.out.ghost_name ≡ text.old.out.ghost_name }
 {
     match row_at(plan, last).kind {
         Kind::Condition(predicate) => {
-            let at = put_condition(predicate, out, end);
-            put_open(plan, last - 1, out, at)
+            put_condition(predicate, text);
+            put_open(plan, last - 1, text)
         }
-        Kind::Voice(_) => put_lists(plan, last, out, end),
+        Kind::Voice(_) => put_lists(plan, last, text),
         Kind::End | Kind::Operator(_) => unreachable!(),
     }
 }
 
 // A pattern, where row `last` is its END.
-pub fn put_pattern(plan: &[u32], last: usize, out: &mut [u8], end: usize) -> Back
-    requires { PatternRoom plan.now last end }
-    ensures { PatternPut plan.now last out.old end
-        out.new result }
+pub fn put_pattern(plan: &[u32], last: usize, text: &mut Text) -> usize
+    requires { PatternRoom plan.now last text.old.at }
+    ensures put { Over (PatternPut plan.now last) text.old text.new result }
+    ensures same { text.new.out.ghost_name ≡ text.old.out.ghost_name }
 {
-    let at = put_byte(b']', out, end);
-    put_open(plan, last - 1, out, at)
+    text.put_byte(b']');
+    put_open(plan, last - 1, text)
 }

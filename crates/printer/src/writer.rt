@@ -6,8 +6,8 @@ ghost use Rattle.printer.specs.Write.{write_answer, write_out};
 ghost use Rattle.printer.specs.Inner.Trees.{LineWritten};
 
 use super::answers::WriteError;
+use super::bytes::Text;
 use super::trees::{Level, put_tree};
-use plan::Checked;
 
 // No line of an accepted plan has more bytes.
 const MOST_BYTES: usize = 2048;
@@ -18,12 +18,17 @@ fn write_line(plan: &[u32], out: &mut [u8]) -> Result<u32, WriteError>
     ensures { LineWritten plan.now out.old result out.new }
 {
     let last = plan.len() / 4 - 1;
-    let counted = put_tree(plan, last, Level::Line, &mut [], MOST_BYTES);
+    let mut counted = Text {
+        out: &mut [],
+        at: MOST_BYTES,
+    };
+    put_tree(plan, last, Level::Line, &mut counted);
     let bytes = MOST_BYTES - counted.at;
     if out.len() < bytes {
         return Err(WriteError::Short);
     }
-    put_tree(plan, last, Level::Line, out, bytes);
+    let mut text = Text { out, at: bytes };
+    put_tree(plan, last, Level::Line, &mut text);
     Ok(bytes as u32)
 }
 
@@ -34,9 +39,6 @@ pub fn write(volume: &[u8], plan: &[u32], out: &mut [u8]) -> Result<u32, WriteEr
     ensures out_after { out.new
         ≡ write_out volume.now plan.now out.old }
 {
-    let checked = plan::check(volume, plan);
-    match checked {
-        Checked::Refused(why) => Err(WriteError::Refused(why)),
-        Checked::Accepted(_, _) => write_line(plan, out),
-    }
+    plan::check(volume, plan)?;
+    write_line(plan, out)
 }

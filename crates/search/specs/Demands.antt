@@ -2,7 +2,7 @@
 --     ListRefuses    demand 1 for listing
 --     Demand3        demand 3: every search, whole
 --     OneToOne       no two answers are told alike
-use Rattle.std.specs.Prelude.{ℕ, ◌/◌, ◌≡◌, true, ◌↔◌, List, ◌++◌, length, drop}
+use Rattle.std.specs.Prelude.{ℕ, Result, ◌/◌, ◌≡◌, true, ◌↔◌, List, ◌++◌, length, drop}
 use Rattle.std.proofs.Math.Option.{none, some}
 use Rattle.seq.specs.Lists.{total}
 use Rattle.seq.specs.Refusals.{refused, answered, stage_in, FirstRefusal}
@@ -15,7 +15,8 @@ use Rattle.plan.specs.Patterns.{Pattern, vars_of}
 use Rattle.fulltext.specs.Positions.{limit}
 use Rattle.fulltext.specs.Matches.{matches_at, least_in, Least}
 use Rattle.fulltext.specs.Documents.{found, work}
-use Rattle.search.specs.declared.answers.Listed.{Listed}
+use Rattle.search.specs.declared.answers.Listing.{Listing}
+use Rattle.search.specs.declared.answers.ListError.{ListError}
 use Rattle.search.specs.Answers.{Page, said_listed}
 use Rattle.search.specs.Listing.{page_of, rows_from, list_answer, list_out}
 use Rattle.search.specs.Refusals.{ListApplies, list_stages}
@@ -57,4 +58,4 @@ Demand3 = (v p : List ℕ) → Accepted v p → Holds3 plain v p
 
 -- no two answers have document 01's number and values in common
 pub record OneToOne : Type 0 where
-  pub listed : (a b : Listed) → said_listed a ≡ said_listed b → a ≡ b
+  pub listed : (a b : Result Listing ListError) → said_listed a ≡ said_listed b → a ≡ b

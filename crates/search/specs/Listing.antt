@@ -2,7 +2,7 @@
 use Rattle.std.specs.Prelude.{ℕ, ◌/◌, cond, List, length, ltb}
 use Rattle.std.proofs.Math.Option.{Option, none, some}
 use Rattle.seq.specs.Refusals.{Said, refused, answered, laid}
-use Rattle.plan.specs.Answers.{Sizes}
+use Rattle.plan.specs.declared.answers.Sizes.{Sizes}
 use Rattle.plan.specs.Check.{verdict}
 use Rattle.fulltext.specs.Positions.{limit}
 use Rattle.fulltext.specs.Documents.{Work, docs_in, rows_of_docs, work}

@@ -18,6 +18,6 @@ mod rows;
 mod setup;
 mod walk;
 
-pub use answers::Listed;
+pub use answers::{ListError, Listing};
 pub use listing::list;
-pub use matcher::{Tested, test};
+pub use matcher::{TestError, test};

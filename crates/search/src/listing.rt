@@ -10,12 +10,12 @@ ghost use Rattle.search.specs.Search.{Kept};
 ghost use Rattle.matcher.specs.Inner.Tables.{Cursors};
 ghost use Rattle.search.specs.Inner.Walk.{Walks};
 
-use super::answers::Listed;
+use super::answers::{ListError, Listing};
 use super::rows::write_row;
 use super::setup::{set_cursors, set_orders};
 use super::walk::{Walk, visit};
 use matcher::{Cursor, Document, blocks_of, starts_of};
-use plan::{Checked, MOST_FOUND_SETS, MOST_PATTERNS, MOST_VARS, answer_of, lay_out, row_words};
+use plan::{MOST_FOUND_SETS, MOST_PATTERNS, MOST_VARS, Outline, answer_of, lay_out, row_words};
 use volume::{BLOCK_WORDS, Posting};
 
 // How many postings the lists of all variables have from document `start` up to document `doc`, doc
@@ -30,15 +30,13 @@ fn tally(volume: &[u8], plan: &[u32], start: u32, doc: u32, ats: &[usize], ends:
     ensures { result ≡ postings_in (lists_of volume.now) (rows_of plan.now) start doc }
 {
     let mut sum: usize = 0;
-    let mut x: usize = 0;
-    while x < ats.len() {
+    for x in 0..ats.len() {
         let cursor = Cursor {
             at: ats[x],
             end: ends[x],
         };
         let moved = cursor.seek(volume, doc);
         sum += moved.at - ats[x];
-        x += 1;
     }
     sum as u32
 }
@@ -48,7 +46,7 @@ fn tally(volume: &[u8], plan: &[u32], start: u32, doc: u32, ats: &[usize], ends:
 fn list_docs(
     volume: &[u8],
     plan: &[u32],
-    table: &[usize],
+    table: &[Outline],
     orders: &[usize],
     start: u32,
     firsts: &[usize],
@@ -56,9 +54,8 @@ fn list_docs(
     ats: &mut [usize],
     positions: &mut [u32],
     out: &mut [u32],
-) -> Listed
+) -> Listing
     requires walks { Walks volume.now plan.now table.now orders.now ends.now }
-    requires table_len { length table.now ≡ 4 * (sizes plan.now).patterns }
     requires firsts_len { length firsts.now ≡ (sizes plan.now).vars }
     requires start_bound { start ≤ 65535 }
     requires cursors { Cursors volume.now plan.now start firsts.now ends.now }
@@ -66,9 +63,9 @@ fn list_docs(
     requires plan_in_bounds { (sizes plan.now).vars ≤ length positions.old }
     requires plan_in_bounds_2 { row_words (sizes plan.now).patterns (sizes plan.now).vars ≤ length out.old }
     ensures { Kept volume.now plan.now start
-        (record { lent = out.old; says = said_listed result; back = out.new }) }
+        (record { lent = out.old; says = said_listed (Ok result); back = out.new }) }
 {
-    let patterns = table.len() / 4;
+    let patterns = table.len();
     let width = row_words(patterns as u32, firsts.len() as u32);
     let room = out.len() / width;
     let list = starts_of(volume);
@@ -77,7 +74,7 @@ fn list_docs(
     let mut block = starts.at / BLOCK_WORDS;
     let mut paras: [usize; MOST_VARS] = [0; MOST_VARS];
     let mut docs: [u32; MOST_PATTERNS] = [0; MOST_PATTERNS];
-    let mut known: [u8; MOST_FOUND_SETS] = [0; MOST_FOUND_SETS];
+    let mut known: [Option<bool>; MOST_FOUND_SETS] = [None; MOST_FOUND_SETS];
     let mut rows: usize = 0;
     let mut from = start;
     loop {
@@ -86,7 +83,7 @@ fn list_docs(
             fresh: from == start,
             starts,
         };
-        let seen = visit(
+        let Some(seen) = visit(
             volume,
             plan,
             table,
@@ -97,19 +94,26 @@ fn list_docs(
             positions,
             &mut docs[..patterns],
             &mut paras,
-        );
+        ) else {
+            let tally = tally(volume, plan, start, Posting::DOCS, firsts, ends);
+            return Listing {
+                rows: rows as u32,
+                tally,
+                next: None,
+            };
+        };
         let doc = seen.doc;
-        if doc == Posting::DOCS {
-            let passed = tally(volume, plan, start, doc, firsts, ends);
-            return Listed::Done(rows as u32, passed);
-        }
         from = doc + 1;
         if !answer_of(plan, seen.found, &mut known) {
             continue;
         }
         if rows == room {
-            let passed = tally(volume, plan, start, doc, firsts, ends);
-            return Listed::More(doc, rows as u32, passed);
+            let tally = tally(volume, plan, start, doc, firsts, ends);
+            return Listing {
+                rows: rows as u32,
+                tally,
+                next: Some(doc),
+            };
         }
         let document = Document { doc, starts };
         block = write_row(
@@ -118,7 +122,6 @@ fn list_docs(
             blocks,
             block,
             table,
-            patterns,
             seen.found,
             positions,
             out,
@@ -136,36 +139,29 @@ fn list_from(
     vars: usize,
     start: u32,
     out: &mut [u32],
-) -> Listed
+) -> Listing
     requires accepted { Accepted volume.now plan.now }
     requires patterns_value { patterns ≡ (sizes plan.now).patterns }
     requires vars_value { vars ≡ (sizes plan.now).vars }
     requires start_bound { start ≤ 65535 }
     requires vars_in_bounds { row_words patterns vars ≤ length out.old }
     ensures { Kept volume.now plan.now start
-        (record { lent = out.old; says = said_listed result; back = out.new }) }
+        (record { lent = out.old; says = said_listed (Ok result); back = out.new }) }
 {
-    let mut table: [usize; 4 * MOST_PATTERNS] = [0; 4 * MOST_PATTERNS];
-    lay_out(plan, patterns, &mut table);
+    let mut outlines: [Outline; MOST_PATTERNS] = [Outline::NONE; MOST_PATTERNS];
+    lay_out(plan, patterns, &mut outlines);
+    let table = &outlines[..patterns];
     let mut firsts: [usize; MOST_VARS] = [0; MOST_VARS];
     let mut ends: [usize; MOST_VARS] = [0; MOST_VARS];
-    set_cursors(
-        volume,
-        plan,
-        patterns,
-        &table,
-        start,
-        &mut firsts,
-        &mut ends,
-    );
+    set_cursors(volume, plan, table, start, &mut firsts, &mut ends);
     let mut orders: [usize; MOST_VARS] = [0; MOST_VARS];
-    set_orders(volume, plan, patterns, &table, &mut orders);
+    set_orders(volume, plan, table, &mut orders);
     let mut ats = firsts;
     let mut positions: [u32; MOST_VARS] = [0; MOST_VARS];
     list_docs(
         volume,
         plan,
-        &table[..4 * patterns],
+        table,
         &orders,
         start,
         &firsts[..vars],
@@ -177,21 +173,18 @@ fn list_from(
 }
 
 // Writes the rows of the true documents from document `start` on to the front of out, as many as fit.
-pub fn list(volume: &[u8], plan: &[u32], start: u32, out: &mut [u32]) -> Listed
+pub fn list(volume: &[u8], plan: &[u32], start: u32, out: &mut [u32]) -> Result<Listing, ListError>
     ensures { Kept volume.now plan.now start
         (record { lent = out.old; says = said_listed result; back = out.new }) }
 {
-    let checked = plan::check(volume, plan);
-    match checked {
-        Checked::Refused(why) => Listed::Refused(why),
-        Checked::Accepted(patterns, vars) => {
-            if Posting::LAST_DOC < start {
-                return Listed::Start;
-            }
-            if out.len() < row_words(patterns, vars) {
-                return Listed::Short;
-            }
-            list_from(volume, plan, patterns as usize, vars as usize, start, out)
-        }
+    let sizes = plan::check(volume, plan)?;
+    if Posting::LAST_DOC < start {
+        return Err(ListError::Start);
     }
+    if out.len() < row_words(sizes.patterns, sizes.vars) {
+        return Err(ListError::Short);
+    }
+    let patterns = sizes.patterns as usize;
+    let vars = sizes.vars as usize;
+    Ok(list_from(volume, plan, patterns, vars, start, out))
 }

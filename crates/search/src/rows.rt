@@ -11,19 +11,7 @@ ghost use Rattle.matcher.specs.Inner.Blocks.{Whole};
 ghost use Rattle.search.specs.Inner.Rows.{halved, row_by};
 
 use matcher::{Blocks, Document, para_near};
-use plan::outline_at;
-
-// Writes zeros into out, n of them from `to` on.
-fn write_zeros(n: usize, out: &mut [u32], to: usize)
-    requires { to + n ≤ length out.old }
-    ensures { out.new ≡ take to out.old ++ replicate n 0 ++ drop (to + n) out.old }
-{
-    let mut i: usize = 0;
-    while i < n {
-        out[to + i] = 0;
-        i += 1;
-    }
-}
+use plan::Outline;
 
 // Writes positions of a document into out from `to` on, each followed by the start of its paragraph.
 // `block` is where a start was found last. The block in which the last one is found.
@@ -48,16 +36,11 @@ fn write_pairs(
     ensures result_bound { 126 * result ≤ stream_length volume.now }
 {
     let mut near = block;
-    let mut at = to;
-    let mut x: usize = 0;
-    while x < positions.len() {
-        let pos = positions[x];
+    for (x, &pos) in positions.iter().enumerate() {
         let para = para_near(volume, document, blocks, pos, near);
         near = para.block;
-        out[at] = pos;
-        out[at + 1] = para.start;
-        at += 2;
-        x += 1;
+        out[to + 2 * x] = pos;
+        out[to + 2 * x + 1] = para.start;
     }
     near
 }
@@ -70,8 +53,7 @@ pub fn write_row(
     document: Document,
     blocks: Blocks,
     block: usize,
-    table: &[usize],
-    patterns: usize,
+    table: &[Outline],
     found: u32,
     positions: &[u32],
     out: &mut [u32],
@@ -81,27 +63,25 @@ pub fn write_row(
     requires at_document { AtDocument volume.now document }
     requires whole { Whole document.starts blocks }
     requires block_bound { 126 * block ≤ stream_length volume.now }
-    requires patterns_in_bounds { 4 * patterns ≤ length table.now }
-    requires by_index { (k : ℕ) → k < patterns
+    requires by_index { (k : ℕ) → k < length table.now
         → (outline_at table.now k).first + (outline_at table.now k).vars ≤ length positions.now }
-    requires by_index_2 { (k : ℕ) → k < patterns → halved found k % 2 ≡ 1
+    requires by_index_2 { (k : ℕ) → k < length table.now → halved found k % 2 ≡ 1
         → InDocument (take (outline_at table.now k).vars (drop (outline_at table.now k).first positions.now)) }
-    requires patterns_in_bounds_2 { from + length (row_by (starts_in (lists_of volume.now) document.doc) table.now document.doc found positions.now
-        patterns) ≤ length out.old }
+    requires row_in_bounds { from + length (row_by (starts_in (lists_of volume.now) document.doc) table.now document.doc found positions.now
+        (length table.now)) ≤ length out.old }
     ensures out_after { out.new ≡ take from out.old
         ++ row_by (starts_in (lists_of volume.now) document.doc) table.now document.doc found
-        positions.now patterns
+        positions.now (length table.now)
         ++ drop (from + length (row_by (starts_in (lists_of volume.now) document.doc) table.now document.doc found
-        positions.now patterns)) out.old }
+        positions.now
+        (length table.now))) out.old }
     ensures result_bound { 126 * result ≤ stream_length volume.now }
 {
     out[from] = document.doc;
     let mut near = block;
     let mut to = from + 1;
     let mut left = found;
-    let mut k: usize = 0;
-    while k < patterns {
-        let outline = outline_at(table, k);
+    for &outline in table {
         let first = outline.first;
         let vars = outline.vars;
         let flag = left % 2;
@@ -111,11 +91,10 @@ pub fn write_row(
             let tuple = &positions[first..first + vars];
             near = write_pairs(volume, document, blocks, near, tuple, out, to);
         } else {
-            write_zeros(2 * vars, out, to);
+            out[to..to + 2 * vars].fill(0);
         }
         to += 2 * vars;
-        left = left / 2;
-        k += 1;
+        left /= 2;
     }
     near
 }

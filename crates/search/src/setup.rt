@@ -10,32 +10,23 @@ ghost use Rattle.matcher.specs.Inner.Tables.{cursor_on, Cursors};
 ghost use Rattle.search.specs.Inner.Setup.{ListsUsed, RarestEach};
 
 use matcher::{Cursor, rarest_first};
-use plan::{list_at, outline_at};
+use plan::{Outline, list_at};
 use volume::MAX_LISTS;
 
-// One more than the largest list of a plan's VOICEs, which `table` has the outlines of.
-fn lists_used(plan: &[u32], patterns: usize, table: &[usize]) -> usize
+// One more than the largest list of a plan's VOICEs, of whose patterns `table` has the outlines.
+fn lists_used(plan: &[u32], table: &[Outline]) -> usize
     requires by_index { (v : List ℕ) × Accepted v plan.now }
-    requires patterns_value { patterns ≡ (sizes plan.now).patterns }
     requires tabled { Tabled plan.now table.now }
-    requires patterns_in_bounds { 4 * patterns ≤ length table.now }
+    requires table_len { length table.now ≡ (sizes plan.now).patterns }
     ensures { ListsUsed plan.now (sizes plan.now).vars result }
 {
     let mut used: usize = 0;
-    let mut k: usize = 0;
-    while k < patterns {
-        let outline = outline_at(table, k);
-        let count = outline.vars;
-        let row = outline.condition - count;
-        let mut i: usize = 0;
-        while i < count {
+    for &outline in table {
+        let row = outline.condition - outline.vars;
+        for i in 0..outline.vars {
             let list = list_at(plan, row + i) as usize;
-            if used <= list {
-                used = list + 1;
-            }
-            i += 1;
+            used = used.max(list + 1);
         }
-        k += 1;
     }
     used
 }
@@ -62,63 +53,43 @@ fn cursor_on(volume: &[u8], starts: &[usize], list: usize, doc: u32) -> Cursor
 pub fn set_cursors(
     volume: &[u8],
     plan: &[u32],
-    patterns: usize,
-    table: &[usize],
+    table: &[Outline],
     start: u32,
     ats: &mut [usize],
     ends: &mut [usize],
 )
     requires accepted { Accepted volume.now plan.now }
-    requires patterns_value { patterns ≡ (sizes plan.now).patterns }
     requires tabled { Tabled plan.now table.now }
-    requires patterns_in_bounds { 4 * patterns ≤ length table.now }
+    requires table_len { length table.now ≡ (sizes plan.now).patterns }
     requires start_bound { start ≤ 65535 }
     requires most_vars_in_bounds { most_vars ≤ length ats.old }
     requires most_vars_in_bounds_2 { most_vars ≤ length ends.old }
     ensures { Cursors volume.now plan.now start ats.new ends.new }
 {
     let mut starts: [usize; MAX_LISTS + 1] = [0; MAX_LISTS + 1];
-    let used = lists_used(plan, patterns, table);
+    let used = lists_used(plan, table);
     volume::list_starts(volume, used, &mut starts);
-    let mut k: usize = 0;
-    while k < patterns {
-        let outline = outline_at(table, k);
-        let first = outline.first;
-        let count = outline.vars;
-        let row = outline.condition - count;
-        let mut i: usize = 0;
-        while i < count {
+    for &outline in table {
+        let row = outline.condition - outline.vars;
+        for i in 0..outline.vars {
             let list = list_at(plan, row + i);
             let cursor = cursor_on(volume, &starts, list as usize, start);
-            ats[first + i] = cursor.at;
-            ends[first + i] = cursor.end;
-            i += 1;
+            ats[outline.first + i] = cursor.at;
+            ends[outline.first + i] = cursor.end;
         }
-        k += 1;
     }
 }
 
 // The order of each pattern's variables, the rarest first, from the pattern's first one on.
-pub fn set_orders(
-    volume: &[u8],
-    plan: &[u32],
-    patterns: usize,
-    table: &[usize],
-    orders: &mut [usize],
-)
+pub fn set_orders(volume: &[u8], plan: &[u32], table: &[Outline], orders: &mut [usize])
     requires accepted { Accepted volume.now plan.now }
-    requires patterns_value { patterns ≡ (sizes plan.now).patterns }
     requires tabled { Tabled plan.now table.now }
-    requires patterns_in_bounds { 4 * patterns ≤ length table.now }
+    requires table_len { length table.now ≡ (sizes plan.now).patterns }
     requires most_vars_in_bounds { most_vars ≤ length orders.old }
     ensures rarest_each { RarestEach volume.now plan.now orders.new }
     ensures orders_len_unchanged { length orders.new ≡ length orders.old }
 {
-    let mut k: usize = 0;
-    while k < patterns {
-        let outline = outline_at(table, k);
-        let first = outline.first;
-        rarest_first(volume, plan, outline, &mut orders[first..]);
-        k += 1;
+    for &outline in table {
+        rarest_first(volume, plan, outline, &mut orders[outline.first..]);
     }
 }

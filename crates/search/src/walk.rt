@@ -1,14 +1,14 @@
 // The walk over the documents: the next one in which each pattern can be found, and what is found
 // there.
-ghost use Rattle.std.specs.Prelude.{◌≡◌, ℕ, ◌<◌, ◌≤◌, length, get_or};
+ghost use Rattle.std.specs.Prelude.{◌≡◌, ℕ, ◌<◌, ◌≤◌, length, get_or, IfSome};
 ghost use Rattle.plan.specs.Check.{sizes};
 ghost use Rattle.matcher.specs.Inner.Cursors.{AtDocument};
 ghost use Rattle.search.specs.Inner.Walk.{Candidate, Pending, Brought, LeastDoc, Walks, Ready, Settled, SettledAll};
-ghost use Rattle.search.specs.Inner.Walk.{Walking, Visited};
+ghost use Rattle.search.specs.Inner.Walk.{Walking, seen_or_end, Visited};
 
 use super::align::align;
 use matcher::{Cursor, Document, match_from};
-use plan::{Outline, outline_at};
+use plan::Outline;
 use volume::Posting;
 
 // Where a walk goes on: the document from which on, whether no pattern has a document yet, and a
@@ -32,7 +32,7 @@ pub struct Seen {
 fn next_docs(
     volume: &[u8],
     plan: &[u32],
-    table: &[usize],
+    table: &[Outline],
     orders: &[usize],
     fresh: bool,
     doc: u32,
@@ -51,15 +51,10 @@ fn next_docs(
     ensures { Brought volume.now plan.now ends.now ats.old positions.old
         docs.old doc ats.new positions.new docs.new }
 {
-    let mut k: usize = 0;
-    while k < docs.len() {
-        if !fresh {
-            if doc <= docs[k] {
-                k += 1;
-                continue;
-            }
+    for (k, &outline) in table.iter().enumerate() {
+        if !fresh && doc <= docs[k] {
+            continue;
         }
-        let outline = outline_at(table, k);
         let first = outline.first;
         docs[k] = align(
             volume,
@@ -71,7 +66,6 @@ fn next_docs(
             outline.vars,
             doc,
         );
-        k += 1;
     }
 }
 
@@ -80,16 +74,7 @@ fn least_of(docs: &[u32]) -> u32
     requires { (k : ℕ) → k < length docs.now → get_or docs.now k 0 ≤ 65536 }
     ensures { LeastDoc docs.now (length docs.now) result }
 {
-    let mut least = Posting::DOCS;
-    let mut k: usize = 0;
-    while k < docs.len() {
-        let doc = docs[k];
-        if doc < least {
-            least = doc;
-        }
-        k += 1;
-    }
-    least
+    docs.iter().copied().min().unwrap_or(Posting::DOCS)
 }
 
 // Brings a pattern that stands in a document to its least match there. Whether there is one. A
@@ -135,7 +120,7 @@ fn settle(
 fn settle_all(
     volume: &[u8],
     plan: &[u32],
-    table: &[usize],
+    table: &[Outline],
     document: Document,
     orders: &[usize],
     ends: &[usize],
@@ -158,29 +143,26 @@ fn settle_all(
 {
     let mut bits: u32 = 0;
     let mut weight: u32 = 1;
-    let mut k: usize = 0;
-    while k < docs.len() {
-        if docs[k] == document.doc {
-            let outline = outline_at(table, k);
-            if settle(
+    for (k, &outline) in table.iter().enumerate() {
+        if docs[k] == document.doc
+            && settle(
                 volume, plan, outline, document, orders, ends, ats, positions, paras,
-            ) {
-                bits += weight;
-            }
+            )
+        {
+            bits += weight;
         }
         weight *= 2;
-        k += 1;
     }
     bits
 }
 
-// The next document in which a pattern can be found, 65,536 where there is none: which patterns are
-// found there, and the positions of each one that is. `paras` has for each variable where the start
-// of its paragraph was found last.
+// The next document in which a pattern can be found; none where there is no such document. Which
+// patterns are found there, and the positions of each one that is. `paras` has for each variable
+// where the start of its paragraph was found last.
 pub fn visit(
     volume: &[u8],
     plan: &[u32],
-    table: &[usize],
+    table: &[Outline],
     orders: &[usize],
     walk: Walk,
     ats: &mut [usize],
@@ -188,13 +170,14 @@ pub fn visit(
     positions: &mut [u32],
     docs: &mut [u32],
     paras: &mut [usize],
-) -> Seen
+) -> Option<Seen>
     requires walks { Walks volume.now plan.now table.now orders.now ends.now }
     requires walking { Walking volume.now plan.now ends.now ats.old positions.old docs.old walk.from walk.fresh
         walk.starts }
     requires plan_in_bounds { (sizes plan.now).vars ≤ length paras.old }
-    ensures visited { Visited volume.now plan.now ends.now walk.from result
+    ensures visited { Visited volume.now plan.now ends.now walk.from (seen_or_end result)
         ats.new positions.new docs.new walk.starts }
+    ensures document { IfSome result (λ seen. seen.doc < 65536) }
     ensures paras_len_unchanged { length paras.new ≡ length paras.old }
 {
     next_docs(
@@ -202,12 +185,12 @@ pub fn visit(
     );
     let doc = least_of(docs);
     if doc == Posting::DOCS {
-        return Seen { doc, found: 0 };
+        return None;
     }
     let starts = walk.starts;
     let document = Document { doc, starts };
     let found = settle_all(
         volume, plan, table, document, orders, ends, ats, positions, docs, paras,
     );
-    Seen { doc, found }
+    Some(Seen { doc, found })
 }

@@ -1,6 +1,8 @@
 -- The laws of `specs/`. No contract cites these files.
 --     Stream                      where words stand
 --     Check                       the rungs of the verdict, what its tests decide, and what acceptance gives
+--     Pass                        what the pass over the blocks answers
+--     Truth, Index                a bool as a number; an index below an end, back from the answer
 --     Starts                      the starts of the lists, list by list
 --     Read                        the rungs of reading a list
 --     Write, WriteAnswer          the bytes of words and blocks; the writer's answer
@@ -12,6 +14,9 @@
 --     Damage, Answers, Sample     one changed byte; an answer is known from its number and values; document 01's sample
 pub mod Stream
 pub mod Check
+pub mod Pass
+pub mod Truth
+pub mod Index
 pub mod Starts
 pub mod Read
 pub mod Write

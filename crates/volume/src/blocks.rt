@@ -1,23 +1,17 @@
 // The blocks of a volume: their numbers and checksums, and the falls of the stream on the way.
-ghost use Rattle.std.specs.Prelude.{◌≡◌, ◌*◌, ◌<◌, ◌≤◌};
+ghost use Rattle.std.specs.Prelude.{◌≡◌, ◌<◌, ◌≤◌};
 ghost use Rattle.volume.specs.Layout.{blocks};
 ghost use Rattle.volume.specs.Inner.Places.{Whole};
-ghost use Rattle.volume.specs.Check.{number_wrong, checksum_wrong, bad_block};
-ghost use Rattle.volume.specs.Inner.Falls.{falls_before};
+ghost use Rattle.volume.specs.Check.{number_wrong, checksum_wrong};
+ghost use Rattle.volume.specs.Inner.Falls.{block_answer, blocks_answer};
 
+use super::answers::Refusal;
 use super::layout::{BLOCK_BYTES, BLOCK_WORDS, LAST_WORD, SUM_A, SUM_B};
 use super::order::{fall_at, falls_in};
 use block::{block_sums, read16, read32};
 
-// The lowest block that is wrong, or the number of blocks; and the falls in front of it.
-#[derive(Clone, Copy)]
-pub struct Pass {
-    pub bad: usize,
-    pub falls: usize,
-}
-
 // Whether the number of block k is wrong.
-pub fn number_wrong(volume: &[u8], k: usize) -> bool
+fn number_wrong(volume: &[u8], k: usize) -> bool
     requires { k < blocks volume.now }
     ensures { result ≡ number_wrong volume.now k }
 {
@@ -31,33 +25,37 @@ fn checksum_wrong(volume: &[u8], k: usize) -> bool
 {
     let from = BLOCK_BYTES * k;
     let sums = block_sums(volume, from);
-    if read16(volume, from + SUM_A) != sums.a {
-        return true;
-    }
-    read16(volume, from + SUM_B) != sums.b
+    read16(volume, from + SUM_A) != sums.a || read16(volume, from + SUM_B) != sums.b
 }
 
-// One pass over the blocks.
-pub fn check_blocks(volume: &[u8]) -> Pass
+// Whether block k is in order.
+fn check_block(volume: &[u8], k: usize) -> Result<(), Refusal>
+    requires k_bound { k < blocks volume.now }
+    requires volume_bound { blocks volume.now ≤ 8192 }
+    ensures { result ≡ block_answer volume.now k }
+{
+    let block = k as u32;
+    if number_wrong(volume, k) {
+        return Err(Refusal::Number(block));
+    }
+    if checksum_wrong(volume, k) {
+        return Err(Refusal::Checksum(block));
+    }
+    Ok(())
+}
+
+// One pass over the blocks: the falls of the stream, or why the lowest block that is wrong is
+// refused.
+pub fn check_blocks(volume: &[u8]) -> Result<usize, Refusal>
     requires whole { Whole volume.now }
     requires volume_bound { blocks volume.now ≤ 8192 }
-    ensures bad_value { result.bad ≡ bad_block volume.now }
-    ensures falls_value { result.falls ≡ falls_before volume.now (126 * result.bad) }
-    ensures bad_bound { result.bad ≤ blocks volume.now }
+    ensures { result ≡ blocks_answer volume.now }
 {
-    let n = volume.len() / BLOCK_BYTES;
     let mut falls: usize = 0;
-    let mut k: usize = 0;
-    while k < n {
-        if number_wrong(volume, k) {
-            return Pass { bad: k, falls };
-        }
-        if checksum_wrong(volume, k) {
-            return Pass { bad: k, falls };
-        }
+    for k in 0..volume.len() / BLOCK_BYTES {
+        check_block(volume, k)?;
         falls += falls_in(volume, k) as usize;
         falls += fall_at(volume, BLOCK_WORDS * k + LAST_WORD) as usize;
-        k += 1;
     }
-    Pass { bad: n, falls }
+    Ok(falls)
 }

@@ -3,14 +3,22 @@ ghost use Rattle.std.specs.Prelude.{◌≡◌, ◌≤◌};
 ghost use Rattle.volume.specs.Layout.{blocks, stream_length};
 ghost use Rattle.volume.specs.Inner.Places.{Whole};
 ghost use Rattle.volume.specs.Answers.{said_checked};
-ghost use Rattle.volume.specs.Check.{stream_verdict, verdict};
+ghost use Rattle.volume.specs.Check.{length_wrong, stream_verdict, verdict};
 ghost use Rattle.volume.specs.Inner.Falls.{falls_before};
 
 use super::answers::{Refusal, Sizes};
-use super::blocks::{check_blocks, number_wrong};
+use super::blocks::check_blocks;
 use super::layout::{BLOCK_BYTES, BLOCK_WORDS, LAST_WORD, MAX_BLOCKS, MAX_LISTS, extent_of, lead};
 use super::order::bad_list;
 use super::stream::{bad_word, count_sum, word_at};
+
+// Whether the length is wrong.
+fn length_wrong(volume: &[u8]) -> bool
+    ensures { result ≡ length_wrong volume.now }
+{
+    let blocks = volume.len() / BLOCK_BYTES;
+    volume.len() == 0 || volume.len() % BLOCK_BYTES != 0 || MAX_BLOCKS < blocks
+}
 
 // The stream of a volume whose blocks are in order, given its falls.
 fn check_stream(volume: &[u8], all: usize) -> Result<Sizes, Refusal>
@@ -25,11 +33,8 @@ fn check_stream(volume: &[u8], all: usize) -> Result<Sizes, Refusal>
         return Err(Refusal::Version);
     }
     let t = word_at(volume, 1);
-    if t < 1 {
-        return Err(Refusal::ListCount);
-    }
     let lists = t as usize;
-    if MAX_LISTS < lists {
+    if lists < 1 || MAX_LISTS < lists {
         return Err(Refusal::ListCount);
     }
     if end < lead(lists) {
@@ -40,15 +45,11 @@ fn check_stream(volume: &[u8], all: usize) -> Result<Sizes, Refusal>
     if (used + LAST_WORD) / BLOCK_WORDS != volume.len() / BLOCK_BYTES {
         return Err(Refusal::Extent);
     }
-    let bad = bad_list(volume, lists, used, all);
-    if bad < lists {
-        let list = bad as u32;
-        return Err(Refusal::Order(list));
+    if let Some(list) = bad_list(volume, lists, used, all) {
+        return Err(Refusal::Order(list as u32));
     }
-    let last = bad_word(volume, used, end);
-    if last < end {
-        let i = last as u32;
-        return Err(Refusal::Padding(i));
+    if let Some(i) = bad_word(volume, used, end) {
+        return Err(Refusal::Padding(i as u32));
     }
     Ok(Sizes {
         lists: t,
@@ -60,23 +61,9 @@ fn check_stream(volume: &[u8], all: usize) -> Result<Sizes, Refusal>
 pub fn check(volume: &[u8]) -> Result<Sizes, Refusal>
     ensures { said_checked result ≡ verdict volume.now }
 {
-    if volume.len() == 0 {
+    if length_wrong(volume) {
         return Err(Refusal::Length);
     }
-    if volume.len() % BLOCK_BYTES != 0 {
-        return Err(Refusal::Length);
-    }
-    if MAX_BLOCKS < volume.len() / BLOCK_BYTES {
-        return Err(Refusal::Length);
-    }
-    let found = check_blocks(volume);
-    let bad = found.bad;
-    if bad < volume.len() / BLOCK_BYTES {
-        let block = bad as u32;
-        if number_wrong(volume, bad) {
-            return Err(Refusal::Number(block));
-        }
-        return Err(Refusal::Checksum(block));
-    }
-    check_stream(volume, found.falls)
+    let falls = check_blocks(volume)?;
+    check_stream(volume, falls)
 }

@@ -27,7 +27,7 @@ pub const MAX_LISTS: usize = 1024;
 pub const MAX_WORDS: usize = BLOCK_WORDS * MAX_BLOCKS;
 
 // Where a list lies: the stream index of its first posting, and how many it has.
-#[derive(Clone, Copy)]
+#[derive(Clone, Copy, Debug, PartialEq, Eq)]
 pub struct ListSpan {
     pub start: usize,
     pub count: usize,

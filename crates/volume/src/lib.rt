@@ -5,11 +5,12 @@
 // None of the four has a `requires`. What each one answers, and what it leaves in a lent buffer, is
 // an equation with a definition of `specs/`. `word_at`, `word_behind`, `word_in_block`,
 // `posting_at`, `below_in_window`, `below_across`, `count_at`, `list_span` and `list_starts` serve
-// the crates above, on a volume that they have checked, and so does `below`; `entry`, `lead` and
-// `extent_of` say where its parts stand. `put_made` stores a block of a volume whose words are made
+// the crates above, on a volume that they have checked; `entry`, `lead` and `extent_of` say where
+// its parts stand. `put_made` stores a block of a volume whose words are made
 // on the way.
 #![tactic(auto)]
 
+mod accepted;
 mod answers;
 mod blocks;
 mod checking;
@@ -21,6 +22,7 @@ mod reading;
 mod stream;
 mod writing;
 
+pub use accepted::Volume;
 pub use answers::{ReadError, Refusal, Sizes, WriteError};
 pub use checking::check;
 pub use codes::{Code, code_of};
@@ -30,6 +32,6 @@ pub use layout::{
 pub use posting::Posting;
 pub use reading::{list_span, list_starts, read_list};
 pub use stream::{
-    below, below_across, below_in_window, count_at, posting_at, word_at, word_behind, word_in_block,
+    below_across, below_in_window, count_at, posting_at, word_at, word_behind, word_in_block,
 };
 pub use writing::{put_made, write};

@@ -4,16 +4,16 @@
 // counted over the whole stream while its blocks are checked. Every list rises if there are no more
 // than those of the counts, one behind each list that is not empty, and those of the zero words.
 // Only where there are more are the lists walked, to find the one that does not rise.
-ghost use Rattle.std.specs.Prelude.{◌≡◌, ◌+◌, ◌*◌, ◌-◌, ◌<◌, ◌≤◌};
+ghost use Rattle.std.specs.Prelude.{◌≡◌, ℕ, ◌+◌, ◌*◌, ◌-◌, ◌<◌, ◌≤◌};
 ghost use Rattle.seq.specs.Lists.{rises};
-ghost use Rattle.seq.specs.Numbers.{run};
+ghost use Rattle.seq.specs.Numbers.{run, index_below};
 ghost use Rattle.volume.specs.Layout.{blocks, word, list_count, extent, stream_length};
 ghost use Rattle.volume.specs.Inner.Places.{Whole};
 ghost use Rattle.volume.specs.Check.{bad_list};
 ghost use Rattle.volume.specs.Inner.Falls.{fall_of, fall, falls_before, ListFalls};
 
 use super::layout::{BLOCK_BYTES, BLOCK_WORDS, LAST_WORD, lead};
-use super::stream::{count_at, posting_at, word_at};
+use super::stream::{count_at, word_at};
 use block::read32;
 
 // 1 where y, which stands behind x, is not above it.
@@ -21,7 +21,7 @@ pub fn fall_of(x: u32, y: u32) -> u32
     ensures value { result ≡ fall_of x y }
     ensures upper_bound { result ≤ 1 }
 {
-    if x < y { 0 } else { 1 }
+    u32::from(y <= x)
 }
 
 // The falls inside block k.
@@ -32,11 +32,9 @@ pub fn falls_in(volume: &[u8], k: usize) -> u32
 {
     let from = BLOCK_BYTES * k + 4;
     let mut n: u32 = 0;
-    let mut i: usize = 0;
-    while i < LAST_WORD {
+    for i in 0..LAST_WORD {
         let at = from + 4 * i;
         n += fall_of(read32(volume, at), read32(volume, at + 4));
-        i += 1;
     }
     n
 }
@@ -64,10 +62,8 @@ fn falls_from(volume: &[u8], from: usize, end: usize) -> usize
     ensures upper_bound { result ≤ end - from }
 {
     let mut n: usize = 0;
-    let mut i = from;
-    while i < end {
+    for i in from..end {
         n += fall_at(volume, i) as usize;
-        i += 1;
     }
     n
 }
@@ -82,75 +78,65 @@ fn list_falls(volume: &[u8], lists: usize) -> usize
 {
     let mut n: usize = 0;
     let mut end: usize = lead(lists);
-    let mut i: usize = 0;
-    while i < lists {
+    for i in 0..lists {
         let size = count_at(volume, i) as usize;
         end += size;
         if 0 < size {
             n += fall_at(volume, end - 1) as usize;
         }
-        i += 1;
     }
     n
 }
 
-// Whether the postings from stream index `from` on, n of them, rise.
-fn rising(volume: &[u8], from: usize, n: usize) -> bool
-    requires { from + n ≤ stream_length volume.now }
-    ensures { result ≡ rises (run (word volume.now) from n) }
+// Whether the words from `from` to `end` rise. The falls are counted in a loop with no other way
+// out, which a compiler turns into vector instructions.
+pub fn rising<F: Fn(usize) -> u32>(word: F, from: usize, end: usize) -> bool
+    requires callable { (i : ℕ) → i < end → F.pre word i }
+    requires from_le_end { from ≤ end }
+    requires end_bound { end ≤ from + 4294967295 }
+    requires end_fits { end < 18446744073709551615 }
+    ensures { (f : ℕ → ℕ) → ((i x : ℕ) → i < end → F.post word i x → x ≡ f i) → result ≡ rises (run f from (end - from)) }
 {
-    if n == 0 {
-        return true;
+    let mut falls: u32 = 0;
+    for i in from + 1..end {
+        falls += fall_of(word(i - 1), word(i));
     }
-    let end = from + n;
-    let mut last = posting_at(volume, from).bits;
-    let mut i = from + 1;
-    while i < end {
-        let next = posting_at(volume, i).bits;
-        if next <= last {
-            return false;
-        }
-        last = next;
-        i += 1;
-    }
-    true
+    falls == 0
 }
 
-// The lowest list that does not rise; the number of lists where there is none.
-fn walk_lists(volume: &[u8], lists: usize) -> usize
+// The lowest list that does not rise.
+fn walk_lists(volume: &[u8], lists: usize) -> Option<usize>
     requires lists_value { lists ≡ list_count volume.now }
     requires lists_bound { lists ≤ 1024 }
     requires volume_bound { extent volume.now ≤ stream_length volume.now }
-    ensures { result ≡ bad_list volume.now }
+    ensures { result ≡ index_below (list_count volume.now) (bad_list volume.now) }
 {
     let mut start: usize = lead(lists);
-    let mut i: usize = 0;
-    while i < lists {
-        let size = count_at(volume, i) as usize;
-        if !rising(volume, start, size) {
-            return i;
+    for i in 0..lists {
+        let end = start + count_at(volume, i) as usize;
+        if !rising(|k| word_at(volume, k), start, end) {
+            return Some(i);
         }
-        start += size;
-        i += 1;
+        start = end;
     }
-    lists
+    None
 }
 
 // The same, given the falls of the whole stream and the number of words in front of the zeros.
-pub fn bad_list(volume: &[u8], lists: usize, used: usize, all: usize) -> usize
+pub fn bad_list(volume: &[u8], lists: usize, used: usize, all: usize) -> Option<usize>
     requires whole { Whole volume.now }
     requires lists_value { lists ≡ list_count volume.now }
     requires lists_bound { lists ≤ 1024 }
     requires used_value { used ≡ extent volume.now }
     requires used_bound { used ≤ stream_length volume.now }
     requires all_value { all ≡ falls_before volume.now (stream_length volume.now) }
-    ensures { result ≡ bad_list volume.now }
+    ensures { result ≡ index_below (list_count volume.now) (bad_list volume.now) }
 {
     let end = BLOCK_WORDS * (volume.len() / BLOCK_BYTES);
     let head = falls_from(volume, 0, lead(lists));
     let tail = falls_from(volume, used, end);
     if head + list_falls(volume, lists) + tail == all {
-        return lists;
+        return None;
     }
     walk_lists(volume, lists)
 }

@@ -3,7 +3,7 @@ ghost use Rattle.std.specs.Prelude.{◌≡◌};
 ghost use Rattle.volume.specs.Posting.{posting_of, doc_of, pos_of};
 
 // A posting: a document (01: scene) and a position in it (01: place), as one number.
-#[derive(Clone, Copy)]
+#[derive(Clone, Copy, Debug, PartialEq, Eq, PartialOrd, Ord)]
 pub struct Posting {
     pub bits: u32,
 }
@@ -23,7 +23,7 @@ impl Posting {
         ensures { result ≡ posting_of doc pos }
     {
         Posting {
-            bits: doc as u32 * Posting::POSITIONS + pos as u32,
+            bits: u32::from(doc) * Posting::POSITIONS + u32::from(pos),
         }
     }
 

@@ -10,7 +10,7 @@ ghost use Rattle.volume.specs.Read.{read_answer, read_out};
 use super::answers::ReadError;
 use super::checking::check;
 use super::layout::{ListSpan, lead};
-use super::stream::{count_at, count_sum, posting_at, word_at};
+use super::stream::{count_at, count_sum, word_at};
 
 // The span of a list of an accepted volume.
 pub fn list_span(volume: &[u8], list: usize) -> ListSpan
@@ -37,11 +37,9 @@ pub fn list_starts(volume: &[u8], n: usize, starts: &mut [usize])
     let lists = word_at(volume, 1) as usize;
     let mut at = lead(lists);
     starts[0] = at;
-    let mut i: usize = 0;
-    while i < n {
+    for i in 0..n {
         at += count_at(volume, i) as usize;
-        i += 1;
-        starts[i] = at;
+        starts[i + 1] = at;
     }
 }
 
@@ -51,10 +49,8 @@ fn copy_postings(volume: &[u8], from: usize, n: usize, out: &mut [u32])
     requires n_in_bounds { n ≤ length out.old }
     ensures { out.new ≡ run (word volume.now) from n ++ drop n out.old }
 {
-    let mut i: usize = 0;
-    while i < n {
-        out[i] = posting_at(volume, from + i).bits;
-        i += 1;
+    for (i, posting) in out[..n].iter_mut().enumerate() {
+        *posting = word_at(volume, from + i);
     }
 }
 

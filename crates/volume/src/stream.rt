@@ -1,9 +1,9 @@
 // The stream of a volume's words.
 ghost use Rattle.std.specs.Prelude.{◌≡◌, ◌+◌, ◌*◌, ◌%◌, ◌-◌, ◌<◌, ◌≤◌};
-ghost use Rattle.seq.specs.Numbers.{first_from, sum_to};
+ghost use Rattle.seq.specs.Numbers.{first_from, sum_to, index_below};
 ghost use Rattle.volume.specs.Layout.{word, entry, count, stream_length};
 ghost use Rattle.volume.specs.Check.{padding_wrong};
-ghost use Rattle.volume.specs.Inner.Below.{below_of, below_count};
+ghost use Rattle.volume.specs.Inner.Below.{below_count};
 
 use super::layout::{BLOCK_BYTES, BLOCK_WORDS, entry};
 use super::posting::Posting;
@@ -45,14 +45,6 @@ pub fn word_in_block(volume: &[u8], block: usize, k: usize) -> u32
     read32(volume, BLOCK_BYTES * block + 4 * k + 4)
 }
 
-// 1 where x is below y.
-pub fn below(x: u32, y: u64) -> usize
-    ensures value { result ≡ below_of x y }
-    ensures upper_bound { result ≤ 1 }
-{
-    if (x as u64) < y { 1 } else { 0 }
-}
-
 // How many of the seven words from stream index i on, all in one block, are below target.
 pub fn below_in_window(volume: &[u8], i: usize, target: u64) -> usize
     requires i_bound { i % 126 ≤ 119 }
@@ -62,10 +54,8 @@ pub fn below_in_window(volume: &[u8], i: usize, target: u64) -> usize
 {
     let from = 4 * i + 8 * (i / BLOCK_WORDS) + 4;
     let mut n: usize = 0;
-    let mut j: usize = 0;
-    while j < 7 {
-        n += below(read32(volume, from + 4 * j), target);
-        j += 1;
+    for j in 0..7 {
+        n += usize::from(u64::from(read32(volume, from + 4 * j)) < target);
     }
     n
 }
@@ -81,7 +71,7 @@ pub fn below_across(volume: &[u8], i: usize, target: u64) -> usize
     let mut j: usize = 7;
     while 0 < j {
         j -= 1;
-        n += below(word_at(volume, i + j), target);
+        n += usize::from(u64::from(word_at(volume, i + j)) < target);
     }
     n
 }
@@ -102,26 +92,22 @@ pub fn count_sum(volume: &[u8], n: usize) -> u64
     ensures upper_bound { result ≤ 4294967296 * n }
 {
     let mut sum: u64 = 0;
-    let mut i: usize = 0;
-    while i < n {
-        sum += count_at(volume, i) as u64;
-        i += 1;
+    for i in 0..n {
+        sum += u64::from(count_at(volume, i));
     }
     sum
 }
 
-// The first word that is not 0 from stream index `from` up to `end`; `end` where there is none.
-pub fn bad_word(volume: &[u8], from: usize, end: usize) -> usize
+// The first word that is not 0 from stream index `from` up to `end`.
+pub fn bad_word(volume: &[u8], from: usize, end: usize) -> Option<usize>
     requires from_le_end { from ≤ end }
     requires end_bound { end ≤ stream_length volume.now }
-    ensures { result ≡ first_from (padding_wrong volume.now) from (end - from) }
+    ensures { result ≡ index_below end (first_from (padding_wrong volume.now) from (end - from)) }
 {
-    let mut i = from;
-    while i < end {
+    for i in from..end {
         if word_at(volume, i) != 0 {
-            return i;
+            return Some(i);
         }
-        i += 1;
     }
-    end
+    None
 }

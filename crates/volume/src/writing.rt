@@ -2,9 +2,9 @@
 //
 // All refusals are tested before a byte is stored. The volume is then stored block by block, and the
 // checksum of each block is taken while its bytes are at hand.
-ghost use Rattle.std.specs.Prelude.{◌≡◌, ◌+◌, ◌*◌, ◌-◌, ◌≤◌, ◌<◌, min, length, take};
-ghost use Rattle.seq.specs.Lists.{at, rises};
-ghost use Rattle.seq.specs.Numbers.{run, sum_to};
+ghost use Rattle.std.specs.Prelude.{◌≡◌, ℕ, ◌+◌, ◌*◌, ◌-◌, ◌≤◌, ◌<◌, length, take};
+ghost use Rattle.seq.specs.Lists.{at};
+ghost use Rattle.seq.specs.Numbers.{sum_to, index_below};
 ghost use Rattle.volume.specs.Answers.{said_written};
 ghost use Rattle.volume.specs.Write.{block_body, sealed, bad_given, write_answer, write_out};
 ghost use Rattle.volume.specs.Inner.Storing.{given, filled, stored, stored_first, IsBlock};
@@ -13,7 +13,7 @@ use super::answers::WriteError;
 use super::layout::{
     BLOCK_BYTES, BLOCK_WORDS, LAST_WORD, MAX_LISTS, MAX_WORDS, SUM_A, SUM_B, entry, extent_of, lead,
 };
-use super::order::fall_of;
+use super::order::rising;
 use block::{block_sums, put16, put32};
 
 // The sum of the counts.
@@ -22,48 +22,26 @@ fn sum_of(counts: &[u32]) -> u64
     ensures { result ≡ sum_to (at counts.now) (length counts.now) }
 {
     let mut sum: u64 = 0;
-    let mut i: usize = 0;
-    while i < counts.len() {
-        sum += counts[i] as u64;
-        i += 1;
+    for &count in counts {
+        sum += u64::from(count);
     }
     sum
 }
 
-// Whether the postings from `from` to `end` rise. The falls are counted in a loop with no other way
-// out, which a compiler turns into vector instructions.
-fn rising_in(postings: &[u32], from: usize, end: usize) -> bool
-    requires from_le_end { from ≤ end }
-    requires end_bound { end ≤ from + 4294967295 }
-    requires end_in_bounds { end ≤ length postings.now }
-    ensures { result ≡ rises (run (at postings.now) from (end - from)) }
-{
-    let mut falls: u32 = 0;
-    let mut i = from;
-    while i + 1 < end {
-        let next = i + 1;
-        falls += fall_of(postings[i], postings[next]);
-        i = next;
-    }
-    falls == 0
-}
-
-// The lowest given list that does not rise, or the number of lists.
-fn bad_given(counts: &[u32], postings: &[u32]) -> usize
+// The lowest given list that does not rise.
+fn bad_given(counts: &[u32], postings: &[u32]) -> Option<usize>
     requires { sum_to (at counts.now) (length counts.now) ≡ length postings.now }
-    ensures { result ≡ bad_given counts.now postings.now }
+    ensures { result ≡ index_below (length counts.now) (bad_given counts.now postings.now) }
 {
     let mut from: usize = 0;
-    let mut i: usize = 0;
-    while i < counts.len() {
-        let end = from + counts[i] as usize;
-        if !rising_in(postings, from, end) {
-            return i;
+    for (i, &count) in counts.iter().enumerate() {
+        let end = from + count as usize;
+        if !rising(|k| postings[k], from, end) {
+            return Some(i);
         }
         from = end;
-        i += 1;
     }
-    i
+    None
 }
 
 // Stream word i.
@@ -90,43 +68,20 @@ fn stream_word(counts: &[u32], postings: &[u32], i: usize) -> u32
     0
 }
 
-// Stores the stream words from `first` on as the words of a block.
-fn put_words(counts: &[u32], postings: &[u32], first: usize, out: &mut [u8])
-    requires counts_len_bound { length counts.now ≤ 1024 }
-    requires first_bound { first ≤ 1032192 }
+// Stores what `word` gives as the words of a block. The first six are stored by themselves: what is
+// left is a multiple of eight, which a compiler copies in vectors with nothing over. The checksum
+// reads these words back at once, the last ones first, and would have to wait for words that were
+// stored one by one.
+fn put_words<F: Fn(usize) -> u32>(word: F, out: &mut [u8])
+    requires callable { (j : ℕ) → j < 126 → F.pre word j }
     requires out_len { length out.old ≡ 512 }
-    ensures { out.new ≡ filled (given counts.now postings.now) first out.old }
+    ensures { (f : ℕ → ℕ) (from : ℕ) → ((j x : ℕ) → j < 126 → F.post word j x → x ≡ f (from + j)) → out.new ≡ filled f from out.old }
 {
-    let mut j: usize = 0;
-    while j < BLOCK_WORDS {
-        let x = stream_word(counts, postings, first + j);
-        let to = 4 + 4 * j;
-        put32(out, to, x);
-        j += 1;
+    for j in 0..6 {
+        put32(out, 4 + 4 * j, word(j));
     }
-}
-
-// Stores the postings from `from` on as the words of a block. The first six are stored by
-// themselves: what is left is a multiple of eight, which a compiler copies in vectors with nothing
-// over. The checksum reads these words back at once, the last ones first, and would have to wait for
-// words that were stored one by one.
-fn put_postings(postings: &[u32], from: usize, out: &mut [u8])
-    requires from_in_bounds { from + 126 ≤ length postings.now }
-    requires out_len { length out.old ≡ 512 }
-    ensures { out.new ≡ filled (at postings.now) from out.old }
-{
-    let mut j: usize = 0;
-    while j < 6 {
-        let x = postings[from + j];
-        let to = 4 + 4 * j;
-        put32(out, to, x);
-        j += 1;
-    }
-    while j < BLOCK_WORDS {
-        let x = postings[from + j];
-        let to = 4 + 4 * j;
-        put32(out, to, x);
-        j += 1;
+    for j in 6..BLOCK_WORDS {
+        put32(out, 4 + 4 * j, word(j));
     }
 }
 
@@ -139,14 +94,11 @@ fn put_stream(counts: &[u32], postings: &[u32], first: usize, out: &mut [u8])
     ensures { out.new ≡ filled (given counts.now postings.now) first out.old }
 {
     let front = lead(counts.len());
-    if front <= first {
-        let from = first - front;
-        if from + BLOCK_WORDS <= postings.len() {
-            put_postings(postings, from, out);
-            return;
-        }
+    if front <= first && first - front + BLOCK_WORDS <= postings.len() {
+        put_words(|j| postings[first - front + j], out);
+    } else {
+        put_words(|j| stream_word(counts, postings, first + j), out);
     }
-    put_words(counts, postings, first, out);
 }
 
 // Stores the checksum of a block behind its other bytes.
@@ -179,7 +131,7 @@ pub fn put_made(words: &[u32], k: usize, out: &mut [u8])
     ensures { IsBlock words.now k out.new }
 {
     put32(out, 0, k as u32);
-    put_postings(words, 0, out);
+    put_words(|j| words[j], out);
     seal(out);
 }
 
@@ -191,20 +143,10 @@ fn put_blocks(counts: &[u32], postings: &[u32], from: usize, to: usize, out: &mu
     requires to_in_bounds { 512 * to ≤ length out.old }
     ensures { out.new ≡ stored (given counts.now postings.now) from to out.old }
 {
-    let mut k = from;
-    while k < to {
+    for k in from..to {
         let start = BLOCK_BYTES * k;
-        let end = start + BLOCK_BYTES;
-        put_block(counts, postings, k, &mut out[start..end]);
-        k += 1;
+        put_block(counts, postings, k, &mut out[start..start + BLOCK_BYTES]);
     }
-}
-
-// The lesser of two numbers.
-fn least(a: usize, b: usize) -> usize
-    ensures { result ≡ min a b }
-{
-    if a < b { a } else { b }
 }
 
 // Stores the first n blocks in three runs: those that hold counts, those of postings alone, and the
@@ -217,8 +159,8 @@ fn put_volume(counts: &[u32], postings: &[u32], n: usize, out: &mut [u8])
     ensures { out.new ≡ stored_first (given counts.now postings.now) n out.old }
 {
     let front = lead(counts.len());
-    let full = least((front + postings.len()) / BLOCK_WORDS, n);
-    let first = least((front + LAST_WORD) / BLOCK_WORDS, full);
+    let full = ((front + postings.len()) / BLOCK_WORDS).min(n);
+    let first = ((front + LAST_WORD) / BLOCK_WORDS).min(full);
     put_blocks(counts, postings, 0, first, out);
     put_blocks(counts, postings, first, full, out);
     put_blocks(counts, postings, full, n, out);
@@ -237,10 +179,8 @@ pub fn write(counts: &[u32], postings: &[u32], out: &mut [u8]) -> Result<u32, Wr
     if sum_of(counts) != postings.len() as u64 {
         return Err(WriteError::CountSum);
     }
-    let bad = bad_given(counts, postings);
-    if bad < lists {
-        let list = bad as u32;
-        return Err(WriteError::Order(list));
+    if let Some(list) = bad_given(counts, postings) {
+        return Err(WriteError::Order(list as u32));
     }
     let words = extent_of(lists, postings.len());
     if words > MAX_WORDS {

@@ -1,7 +1,5 @@
 -- How the variables of a pattern are brought to bounds in a document, and its least match from there on. No contract cites this file.
---     Standing-to, standing-first, standing-next, standing-out, standing-done     the first variables of an order are brought to
---                                positions that are not below bounds
---     mark-start                 a variable set to its mark
+--     Standing-to, standing-done     the first variables of an order are brought to positions that are not below bounds
 --     posed-vars, posed-some, posed-few      how many variables the pattern has
 --     posed-rise                 the volume's lists rise
 --     whole-stretch, mark-stretch     a variable's list as a stretch of the stream, and from a mark on
@@ -11,15 +9,15 @@
 -- Assumes nothing.
 use Prim.Native.Nat.{ℕ, ◌+◌, ◌*◌, ◌<◌, ◌≤◌}
 use native.Mathlib.Omega.{arith}
-use mathlib.Core.Path.{◌≡◌, refl, sym, ap, subst, ◌∙◌}
+use mathlib.Core.Path.{◌≡◌, sym, ap, ◌∙◌}
 use mathlib.Core.Bool.{Bool, true, false, true≢false}
-use mathlib.Core.Logic.{⊎_elim, ◌≢◌}
+use mathlib.Core.Logic.{⊎_elim}
 use mathlib.Core.List.{List}
-use lib.ListN.{length, get_or, set, take, length-set, get_or-eq_default}
-use lib.Seq.{get_or-set_same, get_or-set_other, get_or-take, length-take-le}
+use lib.ListN.{length, get_or, take, get_or-eq_default}
+use lib.Seq.{get_or-take, length-take-le}
+use Rattle.std.proofs.lemmas.List.{ext_get_or}
 use Rattle.seq.specs.Lists.{rises}
 use Rattle.seq.proofs.Laws.Tests.{below_or}
-use Rattle.seq.proofs.Laws.Decides.{decided, eqb_decides}
 use Rattle.volume.specs.Posting.{doc_of, pos_of}
 use Rattle.volume.specs.Layout.{word, list_count, start, lists_of}
 use Rattle.plan.specs.declared.outline.Outline.{Outline}
@@ -34,12 +32,12 @@ use Rattle.fulltext.proofs.Laws.Positions.{lists-rise}
 use Rattle.fulltext.proofs.Laws.Least.{least_from-same}
 use Rattle.matcher.specs.declared.cursor.Document.{Document}
 use Rattle.matcher.specs.Inner.Cursors.{Stretch, list_end}
-use Rattle.matcher.specs.Inner.Settling.{Jumped, Standing, Posed}
+use Rattle.matcher.specs.Inner.Settling.{Standing, Posed}
 use Rattle.matcher.specs.Inner.Order.{Order}
 use Rattle.matcher.proofs.Laws.Volume.{list-stretch}
 use Rattle.matcher.proofs.Laws.Cursors.{seek_ge, seek-at, seek-below, stretch-within}
 use Rattle.matcher.proofs.Laws.Settling.{index, first-low}
-use Rattle.enumeration.specs.Inner.Attempts.{Marked, sought_from, StoodFrom, FrontTold}
+use Rattle.enumeration.specs.Inner.Attempts.{Marked, sought_from, StoodFrom}
 
 -- the first i variables of an order are brought to their first positions in document d that are not below lows
 pub record Standing-to (v : List ℕ) (d : ℕ) (order ends lows marks here₀ ps₀ here ps : List ℕ) (i : ℕ) : Type 0 where
@@ -51,75 +49,15 @@ pub record Standing-to (v : List ℕ) (d : ℕ) (order ends lows marks here₀ p
       × ((get_or here y 0 < get_or ends y 0) × ((doc_of (word v (get_or here y 0)) ≡ d) × (get_or ps y 0 ≡ pos_of (word v (get_or here y 0)))))
 
 module _ (v : List ℕ) (d : ℕ) (order ends lows marks here₀ ps₀ : List ℕ) where
-  pub standing-first : Standing-to v d order ends lows marks here₀ ps₀ here₀ ps₀ 0
-  standing-first = record { here-length = refl; ps-length = refl; stood = λ j h. absurd (let z : ⊥ = omega arith in z) }
-
-  -- the next variable of the order is set to its mark, and jumps
-  module _ (here ps : List ℕ) (i : ℕ) (s : Standing-to v d order ends lows marks here₀ ps₀ here ps i)
-      (h : get_or order i 0 < length here₀) (l : get_or order i 0 < length ps₀) where
-    abbrev x : ℕ
-    x = get_or order i 0
-
-    abbrev marked : List ℕ
-    marked = set here x (get_or marks x 0)
-
-    at_mark : get_or marked x 0 ≡ get_or marks x 0
-    at_mark = get_or-set_same here x (get_or marks x 0) 0 (let n = s.here-length in omega arith)
-
-    pub mark-start : (e : ℕ) → Stretch v (get_or marks x 0) e → Stretch v (get_or marked x 0) e
-    mark-start e t = rw at_mark t
-
-    module _ (here' ps' : List ℕ) where
-      abbrev Jumps : Bool → Type 0
-      Jumps r = Jumped v d (get_or ends x 0) (get_or lows x 0) x marked ps r here' ps'
-
-      reached : Jumps true → Standing-to v d order ends lows marks here₀ ps₀ here' ps' (i + 1)
-      reached j =
-          let to = sought_from v d ends lows marks x in
-          let w = rw at_mark at j in
-          let a = length-set here x (get_or marks x 0) ∙ s.here-length in
-          let b = s.ps-length in
-          rw (w.1.1.0, w.1.1.1) (record {
-            here-length = length-set marked x to ∙ a;
-            ps-length = length-set ps x (pos_of (word v to)) ∙ b;
-            stood = λ k m. ⊎_elim
-                (λ (g : get_or order k 0 ≡ x).
-                let here-is = get_or-set_same marked x to 0 (omega arith) in
-                let ps-is = get_or-set_same ps x (pos_of (word v to)) 0 (omega arith) in
-                rw (g, here-is, ps-is) (refl, (w.0, (w.1.0, refl))))
-                (λ (g : get_or order k 0 ≢ x).
-                let y = get_or order k 0 in
-                let last : i ≤ k → ⊥ = λ f. let q : k ≡ i = omega arith in g (ap (λ t. get_or order t 0) q) in
-                let earlier : k < i = ⊎_elim (λ f. f) (λ f. absurd (last f)) (below_or k i) in
-                let here-is = get_or-set_other marked x y to 0 g ∙ get_or-set_other here x y (get_or marks x 0) 0 g in
-                let ps-is = get_or-set_other ps x y (pos_of (word v to)) 0 g in
-                rw (here-is, ps-is) (s.stood k earlier))
-                (decided (eqb_decides (get_or order k 0) x));
-          })
-
-      pub standing-next : (r : Bool) → Jumps r → r ≡ true → Standing-to v d order ends lows marks here₀ ps₀ here' ps' (i + 1)
-      standing-next r j e = reached (subst (λ (t : Bool). Jumps t) e j)
-
-      none-there : Jumps false → sought_from v d ends lows marks x < get_or ends x 0 → doc_of (word v (sought_from v d ends lows marks x)) ≢ d
-      none-there j inside =
-          let to = sought_from v d ends lows marks x in
-          let w = rw at_mark at j in
-          ⊎_elim
-          (λ (o : get_or ends x 0 ≤ to). absurd (let z : ⊥ = omega arith in z))
-          (λ (o : (to < get_or ends x 0) × (doc_of (word v to) ≢ d)). o.1)
-          w.0
-
-      pub standing-out : (n : ℕ) → x < n → (r : Bool) → Jumps r → r ≡ false → StoodFrom v d n ends lows marks false here' ps'
-      standing-out n k r j e = record {
-        each = λ f. absurd (true≢false (sym f));
-        out = λ f. (x, (k, none-there (subst (λ (t : Bool). Jumps t) e j)));
-      }
-
   -- each variable is one of the order
-  pub standing-done : (here ps : List ℕ) (i n : ℕ) → n ≤ i → Order n order → Standing-to v d order ends lows marks here₀ ps₀ here ps i
+  pub standing-done : (here ps whole : List ℕ) (i n : ℕ) → order ≡ take n whole → n ≤ i → Order n whole → Standing-to v d order ends lows marks here₀ ps₀ here ps i
       → StoodFrom v d n ends lows marks true here ps
-  standing-done here ps i n h o s = record {
-    each = λ e y l. let c = o.covers y l in let k = c.1.0 in rw c.1.1 at (s.stood c.0 (omega arith));
+  standing-done here ps whole i n front h o s = record {
+    each = λ e y l.
+        let c = o.covers y l in
+        let k = c.1.0 in
+        let q = ap (λ (xs : List ℕ). get_or xs c.0 0) front ∙ get_or-take n whole c.0 0 k ∙ c.1.1 in
+        rw q at (s.stood c.0 (omega arith));
     out = λ f. absurd (true≢false f);
   }
 
@@ -271,33 +209,43 @@ module _ (v p : List ℕ) (o : Outline) (doc : Document) (ends : List ℕ) (q : 
 
       module _ (ok : r ≡ true) (room : n ≤ length lows) (room-ps : n ≤ length ps) (held : ℕ) (few : held < n) where
         -- a variable that is held does not stand at its bound: no match has it there
-        pub stood-apart : (s : Bool) → FrontTold s ps lows held → s ≡ false → (ps' : List ℕ) → HeldMatch (lists_of v) d f (take n lows) held false ps'
-        stood-apart s front is ps' = record {
+        pub stood-apart : (take held ps ≡ take held lows → ⊥) → (ps' : List ℕ) → HeldMatch (lists_of v) d f (take n lows) held false ps'
+        stood-apart differ ps' = record {
           least = λ t. absurd (true≢false (sym t));
           same = λ t. absurd (true≢false (sym t));
           missed = λ t qs m same.
-              let o = front.differ is in
-              let x = o.0 in
-              let l = o.1.0 in
-              let w = by.each ok x (omega arith) in
-              let a = stood-low ok room-ps qs m x in
-              let i = same x l in
-              let y = get_or-take n ps x 0 (omega arith) in
-              let k = get_or-take n lows x 0 (omega arith) in
-              let low = seek-at v (target x) (get_or marks x 0) (get_or ends x 0) (mark-stretch x (omega arith)).order (let e = w.0 in let c = w.1.0 in omega arith) in
-              let u = ap (word v) w.0 in
-              let c = w.1.1.0 in
-              let e = w.1.1.1 in
-              o.1.1 (omega arith);
+              differ (ext_get_or 0 (take held ps) (take held lows) (length-take-le held ps (omega arith) ∙ sym (length-take-le held lows (omega arith))) (stands qs m same));
         }
+          where
+            stands : (qs : List ℕ) → MatchFrom (lists_of v) d f (take n lows) qs → ((x : ℕ) → x < held → at qs x ≡ at (take n lows) x)
+                → (x : ℕ) → x < length (take held ps) → get_or (take held ps) x 0 ≡ get_or (take held lows) x 0
+            stands qs m same x h =
+                let size = length-take-le held ps (omega arith) in
+                let l : x < held = omega arith in
+                let w = by.each ok x (omega arith) in
+                let a = stood-low ok room-ps qs m x in
+                let i = same x l in
+                let y = get_or-take n ps x 0 (omega arith) in
+                let k = get_or-take n lows x 0 (omega arith) in
+                let low = seek-at v (target x) (get_or marks x 0) (get_or ends x 0) (mark-stretch x (omega arith)).order (let e = w.0 in let c = w.1.0 in omega arith) in
+                let u = ap (word v) w.0 in
+                let c = w.1.1.0 in
+                let e = w.1.1.1 in
+                let q : get_or ps x 0 ≡ get_or lows x 0 = omega arith in
+                get_or-take held ps x 0 l ∙ q ∙ sym (get_or-take held lows x 0 l)
 
         -- else the search from where they stand is that from the bounds
-        pub stood_on : (s : Bool) → FrontTold s ps lows held → s ≡ true → (b : Bool) (ps' : List ℕ) → HeldMatch (lists_of v) d f (take n ps) held b ps' → HeldMatch (lists_of v) d f (take n lows) held b ps'
-        stood_on s front is b ps' h = record {
+        pub stood_on : take held ps ≡ take held lows → (b : Bool) (ps' : List ℕ) → HeldMatch (lists_of v) d f (take n ps) held b ps' → HeldMatch (lists_of v) d f (take n lows) held b ps'
+        stood_on front b ps' h = record {
           least = λ t. stood-from ok room room-ps ∙ h.least t;
           same = λ t x l. h.same t x l ∙ at_bound x l;
           missed = λ t qs m same. h.missed t qs (m.0, stood-low ok room-ps qs m) (λ x l. same x l ∙ sym (at_bound x l));
         }
           where
             at_bound : (x : ℕ) → x < held → at (take n ps) x ≡ at (take n lows) x
-            at_bound x l = get_or-take n ps x 0 (omega arith) ∙ front.equal is x l ∙ sym (get_or-take n lows x 0 (omega arith))
+            at_bound x l =
+                get_or-take n ps x 0 (omega arith)
+                ∙ sym (get_or-take held ps x 0 l)
+                ∙ ap (λ (xs : List ℕ). get_or xs x 0) front
+                ∙ get_or-take held lows x 0 l
+                ∙ sym (get_or-take n lows x 0 (omega arith))

@@ -7,18 +7,16 @@ use Prim.Native.Nat.{ℕ, ◌/◌, ◌<◌, ◌≤◌}
 use mathlib.Core.Path.{◌≡◌, sym, ap, ◌∙◌}
 use mathlib.Core.Bool.{true, false, cond}
 use mathlib.Core.List.{List, ◌++◌}
-use lib.ListN.{length, drop, replicate}
+use lib.ListN.{length, drop}
 use lib.Dec.{ltb}
 use borrow.Author.Tests.{lt-ltb, le-ltb}
 use Rattle.seq.specs.Refusals.{refused, answered}
 use Rattle.seq.proofs.Laws.Refusals.{laid-refused, laid-answered}
-use Rattle.plan.specs.Limits.{most_pattern_vars}
-use Rattle.plan.specs.Answers.{Sizes}
+use Rattle.plan.specs.declared.answers.Sizes.{Sizes}
 use Rattle.plan.specs.Check.{verdict}
 use Rattle.plan.specs.Accepted.{pattern_at}
 use Rattle.matcher.specs.Testing.{out_of_range}
-use Rattle.enumeration.specs.declared.answers.Matched.{Matched}
-use Rattle.enumeration.specs.Answers.{Page, said_matched, beside_of}
+use Rattle.enumeration.specs.Answers.{Page}
 use Rattle.enumeration.specs.Enumerating.{var_count, matches_of, page_of, words_of, matches_by, matches_answer, matches_out}
 use Rattle.enumeration.specs.Enumeration.{Kept}
 
@@ -60,10 +58,9 @@ module _ (v p : List ℕ) (k d : ℕ) (from out : List ℕ) where
   unfolding matches_out
   out-answered page e = laid-answered (matches_answer v p k d from (length out)) page written out e
 
-  pub told-refused : (r : Matched) (n q : ℕ) → said_matched r ≡ refused n q → r.next ≡ replicate most_pattern_vars 0 → matches_answer v p k d from (length out) ≡ refused n q
-      → Kept v p k d from (record { lent = out; says = said_matched r; back = out }) × (r.next ≡ beside_of (said_matched r))
-  told-refused r n q e z a = ((e ∙ sym a, sym (out-refused n q a)), z ∙ sym (ap beside_of e))
+  pub told-refused : (n q : ℕ) → matches_answer v p k d from (length out) ≡ refused n q → Kept v p k d from (record { lent = out; says = refused n q; back = out })
+  told-refused n q a = (sym a, sym (out-refused n q a))
 
-  pub told-page : (r : Matched) (back : List ℕ) (page : Page) → said_matched r ≡ answered page → r.next ≡ beside_of (answered page) → matches_answer v p k d from (length out) ≡ answered page → back ≡ written ++ drop (length written) out
-      → Kept v p k d from (record { lent = out; says = said_matched r; back = back }) × (r.next ≡ beside_of (said_matched r))
-  told-page r back page e z a b = ((e ∙ sym a, b ∙ sym (out-answered page a)), z ∙ sym (ap beside_of e))
+  pub told-page : (back : List ℕ) (page : Page) → matches_answer v p k d from (length out) ≡ answered page → back ≡ written ++ drop (length written) out
+      → Kept v p k d from (record { lent = out; says = answered page; back = back })
+  told-page back page a b = (sym a, b ∙ sym (out-answered page a))

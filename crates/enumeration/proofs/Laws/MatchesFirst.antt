@@ -19,7 +19,7 @@ use Rattle.seq.proofs.Laws.Decides.{ltb_decides}
 use Rattle.seq.proofs.Laws.Ladder.{Clear, single}
 use Rattle.seq.proofs.Laws.Stages.{Over, over-clear, over-refused}
 use Rattle.volume.specs.Layout.{lists_of}
-use Rattle.plan.specs.Answers.{Sizes}
+use Rattle.plan.specs.declared.answers.Sizes.{Sizes}
 use Rattle.plan.specs.Check.{verdict}
 use Rattle.plan.specs.Accepted.{pattern_at}
 use Rattle.fulltext.specs.Matches.{matches_at}

@@ -1,11 +1,11 @@
 -- How matches are written one behind another. No contract cites this file.
---     put-at, put-length, put-take     the first n of a list stored at the front of another
+--     put-length, put-at               positions stored at the front of a list
 --     stepped                          the bounds behind a match
 --     padded-zeros                     a tuple in front of zeros
 --     fits_more                        one more of n words fits
 --     mark-later, match-marked         marks in front of larger bounds; the cursors at a match are marks in front of the bounds behind it
 --     Writing                          so many matches are written, and those left are the matches from the bounds on
---     same_size, room-count            the buffer keeps its length, and no more are written than fit
+--     room-count                       no more are written than fit
 --     next_small                       the positions of the next match are those of a document
 --     begins, wrote, stops, ends_there     before the first; one more; MORE; DONE
 --     wrote_kept                       what the call promises, from the page and the words
@@ -20,12 +20,13 @@ use mathlib.Core.List.{List, [], ◌∷◌, ◌++◌, append-nil}
 use mathlib.Core.Option.{Option, none, some}
 use lib.ListN.{length, get_or, set, take, drop, replicate, length-set, length-append, length-drop, drop_of_length-le}
 use lib.Seq.{get_or-set_same, get_or-set_other, get_or-take, length-take-le, take_at, take_all, take-suc, drop-cons}
+use borrow.Rule.Slice.PartMut.{put_mid}
 use Rattle.seq.specs.Lists.{joined, first, rises}
 use Rattle.seq.specs.Refusals.{answered}
 use Rattle.seq.proofs.Laws.Decides as decides
 use Rattle.seq.proofs.Laws.Tests.{below_or}
 use Rattle.seq.proofs.Laws.Lists.{joined_append}
-use Rattle.seq.proofs.Laws.Stores.{put-over}
+use Rattle.seq.proofs.Laws.Stores.{put-part}
 use Rattle.seq.proofs.Laws.Members.{Every, every_take, joined-even}
 use Rattle.volume.specs.Layout.{lists_of}
 use Rattle.plan.specs.declared.outline.Outline.{Outline}
@@ -40,8 +41,7 @@ use Rattle.matcher.specs.Inner.Shortfall.{InDocument}
 use Rattle.matcher.specs.Inner.Settling.{Standing}
 use Rattle.matcher.proofs.Laws.Range.{range_small}
 use Rattle.matcher.proofs.Laws.Testing.{small_decides}
-use Rattle.enumeration.specs.declared.answers.Matched.{Matched}
-use Rattle.enumeration.specs.Answers.{Page, padded, said_matched, beside_of}
+use Rattle.enumeration.specs.Answers.{Page, padded}
 use Rattle.enumeration.specs.Enumerating.{next_by, matches_of, page_of, words_of, matches_answer}
 use Rattle.enumeration.specs.Enumeration.{Kept}
 use Rattle.enumeration.specs.Inner.Attempts.{Mark, Marked, Sought, Stepped}
@@ -49,44 +49,40 @@ use Rattle.enumeration.proofs.Laws.Attempts.{posed-vars, posed-some, posed-few, 
 use Rattle.enumeration.proofs.Laws.Matches as matches
 use Rattle.enumeration.proofs.Laws.Enumerating.{matched-page, told-page}
 
--- the first n of ps stored at the front of d
-module _ (ps d : List ℕ) (n : ℕ) (h : n ≤ length ps) (l : n ≤ length d) where
-  size : length (take n ps) ≡ n
-  size = length-take-le n ps h
+-- n positions stored at the front of d
+module _ (ps d : List ℕ) (n : ℕ) (size : length ps ≡ n) (l : n ≤ length d) where
+  put-length : length (ps ++ drop n d) ≡ length d
+  put-length = length-append ps (drop n d) ∙ (let b = length-drop n d in omega arith)
 
-  put-length : length ((take 0 d ++ take n ps) ++ drop (0 + n) d) ≡ length d
-  put-length = length-append (take n ps) (drop (0 + n) d) ∙ (let a = size in let b = length-drop (0 + n) d in omega arith)
+  pub put-at : (x : ℕ) → x < n → get_or (ps ++ drop n d) x 0 ≡ get_or ps x 0
+  put-at x k = sym (get_or-take n (ps ++ drop n d) x 0 k) ∙ ap (λ (xs : List ℕ). get_or xs x 0) (take_at ps (drop n d) n size)
 
-  put-take : take n ((take 0 d ++ take n ps) ++ drop (0 + n) d) ≡ take n ps
-  put-take = take_at (take n ps) (drop (0 + n) d) n size
+pub stepped : (ps d : List ℕ) (n : ℕ) → 1 ≤ n → n ≤ length ps → n ≤ length d → (front : List ℕ) → front ≡ take n ps
+    → Stepped ps n d (set (front ++ drop n d) (n - 1) (get_or (front ++ drop n d) (n - 1) 0 + 1))
+stepped ps d n vars h l front is = record {
+  same_length = length-set e (n - 1) (get_or e (n - 1) 0 + 1) ∙ put-length front d n size l;
+  front = λ x k. get_or-set_other e (n - 1) x (get_or e (n - 1) 0 + 1) 0 (λ q. omega arith) ∙ value x (omega arith);
+  last = λ x k.
+      let q : x ≡ n - 1 = omega arith in
+      rw q (get_or-set_same e (n - 1) (get_or e (n - 1) 0 + 1) 0 (let a = put-length front d n size l in omega arith) ∙ ap (λ (i : ℕ). i + 1) (value (n - 1) (omega arith)));
+}
+  where
+    e : List ℕ
+    e = front ++ drop n d
 
-  pub put-at : (x : ℕ) → x < n → get_or ((take 0 d ++ take n ps) ++ drop (0 + n) d) x 0 ≡ get_or ps x 0
-  put-at x k =
-      sym (get_or-take n ((take 0 d ++ take n ps) ++ drop (0 + n) d) x 0 k)
-      ∙ ap (λ (xs : List ℕ). get_or xs x 0) put-take
-      ∙ get_or-take n ps x 0 k
+    size : length front ≡ n
+    size = ap length is ∙ length-take-le n ps h
 
-  pub stepped : 1 ≤ n → (e : List ℕ) → e ≡ (take 0 d ++ take n ps) ++ drop (0 + n) d → Stepped ps n d (set e (n - 1) (get_or e (n - 1) 0 + 1))
-  stepped vars e is = record {
-    same_length = length-set e (n - 1) (get_or e (n - 1) 0 + 1) ∙ ap length is ∙ put-length;
-    front = λ x k. get_or-set_other e (n - 1) x (get_or e (n - 1) 0 + 1) 0 (λ q. omega arith) ∙ value x (omega arith);
-    last = λ x k.
-        let q : x ≡ n - 1 = omega arith in
-        rw q (get_or-set_same e (n - 1) (get_or e (n - 1) 0 + 1) 0 (let a = ap length is ∙ put-length in omega arith) ∙ ap (λ (i : ℕ). i + 1) (value (n - 1) (omega arith)));
-  }
-    where
-      value : (x : ℕ) → x < n → get_or e x 0 ≡ get_or ps x 0
-      value x k = ap (λ (xs : List ℕ). get_or xs x 0) is ∙ put-at x k
+    value : (x : ℕ) → x < n → get_or e x 0 ≡ get_or ps x 0
+    value x k = put-at front d n size l x k ∙ ap (λ (xs : List ℕ). get_or xs x 0) is ∙ get_or-take n ps x 0 k
 
 drop-zeros : (n m : ℕ) → drop {A = ℕ} n (replicate m 0) ≡ replicate (m - n) 0
 drop-zeros zero m = ap (λ (i : ℕ). replicate i 0) (let e : m ≡ m - 0 = omega arith in e)
 drop-zeros (suc n) zero = ap (λ (i : ℕ). replicate i 0) (let e : 0 ≡ 0 - suc n = omega arith in e)
 drop-zeros (suc n) (suc m) = drop-zeros n m ∙ ap (λ (i : ℕ). replicate i 0) (let e : m - n ≡ suc m - suc n = omega arith in e)
 
-pub padded-zeros : (ps : List ℕ) (n : ℕ) → n ≤ length ps → (take 0 (replicate 8 0) ++ take n ps) ++ drop (0 + n) (replicate 8 0) ≡ padded (take n ps)
-padded-zeros ps n h =
-    ap (λ (xs : List ℕ). take n ps ++ xs)
-    (drop-zeros (0 + n) 8 ∙ ap (λ (i : ℕ). replicate (8 - i) 0) (let e = length-take-le n ps h in let q : 0 + n ≡ length (take n ps) = omega arith in q))
+pub padded-zeros : (ps : List ℕ) (n : ℕ) → length ps ≡ n → ps ++ drop n (replicate 8 0) ≡ padded ps
+padded-zeros ps n e = ap (λ (xs : List ℕ). ps ++ xs) (drop-zeros n 8 ∙ ap (λ (i : ℕ). replicate (8 - i) 0) (sym e))
 
 nothing-first : (qs : List (List ℕ)) → first qs ≡ none → qs ≡ []
 nothing-first [] e = refl
@@ -162,19 +158,19 @@ module _ (v p : List ℕ) (o : Outline) (doc : Document) (order firsts ends : Li
   }
 
   pub begins : (lows here ps : List ℕ) → length from ≡ n → n ≤ 8 → InDocument from → length firsts ≡ 8 → length here ≡ 8 → length ps ≡ 8
-      → lows ≡ (take 0 (replicate 8 0) ++ take n from) ++ drop (0 + n) (replicate 8 0) → Writing v d f n from out₀ lows firsts here ps out₀ 0
+      → lows ≡ from ++ drop n (replicate 8 0) → Writing v d f n from out₀ lows firsts here ps out₀ 0
   unfolding joined
   begins lows here ps e m inside a b l is = record {
-    lows-length = ap length is ∙ put-length from (replicate 8 0) n (omega arith) m;
+    lows-length = ap length is ∙ put-length from (replicate 8 0) n e m;
     marks-length = a;
     here-length = b;
     ps-length = l;
     small = λ x h.
-        let k = ap (λ (xs : List ℕ). get_or xs x 0) is ∙ put-at from (replicate 8 0) n (omega arith) m x h in
+        let k = ap (λ (xs : List ℕ). get_or xs x 0) is ∙ put-at from (replicate 8 0) n e m x h in
         let g = inside x (omega arith) in
         omega arith;
     marked = λ x h. mark-later v (get_or f.vars x 0) d 0 (get_or lows x 0) (get_or firsts x 0) (omega arith) (s.firsts_are x (let q = many in omega arith));
-    left = ap (matches_from (lists_of v) d f) (ap (take n) is ∙ put-take from (replicate 8 0) n (omega arith) m ∙ take_all n from (omega arith));
+    left = ap (matches_from (lists_of v) d f) (ap (take n) is ∙ take_at from (drop n (replicate 8 0)) n e);
     within = omega arith;
     room = let z = zero-mul n in omega arith;
     laid = ap (λ (i : ℕ). drop i out₀) (sym (zero-mul n));
@@ -183,12 +179,6 @@ module _ (v p : List ℕ) (o : Outline) (doc : Document) (order firsts ends : Li
   module _ (lows marks here ps out : List ℕ) (count : ℕ) (g : Writing v d f n from out₀ lows marks here ps out count) where
     words : length (joined (take count all)) ≡ count * n
     words = joined-even n (take count all) (every_take (λ (q : List ℕ). length q ≡ n) count all even) ∙ ap (λ (i : ℕ). i * n) (length-take-le count all g.within)
-
-    pub same_size : length out ≡ length out₀
-    same_size =
-        ap length g.laid
-        ∙ length-append (joined (take count all)) (drop (count * n) out₀)
-        ∙ (let a = words in let b = length-drop (count * n) out₀ in let c = g.room in omega arith)
 
     pub room-count : count ≤ length out₀ / n
     room-count = (le-div_iff_mul-le some-vars).1 g.room
@@ -220,10 +210,9 @@ module _ (v p : List ℕ) (o : Outline) (doc : Document) (order firsts ends : Li
           let a = get_or-take n ps' x 0 h in
           omega arith
 
-      pub wrote : n ≤ 8 → Standing v d f here' ps' → count < length out₀ / n → (out' lows'' lows' : List ℕ)
-          → out' ≡ take (count * n) out ++ take n ps' ++ drop (count * n + n) out → length lows'' ≡ length lows → Stepped ps' n lows'' lows'
-          → Writing v d f n from out₀ lows' here' here' ps' out' (count + 1)
-      wrote few stands r out' lows'' lows' put kept s' = record {
+      pub wrote : n ≤ 8 → Standing v d f here' ps' → count < length out₀ / n → (ys lows'' lows' : List ℕ) → ys ≡ take n ps' → length lows'' ≡ length lows → Stepped ps' n lows'' lows'
+          → Writing v d f n from out₀ lows' here' here' ps' (put_mid (count * n) (count * n + n - count * n) out ys) (count + 1)
+      wrote few stands r ys lows'' lows' is kept s' = record {
         lows-length = lows-long;
         marks-length = here-long;
         here-length = here-long;
@@ -238,9 +227,8 @@ module _ (v p : List ℕ) (o : Outline) (doc : Document) (order firsts ends : Li
         within = let a = more in omega arith;
         room = (le-div_iff_mul-le some-vars).0 (omega arith);
         laid =
-            put
-            ∙ ap (λ (xs : List ℕ). take (count * n) xs ++ take n ps' ++ drop (count * n + n) xs) g.laid
-            ∙ put-over (joined (take count all)) out₀ (take n ps') (count * n) n words
+            put-part (joined (take count all)) out₀ out ys (count * n) (count * n + n) words (omega arith) g.laid
+            ∙ ap (λ (xs : List ℕ). (joined (take count all) ++ xs) ++ drop (count * n + n) out₀) is
             ∙ ap₂ (λ (xs : List ℕ) (i : ℕ). xs ++ drop i out₀) more-joined more-words;
       }
         where
@@ -270,11 +258,11 @@ module _ (v p : List ℕ) (o : Outline) (doc : Document) (order firsts ends : Li
           more-words = let a = add-mul count 1 n in let b = one-mul n in omega arith
 
       -- MORE: no further match fits
-      pub stops : count ≡ length out₀ / n
-          → (page_of (length out₀ / n) all ≡ record { count = count; next = some (padded (take n ps')) })
+      pub stops : count ≡ length out₀ / n → (front : List ℕ) → front ≡ take n ps'
+          → (page_of (length out₀ / n) all ≡ record { count = count; next = some (front ++ drop n (replicate 8 0)) })
           × (out ≡ words_of (length out₀ / n) all ++ drop (length (words_of (length out₀ / n) all)) out₀)
       unfolding page_of words_of
-      stops r = rw (← r) (
+      stops r front is = rw (← r, is, padded-zeros (take n ps') n (length-take-le n ps' (let q = posed-few v p o doc ends s.posed in omega arith))) (
         ap₂ (λ (i : ℕ) (l : Option (List ℕ)). record { count = i; next = next_by l }) (length-take-le count all g.within) (ap first (sym g.left) ∙ e),
         g.laid ∙ ap (λ (i : ℕ). joined (take count all) ++ drop i out₀) (sym words),
       )
@@ -311,10 +299,9 @@ module _ (v p : List ℕ) (o : Outline) (doc : Document) (order firsts ends : Li
         matched-page v p o.pattern d from (length out₀) (sizes p) q.accepted fine (let e = many in omega arith)
         ∙ ap (λ (i : ℕ). answered (page_of (length out₀ / i) all)) (sym many)
 
-    pub wrote_kept : (r : Matched) (back : List ℕ) (page : Page) → said_matched r ≡ answered page → r.next ≡ beside_of (answered page)
-        → (page_of (length out₀ / n) all ≡ page) × (back ≡ words_of (length out₀ / n) all ++ drop (length (words_of (length out₀ / n) all)) out₀)
-        → Kept v p o.pattern d from (record { lent = out₀; says = said_matched r; back = back }) × (r.next ≡ beside_of (said_matched r))
+    pub wrote_kept : (back : List ℕ) (page : Page) → (page_of (length out₀ / n) all ≡ page) × (back ≡ words_of (length out₀ / n) all ++ drop (length (words_of (length out₀ / n) all)) out₀)
+        → Kept v p o.pattern d from (record { lent = out₀; says = answered page; back = back })
     unfolding matches_of
-    wrote_kept r back page said next w =
-        told-page v p o.pattern d from out₀ r back page said next (answer-is ∙ ap answered w.0)
+    wrote_kept back page w =
+        told-page v p o.pattern d from out₀ back page (answer-is ∙ ap answered w.0)
         (w.1 ∙ ap (λ (i : ℕ). words_of (length out₀ / i) all ++ drop (length (words_of (length out₀ / i) all)) out₀) many)

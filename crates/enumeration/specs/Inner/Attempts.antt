@@ -41,11 +41,6 @@ pub record StoodFrom (v : List ℕ) (d n : ℕ) (ends lows marks : List ℕ) (r 
   pub out : r ≡ false → (x : ℕ) × ((x < n)
       × (sought_from v d ends lows marks x < get_or ends x 0 → doc_of (word v (sought_from v d ends lows marks x)) ≢ d))
 
--- the first n of two tuples are equal; or two of them differ
-pub record FrontTold (r : Bool) (ps qs : List ℕ) (n : ℕ) : Type 0 where
-  pub equal : r ≡ true → (x : ℕ) → x < n → get_or ps x 0 ≡ get_or qs x 0
-  pub differ : r ≡ false → (x : ℕ) × ((x < n) × (get_or ps x 0 ≢ get_or qs x 0))
-
 -- bounds behind a match: its positions, one on at the last of n variables
 pub record Stepped (ps : List ℕ) (n : ℕ) (lows lows' : List ℕ) : Type 0 where
   pub same_length : length lows' ≡ length lows

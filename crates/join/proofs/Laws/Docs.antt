@@ -1,5 +1,5 @@
 -- The documents of some postings, and refusal 25. No contract cites this file.
---     past_doc-lt, past_doc_has              the number behind the last document is above each of them, and right behind one
+--     Spans, spans                           a range is of the lowest and of the last document
 --     range_none, range-rising             the documents of no posting; of a run that rises, those of its first and of its last value
 --     range_append                         the documents of both of two lists
 --     first_postings, first_postings-none, first_postings-next, first_postings-all     the postings of a volume, list by list
@@ -13,6 +13,7 @@ use native.Mathlib.Nat.{zero-add}
 use native.Mathlib.Omega.{arith}
 use mathlib.Core.Path.{◌≡◌, refl, sym, ap, ap₂, subst, ◌∙◌}
 use mathlib.Core.Bool.{true, false}
+use Rattle.std.proofs.Common.{Option, None, Some}
 use mathlib.Core.Logic.{◌⊎◌, inl, inr, ⊎_elim}
 use mathlib.Core.List.{List, [], ◌∷◌, ◌++◌, append-nil}
 use lib.ListN.{length, get_or}
@@ -21,128 +22,117 @@ use borrow.Author.Tests.{ltb-true}
 use Rattle.seq.specs.Lists.{any, at, joined, above, rises}
 use Rattle.seq.specs.Numbers.{run}
 use Rattle.seq.proofs.Laws.Tests.{both, below_or}
-use Rattle.seq.proofs.Laws.Decides.{Decides, ltb_decides, leb_decides, and_decides, or_decides, same_decides, one-test}
+use Rattle.seq.proofs.Laws.Decides.{Decides, ltb_decides, leb_decides, or_decides, same_decides, one-test}
 use Rattle.seq.proofs.Laws.Lists.{joined_append}
 use Rattle.seq.proofs.Laws.Members.{Has, any_decides, has-index, index_has, has-joined, joined_has}
 use Rattle.seq.proofs.Laws.Numbers.{length_run, run-snoc, get_or-run}
-use Rattle.seq.proofs.Laws.Rising.{above-le}
 use Rattle.volume.specs.Posting.{doc_of}
 use Rattle.volume.specs.Layout.{word, list_count, count, start, postings_of, lists_of}
 use Rattle.volume.proofs.Laws.Volume.{length-lists_of, list-of}
 use Rattle.join.specs.declared.docs.DocRange.{DocRange}
 use Rattle.join.specs.Join.{raise_wrong, docs_wrong}
 use Rattle.join.specs.Refusals.{HasDoc}
-use Rattle.join.specs.Inner.Docs.{low_doc, past_doc, range_of, clash}
+use Rattle.join.specs.Inner.Docs.{wider, range_of, clash}
 
--- the lowest document, and the number behind the last
-low_doc-most : (xs : List ℕ) → low_doc xs ≤ 65536
-unfolding low_doc
-low_doc-most [] = omega arith
-low_doc-most (x ∷ xs) = let h = low_doc-most xs in omega arith
+-- what a range says of the postings that it is of
+record Spans (xs : List ℕ) (r : DocRange) : Type 0 where
+  low-le : (x : ℕ) → Has x xs → r.low ≤ doc_of x
+  le-last : (x : ℕ) → Has x xs → doc_of x ≤ r.last
+  low-has : (x : ℕ) × Has x xs × (doc_of x ≡ r.low)
+  last-has : (x : ℕ) × Has x xs × (doc_of x ≡ r.last)
 
--- a lowest document below 65,536 is that of some posting
-low_doc-past : (xs : List ℕ) → low_doc xs < 65536 → 0 < past_doc xs
-unfolding low_doc past_doc
-low_doc-past [] h = absurd (omega arith)
-low_doc-past (x ∷ xs) h = omega arith
-
-low_doc-le : (x : ℕ) (xs : List ℕ) → Has x xs → low_doc xs ≤ doc_of x
-unfolding low_doc
-low_doc-le x [] h = absurd h
-low_doc-le x (y ∷ ys) h =
-    ⊎_elim (λ (e : y ≡ x). let d = ap doc_of e in omega arith) (λ (k : Has x ys). let l = low_doc-le x ys k in omega arith) h
-
-pub past_doc-lt : (x : ℕ) (xs : List ℕ) → Has x xs → doc_of x < past_doc xs
-unfolding past_doc
-past_doc-lt x [] h = absurd h
-past_doc-lt x (y ∷ ys) h =
-    ⊎_elim (λ (e : y ≡ x). let d = ap doc_of e in omega arith) (λ (k : Has x ys). let l = past_doc-lt x ys k in omega arith) h
-
--- where there is a posting, one has the last document
-pub past_doc_has : (xs : List ℕ) → 0 < past_doc xs → (x : ℕ) × Has x xs × (doc_of x + 1 ≡ past_doc xs)
-unfolding past_doc
-past_doc_has [] h = absurd (omega arith)
-past_doc_has (x ∷ xs) h =
-    ⊎_elim
-    (λ (l : doc_of x + 1 < past_doc xs). let w = past_doc_has xs (omega arith) in (w.0, inr w.1, let e = w.2 in omega arith))
-    (λ (l : past_doc xs ≤ doc_of x + 1). (x, inl refl, omega arith))
-    (below_or (doc_of x + 1) (past_doc xs))
-
--- and one has the lowest document, where a document over 65,536 counts as 65,536
-low_doc_has : (xs : List ℕ) → 0 < past_doc xs → (x : ℕ) × Has x xs × (min (doc_of x) 65536 ≡ low_doc xs)
-unfolding low_doc past_doc
-low_doc_has [] h = absurd (omega arith)
-low_doc_has (x ∷ xs) h =
-    ⊎_elim
-    (λ (l : low_doc xs < min (doc_of x) 65536). let w = low_doc_has xs (low_doc-past xs (omega arith)) in (w.0, inr w.1, let e = w.2 in omega arith))
-    (λ (l : min (doc_of x) 65536 ≤ low_doc xs). (x, inl refl, let m = low_doc-most xs in omega arith))
-    (below_or (low_doc xs) (min (doc_of x) 65536))
+-- the range of a posting and those behind it
+spans : (x : ℕ) (xs : List ℕ) → (r : DocRange) × (range_of (x ∷ xs) ≡ Some r) × Spans (x ∷ xs) r
+unfolding range_of
+spans x [] = (
+  record { low = doc_of x; last = doc_of x },
+  refl,
+  record {
+    low-le = λ y h. ⊎_elim (λ (e : x ≡ y). let d = ap doc_of e in omega arith) (λ (k : Has y []). absurd k) h;
+    le-last = λ y h. ⊎_elim (λ (e : x ≡ y). let d = ap doc_of e in omega arith) (λ (k : Has y []). absurd k) h;
+    low-has = (x, inl refl, refl);
+    last-has = (x, inl refl, refl);
+  },
+)
+spans x (y ∷ ys) =
+    let r = (spans y ys).0 in
+    let e : range_of (y ∷ ys) ≡ Some r = (spans y ys).1 in
+    let s = (spans y ys).2 in (
+      record { low = min (doc_of x) r.low; last = max (doc_of x) r.last },
+      ap (wider (Some (record { low = doc_of x; last = doc_of x }))) e,
+      record {
+        low-le = λ z h. ⊎_elim (λ (k : x ≡ z). let d = ap doc_of k in omega arith) (λ (k : Has z (y ∷ ys)). let l = s.low-le z k in omega arith) h;
+        le-last = λ z h. ⊎_elim (λ (k : x ≡ z). let d = ap doc_of k in omega arith) (λ (k : Has z (y ∷ ys)). let l = s.le-last z k in omega arith) h;
+        low-has = ⊎_elim
+            (λ (l : r.low < doc_of x). let w = s.low-has in (w.0, inr w.1, let i = w.2 in omega arith))
+            (λ (l : doc_of x ≤ r.low). (x, inl refl, omega arith))
+            (below_or r.low (doc_of x));
+        last-has = ⊎_elim
+            (λ (l : doc_of x < r.last). let w = s.last-has in (w.0, inr w.1, let i = w.2 in omega arith))
+            (λ (l : r.last ≤ doc_of x). (x, inl refl, omega arith))
+            (below_or (doc_of x) r.last);
+      },
+    )
 
 -- of a list that rises, the first posting has the lowest document, and the last one the last
-low_doc-rising : (a : ℕ) (xs : List ℕ) → doc_of a ≤ 65536 → above a xs ≡ true → doc_of a ≤ low_doc xs
-unfolding above low_doc
-low_doc-rising a [] h e = h
-low_doc-rising a (x ∷ xs) h e =
+rising : (a : ℕ) (xs : List ℕ) → above a xs ≡ true
+    → let last = doc_of (get_or (a ∷ xs) (length xs) 0) in (doc_of a ≤ last) × (range_of (a ∷ xs) ≡ Some (record { low = doc_of a; last = last }))
+unfolding above range_of
+rising a [] e = (omega arith, refl)
+rising a (x ∷ xs) e =
     let w = both (ltb a x) (above x xs) e in
     let l : a < x = ltb-true a x w.0 in
-    let r = low_doc-rising a xs h (above-le a x xs (omega arith) w.1) in
-    omega arith
-
-past_doc-rising : (a : ℕ) (xs : List ℕ) → above a xs ≡ true → past_doc (a ∷ xs) ≡ doc_of (get_or (a ∷ xs) (length xs) 0) + 1
-unfolding above past_doc
-past_doc-rising a [] e = omega arith
-past_doc-rising a (x ∷ xs) e =
-    let w = both (ltb a x) (above x xs) e in
-    let l : a < x = ltb-true a x w.0 in
-    let r : max (doc_of x + 1) (past_doc xs) ≡ doc_of (get_or (x ∷ xs) (length xs) 0) + 1 = past_doc-rising x xs w.1 in
-    omega arith
+    let last = doc_of (get_or (x ∷ xs) (length xs) 0) in
+    let m : doc_of x ≤ last = (rising x xs w.1).0 in
+    let r : range_of (x ∷ xs) ≡ Some (record { low = doc_of x; last = last }) = (rising x xs w.1).1 in
+    let low : min (doc_of a) (doc_of x) ≡ doc_of a = omega arith in
+    let high : max (doc_of a) last ≡ last = omega arith in (
+      omega arith,
+      ap (wider (Some (record { low = doc_of a; last = doc_of a }))) r ∙ ap₂ (λ (n p : ℕ). Some (record { low = n; last = p })) low high,
+    )
 
 module _ (f : ℕ → ℕ) (k : ℕ) where
-  pub range_none : (n : ℕ) → n ≡ 0 → record { low = 65536; past = 0 } ≡ range_of (run f k n)
-  unfolding run low_doc past_doc
+  pub range_none : (n : ℕ) → n ≡ 0 → None ≡ range_of (run f k n)
+  unfolding run range_of
   range_none n e = rw e
 
-  range-suc : (m : ℕ) → doc_of (f k) ≤ 65536 → above (f k) (run f (suc k) m) ≡ true
-      → record { low = doc_of (f k); past = doc_of (f (k + m)) + 1 } ≡ range_of (run f k (suc m))
-  unfolding run low_doc
-  range-suc m h e =
-      let l = low_doc-rising (f k) (run f (suc k) m) h e in
-      let low : doc_of (f k) ≡ min (doc_of (f k)) (low_doc (run f (suc k) m)) = omega arith in
+  range-suc : (m : ℕ) → above (f k) (run f (suc k) m) ≡ true
+      → Some (record { low = doc_of (f k); last = doc_of (f (k + m)) }) ≡ range_of (run f k (suc m))
+  unfolding run
+  range-suc m e =
       let last : get_or (run f k (suc m)) (length (run f (suc k) m)) 0 ≡ f (k + m)
       = ap (λ (j : ℕ). get_or (run f k (suc m)) j 0) (length_run f (suc k) m) ∙ get_or-run f k (suc m) m 0 (omega arith) in
-      let past : past_doc (run f k (suc m)) ≡ doc_of (f (k + m)) + 1
-      = past_doc-rising (f k) (run f (suc k) m) e ∙ ap (λ (x : ℕ). doc_of x + 1) last in
-      ap₂ (λ (a b : ℕ). record { low = a; past = b }) low (sym past)
+      sym ((rising (f k) (run f (suc k) m) e).1 ∙ ap (λ (x : ℕ). Some (record { low = doc_of (f k); last = doc_of x })) last)
 
-  pub range-rising : (n : ℕ) → 0 < n → doc_of (f k) ≤ 65536 → rises (run f k n) ≡ true
-      → record { low = doc_of (f k); past = doc_of (f (k + n - 1)) + 1 } ≡ range_of (run f k n)
+  pub range-rising : (n : ℕ) → 0 < n → rises (run f k n) ≡ true
+      → Some (record { low = doc_of (f k); last = doc_of (f (k + n - 1)) }) ≡ range_of (run f k n)
   unfolding rises run
-  range-rising zero s h e = absurd (omega arith)
-  range-rising (suc m) s h e =
+  range-rising zero s e = absurd (omega arith)
+  range-rising (suc m) s e =
       let j : k + suc m - 1 ≡ k + m = omega arith in
-      ap (λ (i : ℕ). record { low = doc_of (f k); past = doc_of (f i) + 1 }) j ∙ range-suc m h e
+      ap (λ (i : ℕ). Some (record { low = doc_of (f k); last = doc_of (f i) })) j ∙ range-suc m e
 
 -- two lists, one behind the other
-low_doc_append : (xs ys : List ℕ) → low_doc (xs ++ ys) ≡ min (low_doc xs) (low_doc ys)
-unfolding low_doc
-low_doc_append [] ys = let h = low_doc-most ys in omega arith
-low_doc_append (x ∷ xs) ys = let e = low_doc_append xs ys in omega arith
+wider_assoc : (a b c : Option DocRange) → wider (wider a b) c ≡ wider a (wider b c)
+wider_assoc None b c = refl
+wider_assoc (Some a) None c = refl
+wider_assoc (Some a) (Some b) None = refl
+wider_assoc (Some a) (Some b) (Some c) = ap₂ (λ (l p : ℕ). Some (record { low = l; last = p })) (omega arith) (omega arith)
 
-past_doc_append : (xs ys : List ℕ) → past_doc (xs ++ ys) ≡ max (past_doc xs) (past_doc ys)
-unfolding past_doc
-past_doc_append [] ys = omega arith
-past_doc_append (x ∷ xs) ys = let e = past_doc_append xs ys in omega arith
-
-pub range_append : (r : DocRange) (xs ys : List ℕ) → r.low ≡ min (low_doc xs) (low_doc ys) → r.past ≡ max (past_doc xs) (past_doc ys) → r ≡ range_of (xs ++ ys)
-range_append r xs ys a b = ap₂ (λ (l p : ℕ). record { low = l; past = p }) (a ∙ sym (low_doc_append xs ys)) (b ∙ sym (past_doc_append xs ys))
+pub range_append : (xs ys : List ℕ) → wider (range_of xs) (range_of ys) ≡ range_of (xs ++ ys)
+unfolding range_of
+range_append [] ys = refl
+range_append (x ∷ xs) ys =
+    let one : Option DocRange = Some (record { low = doc_of x; last = doc_of x }) in
+    wider_assoc one (range_of xs) (range_of ys) ∙ ap (wider one) (range_append xs ys)
 
 -- the postings of the first lists of a volume
 module _ (v : List ℕ) where
   abbrev pub first_postings : ℕ → List ℕ
   first_postings i = joined (run (postings_of v) 0 i)
 
-  pub first_postings-none : range_of (first_postings 0) ≡ record { low = 65536; past = 0 }
-  unfolding joined run low_doc past_doc
+  pub first_postings-none : range_of (first_postings 0) ≡ None
+  unfolding joined run range_of
   first_postings-none = refl
 
   pub first_postings-next : (i : ℕ) → first_postings (i + 1) ≡ first_postings i ++ postings_of v i
@@ -167,40 +157,50 @@ module _ (h : ℕ) (ps qs : List ℕ) where
       (λ q. or_decides (ltb_decides 65535 (doc_of q + h)) (any_decides (λ p. leb (doc_of q + h) (doc_of p)) (λ p. doc_of q + h ≤ doc_of p) (λ p. leb_decides (doc_of q + h) (doc_of p)) ps))
       qs
 
-  clash_decides : Decides (clash h (range_of ps) (range_of qs)) (Wrong h ps qs)
-  clash_decides =
-      same_decides
-      (and_decides (ltb_decides 0 (past_doc qs)) (or_decides (ltb_decides (low_doc qs + h) (past_doc ps)) (ltb_decides 65536 (past_doc qs + h))))
-      out
-      back
+  -- no document in the first, and some in the second
+  clash-none : (s : DocRange) → Spans qs s → Decides (clash h None (Some s)) (Wrong h [] qs)
+  clash-none s v =
+      same_decides (ltb_decides 65535 (s.last + h))
+      (λ (l : 65535 < s.last + h). let q = v.last-has in let e = q.2 in (q.0, q.1, inl (omega arith)))
+      (λ (w : Wrong h [] qs).
+      let m = v.le-last w.0 w.1 in
+      ⊎_elim (λ (k : 65535 < doc_of w.0 + h). let z : 65535 < s.last + h = omega arith in z) (λ (k : (p : ℕ) × Has p [] × (doc_of w.0 + h ≤ doc_of p)). absurd k.1) w.2)
+
+  -- some in both
+  clash-both : (r s : DocRange) → Spans ps r → Spans qs s → Decides (clash h (Some r) (Some s)) (Wrong h ps qs)
+  clash-both r s u v = same_decides (or_decides (ltb_decides 65535 (s.last + h)) (leb_decides (s.low + h) r.last)) out back
     where
-      low-found : 0 < past_doc qs → low_doc qs + h < past_doc ps → Wrong h ps qs
-      low-found s l =
-          let q = low_doc_has qs s in
-          let p = past_doc_has ps (omega arith) in
-          let a = q.2 in
-          let b = p.2 in
-          (q.0, q.1, ⊎_elim (λ (k : 65535 < doc_of q.0 + h). inl k) (λ (k : doc_of q.0 + h ≤ 65535). inr (p.0, p.1, omega arith)) (below_or 65535 (doc_of q.0 + h)))
+      out : (65535 < s.last + h) ⊎ (s.low + h ≤ r.last) → Wrong h ps qs
+      out w =
+          ⊎_elim
+          (λ (l : 65535 < s.last + h). let q = v.last-has in let e = q.2 in (q.0, q.1, inl (omega arith)))
+          (λ (l : s.low + h ≤ r.last). let q = v.low-has in let p = u.last-has in let a = q.2 in let b = p.2 in (q.0, q.1, inr (p.0, p.1, omega arith)))
+          w
 
-      past-found : 0 < past_doc qs → 65536 < past_doc qs + h → Wrong h ps qs
-      past-found s l = let q = past_doc_has qs s in let a = q.2 in (q.0, q.1, inl (omega arith))
-
-      out : (0 < past_doc qs) × ((low_doc qs + h < past_doc ps) ⊎ (65536 < past_doc qs + h)) → Wrong h ps qs
-      out w = ⊎_elim (low-found w.0) (past-found w.0) w.1
-
-      back : Wrong h ps qs → (0 < past_doc qs) × ((low_doc qs + h < past_doc ps) ⊎ (65536 < past_doc qs + h))
+      back : Wrong h ps qs → (65535 < s.last + h) ⊎ (s.low + h ≤ r.last)
       back w =
-          let low = low_doc-le w.0 qs w.1 in
-          let past = past_doc-lt w.0 qs w.1 in (
-            omega arith,
-            ⊎_elim
-                (λ (k : 65535 < doc_of w.0 + h). inr (omega arith))
-                (λ (k : (p : ℕ) × Has p ps × (doc_of w.0 + h ≤ doc_of p)). inl (let a = past_doc-lt k.0 ps k.1 in let b = k.2 in omega arith))
-                w.2,
-          )
+          let low = v.low-le w.0 w.1 in
+          let last = v.le-last w.0 w.1 in
+          ⊎_elim
+          (λ (k : 65535 < doc_of w.0 + h). inl (omega arith))
+          (λ (k : (p : ℕ) × Has p ps × (doc_of w.0 + h ≤ doc_of p)). inr (let a = u.le-last k.0 k.1 in let b = k.2 in omega arith))
+          w.2
 
+clash_decides : (h : ℕ) (ps qs : List ℕ) → Decides (clash h (range_of ps) (range_of qs)) (Wrong h ps qs)
+unfolding range_of
+clash_decides h ps [] = record { yes = λ e. cc; no = λ e w. absurd w.1 }
+clash_decides h [] (q ∷ qs) =
+    let s = spans q qs in
+    subst (λ (b : Option DocRange). Decides (clash h None b) (Wrong h [] (q ∷ qs))) (sym s.1) (clash-none h [] (q ∷ qs) s.0 s.2)
+clash_decides h (p ∷ ps) (q ∷ qs) =
+    let r = spans p ps in
+    let s = spans q qs in
+    subst (λ (b : Option DocRange). Decides (clash h (range_of (p ∷ ps)) b) (Wrong h (p ∷ ps) (q ∷ qs))) (sym s.1)
+    (subst (λ (a : Option DocRange). Decides (clash h a (Some s.0)) (Wrong h (p ∷ ps) (q ∷ qs))) (sym r.1) (clash-both h (p ∷ ps) (q ∷ qs) r.0 s.0 r.2 s.2))
+
+module _ (h : ℕ) (ps qs : List ℕ) where
   raise_wrong-clash : any (raise_wrong h ps) qs ≡ clash h (range_of ps) (range_of qs)
-  raise_wrong-clash = one-test wrong_decides clash_decides
+  raise_wrong-clash = one-test (wrong_decides h ps qs) (clash_decides h ps qs)
 
 pub docs-clash : (h : ℕ) (v w : List ℕ) → docs_wrong h v w ≡ clash h (range_of (joined (lists_of v))) (range_of (joined (lists_of w)))
 unfolding docs_wrong

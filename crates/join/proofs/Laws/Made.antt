@@ -4,14 +4,16 @@
 --     made_then       some, and then those behind them
 --     made_ext        the same words of another stream
 --     made_all        all words of a block
+--     made_zeros      a rest that is filled with zeros
 -- Assumes nothing.
-use Prim.Native.Nat.{ℕ, ◌+◌, ◌-◌, ◌<◌, ◌≤◌}
+use Prim.Native.Nat.{ℕ, zero, suc, ◌+◌, ◌-◌, ◌<◌, ◌≤◌}
 use native.Mathlib.Nat.{sub_self}
 use native.Mathlib.Omega.{arith}
-use mathlib.Core.Path.{◌≡◌, ap, ◌∙◌}
+use mathlib.Core.Path.{◌≡◌, refl, ap, ◌∙◌}
 use mathlib.Core.List.{List, [], ◌∷◌, ◌++◌, append_assoc, append-nil}
-use lib.ListN.{length, set, take, drop, length-append, take-append-drop, drop_of_length-le}
+use lib.ListN.{length, set, take, drop, replicate, length-append, length-take, length-drop, take-append-drop, drop_of_length-le}
 use lib.Seq.{length-take-le}
+use borrow.Rule.Slice.PartMut.{put_mid}
 use Rattle.seq.specs.Numbers.{run}
 use Rattle.seq.proofs.Laws.Numbers.{length_run, run_append, run-snoc, run_ext}
 use Rattle.seq.proofs.Laws.Stores.{put_next, put-over}
@@ -51,3 +53,16 @@ pub made_all : (f : ℕ → ℕ) (i : ℕ) (words : List ℕ) → length words �
 made_all f i words l =
     let behind : length words ≤ 126 = omega arith in
     rw (drop_of_length-le words behind, append-nil)
+
+zeros_run : (n k : ℕ) → replicate {A = ℕ} n 0 ≡ run (λ i. 0) k n
+unfolding run
+zeros_run zero k = refl
+zeros_run (suc n) k = ap (λ (l : List ℕ). 0 ∷ l) (zeros_run n (suc k))
+
+pub made_zeros : (words part : List ℕ) (to n : ℕ) → n ≡ length words - to → length words ≡ 126
+    → part ≡ replicate {A = ℕ} (length (take n (drop to words))) 0 → put_mid to n words part ≡ made (λ i. 0) 0 to 126 words
+made_zeros words part to n e l p =
+    let size : length (take n (drop to words)) ≡ 126 - to = simp (length-take, length-drop) (omega arith) in
+    let tail : drop n (drop to words) ≡ [] = drop_of_length-le (drop to words) {i = n} (simp length-drop (omega arith)) in
+    let end : drop 126 words ≡ [] = drop_of_length-le words {i = 126} (omega arith) in
+    rw (p, size, zeros_run (126 - to) 0, tail, end, append_assoc (take to words) (run (λ i. 0) 0 (126 - to)) [])

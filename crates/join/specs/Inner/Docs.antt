@@ -1,21 +1,21 @@
 -- The documents of some postings, for `src/docs.rt`. No call's promise rests on this file. Assumes nothing.
-use Rattle.std.specs.Prelude.{ℕ, ◌+◌, min, max, Bool, ◌&&◌, ◌||◌, List, [], ◌∷◌, ltb}
+use Rattle.std.specs.Prelude.{ℕ, ◌+◌, min, max, Bool, false, ◌||◌, Option, None, Some, List, [], ◌∷◌, ltb, leb}
 use Rattle.volume.specs.Posting.{doc_of}
 use Rattle.join.specs.declared.docs.DocRange.{DocRange}
 
--- the lowest document; 65,536 where there is no posting
-unfoldable pub low_doc : List ℕ → ℕ
-low_doc [] = 65536
-low_doc (x ∷ xs) = min (doc_of x) (low_doc xs)
+-- the documents of both
+abbrev pub wider : Option DocRange → Option DocRange → Option DocRange
+wider None b = b
+wider (Some a) None = Some a
+wider (Some a) (Some b) = Some (record { low = min a.low b.low; last = max a.last b.last })
 
--- the number behind the last document; 0 where there is no posting
-unfoldable pub past_doc : List ℕ → ℕ
-past_doc [] = 0
-past_doc (x ∷ xs) = max (doc_of x + 1) (past_doc xs)
+-- the lowest and the last document; none where there is no posting
+unfoldable pub range_of : List ℕ → Option DocRange
+range_of [] = None
+range_of (x ∷ xs) = wider (Some (record { low = doc_of x; last = doc_of x })) (range_of xs)
 
-abbrev pub range_of : List ℕ → DocRange
-range_of xs = record { low = low_doc xs; past = past_doc xs }
-
--- there is a document in b, and the lowest one, raised by h, is below one behind a's last, or b's last one, raised, is over 65,535
-abbrev pub clash : ℕ → DocRange → DocRange → Bool
-clash h a b = ltb 0 b.past && (ltb (b.low + h) a.past || ltb 65536 (b.past + h))
+-- there is a document in b, and the last one, raised by h, is over 65,535, or the lowest one, raised, is not above a's last
+abbrev pub clash : ℕ → Option DocRange → Option DocRange → Bool
+clash h a None = false
+clash h None (Some b) = ltb 65535 (b.last + h)
+clash h (Some a) (Some b) = ltb 65535 (b.last + h) || leb (b.low + h) a.last

@@ -12,13 +12,15 @@ use mathlib.Core.Bool.{Bool, cond}
 use mathlib.Core.List.{List, [], ◌∷◌, ◌++◌, append_assoc}
 use lib.ListN.{length, set, drop, length-append}
 use borrow.Author.Tests.{le-leb, lt-ltb, le-ltb}
+use Rattle.std.proofs.Common.{Result, Ok, Err}
 use Rattle.seq.specs.Lists.{joined}
 use Rattle.seq.specs.Refusals.{Said, refused, answered, laid}
 use Rattle.plan.specs.declared.row.Row.{Row}
 use Rattle.plan.specs.Rows.{words_of, plan_of}
 use Rattle.line.specs.declared.steps.Words.{Words}
 use Rattle.line.specs.declared.reading.Reached.{Reached}
-use Rattle.line.specs.declared.reading.Reached.TheVariants.{At, Broken, Deep}
+use Rattle.line.specs.declared.reading.Stop.{Stop}
+use Rattle.line.specs.declared.reading.Stop.TheVariants.{Broken, Deep}
 use Rattle.grammar.specs.Grammar.{Line}
 use Rattle.grammar.specs.Meaning.{line_rows}
 use Rattle.grammar.specs.Reading.{Outcome, whole, broken, deep, reading, start}
@@ -91,19 +93,19 @@ deep-inside s q w =
     omega arith
 
 -- the byte that breaks the grammar lies in the text, or is its end
-pub at-broken : (s none none' : List ℕ) (q : ℕ) → WholeRead s none none' (Broken q) (reading s) → q ≤ length s
+pub at-broken : (s none none' : List ℕ) (q : ℕ) → WholeRead s none none' (Err (Broken q)) (reading s) → q ≤ length s
 at-broken s none none' q w = go (reading s) (outcome-told s start 0) w
   where
-    go : (o : Outcome) → OutcomeTold start 0 s o → WholeRead s none none' (Broken q) o → q ≤ length s
+    go : (o : Outcome) → OutcomeTold start 0 s o → WholeRead s none none' (Err (Broken q)) o → q ≤ length s
     go (whole l) t x = absurd x
     go (broken k) t x = let h = broken-inside s k t in omega arith
     go (deep k) t x = absurd x
 
 -- the bracket that is too deep lies in the text
-pub at-deep : (s none none' : List ℕ) (q : ℕ) → WholeRead s none none' (Deep q) (reading s) → q ≤ length s
+pub at-deep : (s none none' : List ℕ) (q : ℕ) → WholeRead s none none' (Err (Deep q)) (reading s) → q ≤ length s
 at-deep s none none' q w = go (reading s) (outcome-told s start 0) w
   where
-    go : (o : Outcome) → OutcomeTold start 0 s o → WholeRead s none none' (Deep q) o → q ≤ length s
+    go : (o : Outcome) → OutcomeTold start 0 s o → WholeRead s none none' (Err (Deep q)) o → q ≤ length s
     go (whole l) t x = absurd x
     go (broken k) t x = absurd x
     go (deep k) t x = let h = deep-inside s k t in omega arith
@@ -129,43 +131,43 @@ module _ (s out : List ℕ) where
     answer_by_lem o e = rw (le-ltb 2048 (length s) h) (ap (λ (x : Outcome). read_by x (length out)) e)
 
     -- a text that breaks the grammar
-    pub refuses-broken : (none none' : List ℕ) (q : ℕ) → WholeRead s none none' (Broken q) (reading s) → Answers (refused 21 q) out
+    pub refuses-broken : (none none' : List ℕ) (q : ℕ) → WholeRead s none none' (Err (Broken q)) (reading s) → Answers (refused 21 q) out
     refuses-broken none none' q w = go (reading s) refl w
       where
-        go : (o : Outcome) → reading s ≡ o → WholeRead s none none' (Broken q) o → Answers (refused 21 q) out
+        go : (o : Outcome) → reading s ≡ o → WholeRead s none none' (Err (Broken q)) o → Answers (refused 21 q) out
         go (whole l) e x = absurd x
         go (broken k) e x = refuses 21 q (answer_by_lem (broken k) e ∙ ap (λ (n : ℕ). refused 21 n) (sym x))
         go (deep k) e x = absurd x
 
     -- one with a bracket that is too deep
-    pub refuses-deep : (none none' : List ℕ) (q : ℕ) → WholeRead s none none' (Deep q) (reading s) → Answers (refused 22 q) out
+    pub refuses-deep : (none none' : List ℕ) (q : ℕ) → WholeRead s none none' (Err (Deep q)) (reading s) → Answers (refused 22 q) out
     refuses-deep none none' q w = go (reading s) refl w
       where
-        go : (o : Outcome) → reading s ≡ o → WholeRead s none none' (Deep q) o → Answers (refused 22 q) out
+        go : (o : Outcome) → reading s ≡ o → WholeRead s none none' (Err (Deep q)) o → Answers (refused 22 q) out
         go (whole l) e x = absurd x
         go (broken k) e x = absurd x
         go (deep k) e x = refuses 22 q (answer_by_lem (deep k) e ∙ ap (λ (n : ℕ). refused 22 n) (sym x))
 
-    module _ (none none' : List ℕ) (k m : ℕ) (w : WholeRead s none none' (At k m) (reading s)) where
+    module _ (none none' : List ℕ) (come : Reached) (w : WholeRead s none none' (Ok come) (reading s)) where
       -- the line, and the number of its rows
-      line_of : (l : Line) × (reading s ≡ whole l) × (m ≡ length (line_rows l))
+      line_of : (l : Line) × (reading s ≡ whole l) × (come.rows ≡ length (line_rows l))
       line_of = go (reading s) refl w
         where
-          go : (o : Outcome) → reading s ≡ o → WholeRead s none none' (At k m) o
-              → (l : Line) × (reading s ≡ whole l) × (m ≡ length (line_rows l))
+          go : (o : Outcome) → reading s ≡ o → WholeRead s none none' (Ok come) o
+              → (l : Line) × (reading s ≡ whole l) × (come.rows ≡ length (line_rows l))
           go (whole l) e x = (l, e, x.0)
           go (broken q) e x = absurd x
           go (deep q) e x = absurd x
 
       -- a line with too many rows
-      pub too_many_lem : 64 < m → Answers (refused 23 0) out
+      pub too_many_lem : 64 < come.rows → Answers (refused 23 0) out
       too_many_lem g =
           let l = line_of in
           let b : 64 < length (line_rows l.0) = subst (λ (n : ℕ). 64 < n) l.2 g in
           refuses 23 0 (answer_by_lem (whole l.0) l.1 ∙ rw (lt-ltb 64 (length (line_rows l.0)) b))
 
       -- a buffer that is too short for the rows
-      pub too_short : m ≤ 64 → length out < 4 * m → Answers (refused 16 0) out
+      pub too_short : come.rows ≤ 64 → length out < 4 * come.rows → Answers (refused 16 0) out
       too_short g f =
           let l = line_of in
           let n = l.2 in
@@ -181,8 +183,8 @@ module _ (s out : List ℕ) where
       in-room l m b c e = rw (le-ltb 64 (length (line_rows l)) b, le-ltb (length out) (4 * length (line_rows l)) c) e
 
       -- a line with few rows, and room for them
-      pub answers : (out' : List ℕ) (r : Reached) → m ≤ 64 → 4 * m ≤ length out → WholeRead s out out' r (reading s)
-          → Answers (answered (4 * m)) out'
+      pub answers : (out' : List ℕ) (r : Result Reached Stop) → come.rows ≤ 64 → 4 * come.rows ≤ length out → WholeRead s out out' r (reading s)
+          → Answers (answered (4 * come.rows)) out'
       unfolding read_out laid words_of_line
       answers out' r g f v =
           let l = line_of in
@@ -190,12 +192,12 @@ module _ (s out : List ℕ) where
           let b : length (line_rows l.0) ≤ 64 = omega arith in
           let c : 4 * length (line_rows l.0) ≤ length out = omega arith in
           let same = ap (λ (x : ℕ). answered (4 * x)) (sym n) in
-          let by : read_by (whole l.0) (length out) ≡ answered (4 * m) = in-room l.0 m b c same in
+          let by : read_by (whole l.0) (length out) ≡ answered (4 * come.rows) = in-room l.0 come.rows b c same in
           let said = answer_by_lem (whole l.0) l.1 ∙ by in
           let laid-there = sym (ap₂ (λ (x : Said ℕ) (o : Outcome). laid x (words_by o) out) said l.1) in
           (sym said, kept r (subst (WholeRead s out out' r) l.1 v) ∙ stored-laid (line_rows l.0) out c ∙ laid-there)
         where
-          kept : (r : Reached) → WholeRead s out out' r (whole line_of.0) → out' ≡ stored out 0 (line_rows line_of.0)
-          kept (At a b) x = x.1
-          kept (Broken a) x = absurd x
-          kept (Deep a) x = absurd x
+          kept : (r : Result Reached Stop) → WholeRead s out out' r (whole line_of.0) → out' ≡ stored out 0 (line_rows line_of.0)
+          kept (Ok a) x = x.1
+          kept (Err (Broken a)) x = absurd x
+          kept (Err (Deep a)) x = absurd x

@@ -1,7 +1,6 @@
 -- A law for each way through the reader of a pattern in `src/figure.rt`, and what all readers need. No contract cites this file.
---     from_goes, from-none, from_deep, from_end     the reading of a text, by what its next byte does
+--     from_goes, from-none, from_deep, from_end, stops_at     the reading of a text, by what its next byte does
 --     stored_append, stored-length, stored_one      rows are stored one behind the other
---     settled                  an operator is stored behind its second side
 --     Within, within_first, within-goes, within_emits     in a pattern: the invariant of its reader, and a byte that goes on
 --     within-length, within-most                    the buffer keeps its length, and the state its limits
 --     within_end, within-closes, within-stuck       how the reading of a pattern ends
@@ -13,30 +12,28 @@ use mathlib.Core.Path.{◌≡◌, refl, sym, ap, ap₂, ◌∙◌, subst}
 use mathlib.Core.Bool.{Bool, true, false, cond}
 use mathlib.Core.List.{List, [], ◌∷◌, ◌++◌}
 use mathlib.Core.Option.{Option, none, some}
-use lib.Dec.{leb}
+use lib.Dec.{leb, ltb}
 use lib.ListN.{length, get_or, drop, set, drop_of_length-le, length-append, length-set}
 use lib.Seq.{drop-cons}
-use borrow.Author.Tests.{lt-ltb, le-ltb}
+use borrow.Author.Tests.{lt-ltb, le-ltb, ltb-true, ltb-false}
+use Rattle.std.proofs.Common.{Some, None, Ok, Err}
 use Rattle.line.specs.declared.steps.State.{State}
 use Rattle.line.specs.declared.steps.State.TheVariants.{Listing}
-use Rattle.line.specs.declared.steps.Next.TheVariants.{Goes, Emits, Closes, Stuck}
+use Rattle.line.specs.declared.steps.Next.TheVariants.{Goes, Emits, Closes}
 use Rattle.line.specs.declared.steps.Words.{Words}
-use Rattle.line.specs.declared.reading.Pending.{Pending}
 use Rattle.plan.specs.declared.row.Row.{Row}
 use Rattle.line.specs.Inner.Store.{put_words, stored, partial_rows}
-use Rattle.line.specs.declared.reading.Reached.TheVariants.{At, Broken}
+use Rattle.line.specs.declared.reading.Stop.TheVariants.{Broken}
 use Rattle.grammar.specs.Grammar as g
 use Rattle.grammar.specs.declared.tokens.Word.TheVariants as word
 use Rattle.grammar.specs.Grammar.{arity, most_of}
 use Rattle.grammar.specs.declared.tokens.Word.{Word}
 use Rattle.grammar.specs.Reading as reading
-use Rattle.grammar.specs.Reading.{Partial, listing, semicolon, lettered, counting, goes, closes, stuck, step_in}
+use Rattle.grammar.specs.Reading.{Number, fresh, digits, Partial, listing, semicolon, lettered, counting, goes, closes, stuck, step_in}
 use Rattle.grammar.specs.Reading.{Context, Bracket, Config, inside, partial_text}
 use Rattle.grammar.specs.Reading.{filled, within, step, open_in, broken, deep, finished, continued, outcome}
-use Rattle.grammar.specs.declared.tokens.Number.{Number}
-use Rattle.grammar.specs.declared.tokens.Number.TheVariants.{Fresh as fresh, Digits as digits}
 use Rattle.line.specs.Inner.States.{NumberMost, StateMost, step_state, state_of, words_in}
-use Rattle.line.specs.Inner.Reads.{from, FigureAt, FigureRead, pending_rows}
+use Rattle.line.specs.Inner.Reads.{from, FigureAt, FigureRead}
 use Rattle.grammar.proofs.Laws.Reading.{PartialFits, NextTold, step_in-told, NumberFits}
 use Rattle.grammar.proofs.Laws.Query.{end}
 use Rattle.grammar.proofs.Laws.Steps.{filled_open}
@@ -69,6 +66,14 @@ module _ (s : List ℕ) (c : Config) (q : ℕ) where
   pub from_end : length s ≤ q → from s c q ≡ finished c q
   unfolding outcome
   from_end h = ap (outcome c q) (drop_of_length-le s h)
+
+  -- the end of the text, or a byte that no line has there
+  pub stops_at : (q < length s → step c (get_or s q 0) ≡ none) → finished c q ≡ broken q → from s c q ≡ broken q
+  stops_at f e = go (ltb q (length s)) refl
+    where
+      go : (t : Bool) → ltb q (length s) ≡ t → from s c q ≡ broken q
+      go true w = let h = ltb-true q (length s) w in from-none h (f h)
+      go false w = from_end (ltb-false q (length s) w) ∙ e
 
 -- the numbers of a pattern that has been read are small
 number-most : (most : ℕ) (x : Number) → NumberFits most x → NumberMost most x
@@ -123,12 +128,6 @@ pub stored_one : (out : List ℕ) (n : ℕ) (w : Words) (r : Row) → words_in r
 unfolding stored
 stored_one out n w r e = ap (put_words out n) (sym e)
 
--- an operator is stored behind its second side
-pub settled : (out : List ℕ) (n : ℕ) (o p : Pending) → o ≡ p → {out' : List ℕ} {m : ℕ} → out' ≡ stored out n (pending_rows p)
-    → m ≡ n + length (pending_rows p) → (out' ≡ stored out n (pending_rows o)) × (m ≡ n + length (pending_rows o))
-settled out n o p e x y =
-    (x ∙ ap (λ (z : Pending). stored out n (pending_rows z)) (sym e), y ∙ ap (λ (z : Pending). n + length (pending_rows z)) (sym e))
-
 -- the pattern from byte `start` on has been read to byte `at`: its state, and the rows that are stored
 pub record Within (s : List ℕ) (start n : ℕ) (out : List ℕ) (at : ℕ) (state : State) (rows : ℕ) (out' : List ℕ) : Type 0 where
   pub read : Partial
@@ -168,7 +167,7 @@ module _ (s : List ℕ) (start n : ℕ) (out : List ℕ) where
     within-most = subst StateMost w.is (state-most w.read w.sound)
 
     -- the text ends in a pattern
-    pub within_end : length s ≤ at → FigureRead s start n out out' (Broken at)
+    pub within_end : length s ≤ at → FigureRead s start n out out' (Err (Broken at))
     within_end h p ps l = w.steps p ps l ∙ from_end s (inside w.read p ps) at h
 
     module _ (h : at < length s) where
@@ -184,12 +183,12 @@ module _ (s : List ℕ) (start n : ℕ) (out : List ℕ) where
       within-is m e p ps = ap (λ (x : reading.Next). within x p ps) e
 
       -- a byte inside a row
-      pub within-goes : (to : State) → step_state state (get_or s at 0) ≡ Goes to → Within s start n out (at + 1) to rows out'
+      pub within-goes : (to : State) → step_state state (get_or s at 0) ≡ Some (Goes to) → Within s start n out (at + 1) to rows out'
       within-goes to e =
           go (step_in w.read (get_or s at 0)) refl (subst (Follows w.read (step_in w.read (get_or s at 0))) e follows)
           (step_in-told w.read (get_or s at 0) w.sound)
         where
-          go : (m : reading.Next) → step_in w.read (get_or s at 0) ≡ m → Follows w.read m (Goes to)
+          go : (m : reading.Next) → step_in w.read (get_or s at 0) ≡ m → Follows w.read m (Some (Goes to))
               → NextTold (partial_text w.read ++ (get_or s at 0 ∷ [])) m → Within s start n out (at + 1) to rows out'
           go (goes f) q r t = record {
             read = f;
@@ -206,13 +205,13 @@ module _ (s : List ℕ) (start n : ℕ) (out : List ℕ) where
           go stuck q r t = absurd r
 
       -- a byte behind a row
-      pub within_emits : (ws : Words) (to : State) → step_state state (get_or s at 0) ≡ Emits ws to
+      pub within_emits : (ws : Words) (to : State) → step_state state (get_or s at 0) ≡ Some (Emits ws to)
           → Within s start n out (at + 1) to (rows + 1) (put_words out' rows ws)
       within_emits ws to e =
           go (step_in w.read (get_or s at 0)) refl (subst (Follows w.read (step_in w.read (get_or s at 0))) e follows)
           (step_in-told w.read (get_or s at 0) w.sound)
         where
-          go : (m : reading.Next) → step_in w.read (get_or s at 0) ≡ m → Follows w.read m (Emits ws to)
+          go : (m : reading.Next) → step_in w.read (get_or s at 0) ≡ m → Follows w.read m (Some (Emits ws to))
               → NextTold (partial_text w.read ++ (get_or s at 0 ∷ [])) m
               → Within s start n out (at + 1) to (rows + 1) (put_words out' rows ws)
           go (goes f) q r t = record {
@@ -239,12 +238,12 @@ module _ (s : List ℕ) (start n : ℕ) (out : List ℕ) where
 
       -- `]`: the last row, and END
       pub within-closes : (ws last : Words) → last ≡ record { kind = 6; a = 0; b = 0; c = 0 }
-          → step_state state (get_or s at 0) ≡ Closes ws
-          → FigureRead s start n out (put_words (put_words out' rows ws) (rows + 1) last) (At (at + 1) (rows + 2))
+          → step_state state (get_or s at 0) ≡ Some (Closes ws)
+          → FigureRead s start n out (put_words (put_words out' rows ws) (rows + 1) last) (Ok (record { at = at + 1; rows = rows + 2 }))
       within-closes ws last e6 e =
           go (step_in w.read (get_or s at 0)) refl (subst (Follows w.read (step_in w.read (get_or s at 0))) e follows)
         where
-          go : (m : reading.Next) → step_in w.read (get_or s at 0) ≡ m → Follows w.read m (Closes ws)
+          go : (m : reading.Next) → step_in w.read (get_or s at 0) ≡ m → Follows w.read m (Some (Closes ws))
               → FigureAt s start n out (put_words (put_words out' rows ws) (rows + 1) last) (at + 1) (rows + 2)
           go (goes f) q r = absurd r
           go (closes f) q r = record {
@@ -278,11 +277,11 @@ module _ (s : List ℕ) (start n : ℕ) (out : List ℕ) where
           go stuck q r = absurd r
 
       -- a byte that no line has there
-      pub within-stuck : step_state state (get_or s at 0) ≡ Stuck → FigureRead s start n out out' (Broken at)
+      pub within-stuck : step_state state (get_or s at 0) ≡ None → FigureRead s start n out out' (Err (Broken at))
       within-stuck e = go (step_in w.read (get_or s at 0)) refl (subst (Follows w.read (step_in w.read (get_or s at 0))) e follows)
         where
-          go : (m : reading.Next) → step_in w.read (get_or s at 0) ≡ m → Follows w.read m Stuck
-              → FigureRead s start n out out' (Broken at)
+          go : (m : reading.Next) → step_in w.read (get_or s at 0) ≡ m → Follows w.read m None
+              → FigureRead s start n out out' (Err (Broken at))
           go (goes f) q r = absurd r
           go (closes f) q r = absurd r
           go stuck q r = λ p ps l. w.steps p ps l ∙ from-none s (inside w.read p ps) at h (within-is stuck q p ps)

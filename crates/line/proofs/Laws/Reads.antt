@@ -14,24 +14,25 @@ use mathlib.Core.Option.{Option, none, some}
 use lib.Dec.{eqb}
 use lib.ListN.{length, get_or, length-append}
 use borrow.Author.Tests.{ne_eqb}
-use Rattle.line.specs.declared.reading.Pending.{Pending}
-use Rattle.line.specs.declared.reading.Pending.TheVariants as pending
+use Rattle.std.proofs.Common.{Option as Maybe, Some, None, Result, Ok, Err}
+use Rattle.grammar.specs.declared.tokens.Connective.{Connective}
+use Rattle.grammar.specs.declared.tokens.Connective.TheVariants.{And, Or, AndNot}
 use Rattle.plan.specs.declared.row.Row.{Row}
 use Rattle.plan.specs.Parts.{pattern_rows}
 use Rattle.grammar.specs.Meaning.{pattern_of, line_rows, part_rows, item_rows}
 use Rattle.line.specs.Inner.Store.{stored}
 use Rattle.line.specs.declared.reading.Reached.{Reached}
-use Rattle.line.specs.declared.reading.Reached.TheVariants.{At, Broken, Deep}
+use Rattle.line.specs.declared.reading.Stop.{Stop}
+use Rattle.line.specs.declared.reading.Stop.TheVariants.{Broken, Deep}
 use Rattle.grammar.specs.Grammar as g
 use Rattle.grammar.specs.Grammar.{Figure, Line, Part, Item, Lines}
 use Rattle.grammar.specs.Reading as reading
-use Rattle.grammar.specs.Reading.{listing, Front, bare, eithers, filled, shut, parted, ended, step}
+use Rattle.grammar.specs.Reading.{listing, fresh, Front, bare, eithers, filled, shut, parted, ended, step}
 use Rattle.grammar.specs.Reading.{Context, first, next, Bracket, rounded, among, Config, ready, inside, after, opened, line_of}
-use Rattle.grammar.specs.declared.tokens.Number.TheVariants.{Fresh as fresh}
 use Rattle.line.specs.Inner.Reads.{from, FigureRead, ItemAt, ItemRead, Stored, front_of, joins, part_before, pending_rows}
 use Rattle.line.specs.Inner.Reads.{waits, front_rows, PartAt, PartRead, LineAt, LineRead, SeveralRead, WholeRead}
 use Rattle.grammar.proofs.Laws.Steps.{filled_open}
-use Rattle.line.proofs.Laws.Figure.{from_goes, from-none, from_deep, from_end, stored_append}
+use Rattle.line.proofs.Laws.Figure.{from_goes, from-none, from_deep, from_end, stops_at, stored_append}
 
 -- the steps of the readers, by the byte that is there
 step-figure : (p : Context) (ps : List Bracket) (b : ℕ) → b ≡ 91 → step (ready p ps) b ≡ some (inside (listing [] fresh) p ps)
@@ -95,9 +96,9 @@ module _ (f : Front) (q : Part) (b : ℕ) (x : b ≢ 38) (y : b ≢ 33) (z : b �
       step-closes (among n ls p ∷ ps) ∙ rw (ne_eqb b 44 v, ne_eqb b 62 w) (no_more (eqb b 41) false false)
 
 -- the operator that waits behind `&`, and behind `!`
-abbrev waits_for : g.Joint → Pending
-waits_for g.both = pending.Both
-waits_for g.without = pending.Without
+abbrev waits_for : g.Joint → Maybe Connective
+waits_for g.both = Some And
+waits_for g.without = Some AndNot
 
 -- what an item in its context makes of the part, and a part of the line
 filled-part : (p : Context) (i : Item) (ps : List Bracket)
@@ -113,7 +114,7 @@ line-part bare q = sym (append-nil (part_rows q))
 line-part (eithers l) q = refl
 
 -- an operator stored behind what has been stored
-settled-rows : (s : List ℕ) (at n : ℕ) (out out₁ out₂ : List ℕ) (e m k : ℕ) (new : List Row) (o : Pending)
+settled-rows : (s : List ℕ) (at n : ℕ) (out out₁ out₂ : List ℕ) (e m k : ℕ) (new : List Row) (o : Maybe Connective)
     → Stored s at n 0 out out₁ e m new → out₂ ≡ stored out₁ m (pending_rows o) → k ≡ m + length (pending_rows o)
     → Stored s at n (length (pending_rows o)) out out₂ e k (new ++ pending_rows o)
 settled-rows s at n out out₁ out₂ e m k new o w x y = record {
@@ -137,14 +138,14 @@ then-rows s at n out out₁ out₂ e m f k slack a b v w = record {
 
 module _ (s : List ℕ) (at d n : ℕ) (out : List ℕ) where
   -- no item at the end of the text
-  pub item_out : length s ≤ at → ItemRead s at d n out out (Broken at)
+  pub item_out : length s ≤ at → ItemRead s at d n out out (Err (Broken at))
   item_out h p ps l = from_end s (ready p ps) at h
 
   module _ (h : at < length s) (few : d ≤ 8) where
     -- `[`: a pattern
-    pub item-figure : get_or s at 0 ≡ 91 → (out' : List ℕ) (r : Reached) → FigureRead s (at + 1) n out out' r → ItemRead s at d n out out' r
+    pub item-figure : get_or s at 0 ≡ 91 → (out' : List ℕ) (r : Result Reached Stop) → FigureRead s (at + 1) n out out' r → ItemRead s at d n out out' r
     unfolding line_rows
-    item-figure e out' (At k m) w = record {
+    item-figure e out' (Ok r) w = record {
       new = pattern_rows (pattern_of w.read);
       rows = record {
         ahead = let a = w.rows.ahead in omega arith;
@@ -164,23 +165,23 @@ module _ (s : List ℕ) (at d n : ℕ) (out : List ℕ) where
       where
         item-rows : (f : Figure) → item_rows (g.figure f) ≡ pattern_rows (pattern_of f)
         item-rows f = refl
-    item-figure e out' (Broken k) w =
+    item-figure e out' (Err (Broken k)) w =
         λ p ps l. from_goes s (ready p ps) at (inside (listing [] fresh) p ps) h (step-figure p ps (get_or s at 0) e) (omega arith)
         ∙ w p ps (omega arith)
-    item-figure e out' (Deep k) w = absurd w
+    item-figure e out' (Err (Deep k)) w = absurd w
 
     -- a byte that begins no item
-    pub item-none : get_or s at 0 ≢ 91 → get_or s at 0 ≢ 60 → get_or s at 0 ≢ 40 → ItemRead s at d n out out (Broken at)
+    pub item-none : get_or s at 0 ≢ 91 → get_or s at 0 ≢ 60 → get_or s at 0 ≢ 40 → ItemRead s at d n out out (Err (Broken at))
     item-none e f k p ps l = from-none s (ready p ps) at h (step-no-item p ps (get_or s at 0) e f k)
 
     module _ (e : get_or s at 0 ≡ 60) where
       -- a `<` inside eight brackets
-      pub item-ninth : 8 ≤ d → ItemRead s at d n out out (Deep at)
+      pub item-ninth : 8 ≤ d → ItemRead s at d n out out (Err (Deep at))
       item-ninth m p ps l = from_deep s (ready p ps) at (opened p ps) h (step-opened p ps (get_or s at 0) e) (omega arith)
 
       -- `<`: several lines
-      pub item-several : d < 8 → (out' : List ℕ) (r : Reached) → SeveralRead s (at + 1) (d + 1) n out out' r → ItemRead s at d n out out' r
-      item-several m out' (At k i) w = record {
+      pub item-several : d < 8 → (out' : List ℕ) (r : Result Reached Stop) → SeveralRead s (at + 1) (d + 1) n out out' r → ItemRead s at d n out out' r
+      item-several m out' (Ok r) w = record {
         new = w.new;
         rows = record {
           ahead = let a = w.rows.ahead in omega arith;
@@ -193,14 +194,14 @@ module _ (s : List ℕ) (at d n : ℕ) (out : List ℕ) where
             let x = w.goes p ps (omega arith) in
             (x.0, from_goes s (ready p ps) at (opened p ps) h (step-opened p ps (get_or s at 0) e) (omega arith) ∙ x.1, x.2);
       }
-      item-several m out' (Broken k) w =
+      item-several m out' (Err (Broken k)) w =
           λ p ps l. from_goes s (ready p ps) at (opened p ps) h (step-opened p ps (get_or s at 0) e) (omega arith) ∙ w p ps (omega arith)
-      item-several m out' (Deep k) w =
+      item-several m out' (Err (Deep k)) w =
           λ p ps l. from_goes s (ready p ps) at (opened p ps) h (step-opened p ps (get_or s at 0) e) (omega arith) ∙ w p ps (omega arith)
 
     module _ (e : get_or s at 0 ≡ 40) where
       -- a ninth bracket
-      pub item-deep : 8 ≤ d → ItemRead s at d n out out (Deep at)
+      pub item-deep : 8 ≤ d → ItemRead s at d n out out (Err (Deep at))
       item-deep m p ps l =
           from_deep s (ready p ps) at (ready (first bare) (rounded p ∷ ps)) h (step-round p ps (get_or s at 0) e) (omega arith)
 
@@ -210,34 +211,21 @@ module _ (s : List ℕ) (at d n : ℕ) (out : List ℕ) where
         opens_on p ps l =
             from_goes s (ready p ps) at (ready (first bare) (rounded p ∷ ps)) h (step-round p ps (get_or s at 0) e) (omega arith)
 
-        -- `(`: the line inside breaks the grammar
-        pub item-broken : (k : ℕ) → LineRead s (at + 1) (d + 1) n pending.Nothing out out' (Broken k)
-            → ItemRead s at d n out out' (Broken k)
-        item-broken k w = λ p ps l. opens_on p ps l ∙ w bare (rounded p ∷ ps) (omega arith) refl
+        -- `(`: the reading comes no further than the line inside
+        pub item-stops : (e : Stop) → LineRead s (at + 1) (d + 1) n None out out' (Err e) → ItemRead s at d n out out' (Err e)
+        item-stops (Broken k) w = λ p ps l. opens_on p ps l ∙ w bare (rounded p ∷ ps) (omega arith) refl
+        item-stops (Deep k) w = λ p ps l. opens_on p ps l ∙ w bare (rounded p ∷ ps) (omega arith) refl
 
-        -- a bracket inside it is too deep
-        pub item_too-deep : (k : ℕ) → LineRead s (at + 1) (d + 1) n pending.Nothing out out' (Deep k) → ItemRead s at d n out out' (Deep k)
-        item_too-deep k w = λ p ps l. opens_on p ps l ∙ w bare (rounded p ∷ ps) (omega arith) refl
-
-        module _ (k i : ℕ) (w : LineAt s (at + 1) (d + 1) n pending.Nothing out out' k i) where
-          -- it is not closed: the text ends
-          pub item_open : length s ≤ k → ItemRead s at d n out out' (Broken k)
-          item_open o p ps l =
+        module _ (k i : ℕ) (w : LineAt s (at + 1) (d + 1) n None out out' k i) where
+          -- it is not closed
+          pub item-wrong : (k < length s → get_or s k 0 ≢ 41) → ItemRead s at d n out out' (Err (Broken k))
+          item-wrong f p ps l =
               let x = w.goes bare (rounded p ∷ ps) (omega arith) refl in
-              opens_on p ps l ∙ x.2 ∙ from_end s (after x.0 x.1 (rounded p ∷ ps)) k o
-
-          -- it is not closed: another byte stands there
-          pub item-wrong : k < length s → get_or s k 0 ≢ 41 → ItemRead s at d n out out' (Broken k)
-          item-wrong o f p ps l =
-              let x = w.goes bare (rounded p ∷ ps) (omega arith) refl in
-              let z = w.ends o in
-              opens_on p ps l
-              ∙ x.2
-              ∙ from-none s (after x.0 x.1 (rounded p ∷ ps)) k o
-              (step-not-shut x.0 x.1 (get_or s k 0) z.0 z.1 z.2 p ps f)
+              opens_on p ps l ∙ x.2 ∙ stops_at s (after x.0 x.1 (rounded p ∷ ps)) k
+              (λ o. let z = w.ends o in step-not-shut x.0 x.1 (get_or s k 0) z.0 z.1 z.2 p ps (f o)) refl
 
           -- it is closed
-          pub item-shut : k < length s → get_or s k 0 ≡ 41 → ItemRead s at d n out out' (At (k + 1) i)
+          pub item-shut : k < length s → get_or s k 0 ≡ 41 → ItemRead s at d n out out' (Ok (record { at = k + 1; rows = i }))
           unfolding line_rows
           item-shut o f = record {
             new = w.new;
@@ -263,7 +251,7 @@ module _ (s : List ℕ) (at d n : ℕ) (out : List ℕ) where
               round-rows l = refl
 
   -- parts: an item and the operator that waited for it
-  module _ (o : Pending) (out₁ out₂ : List ℕ) (e m k : ℕ) (w : ItemAt s at d n out out₁ e m) (x : out₂ ≡ stored out₁ m (pending_rows o))
+  module _ (o : Maybe Connective) (out₁ out₂ : List ℕ) (e m k : ℕ) (w : ItemAt s at d n out out₁ e m) (x : out₂ ≡ stored out₁ m (pending_rows o))
       (y : k ≡ m + length (pending_rows o)) where
     part_so-far : (p : Context) (ps : List Bracket) → length ps ≡ d → joins p ≡ o
         → (q : Part) × (from s (ready p ps) at ≡ from s (after (front_of p) q ps) e)
@@ -273,14 +261,14 @@ module _ (s : List ℕ) (at d n : ℕ) (out : List ℕ) where
         let q = filled-part p i.0 ps in (
           q.0,
           i.1 ∙ ap (λ (c : Config). from s c e) q.1,
-          q.2 ∙ ap₂ (λ (a : List Row) (b : Pending). part_before p ++ (a ++ pending_rows b)) i.2 j,
+          q.2 ∙ ap₂ (λ (a : List Row) (b : Maybe Connective). part_before p ++ (a ++ pending_rows b)) i.2 j,
         )
 
     part-rows_so-far : Stored s at n (length (pending_rows o)) out out₂ e k (w.new ++ pending_rows o)
     part-rows_so-far = settled-rows s at n out out₁ out₂ e m k w.new o w.rows x y
 
     -- no `&` and no `!` follows
-    pub part_at : (e < length s → (get_or s e 0 ≢ 38) × (get_or s e 0 ≢ 33)) → PartRead s at d n o out out₂ (At e k)
+    pub part_at : (e < length s → (get_or s e 0 ≢ 38) × (get_or s e 0 ≢ 33)) → PartRead s at d n o out out₂ (Ok (record { at = e; rows = k }))
     part_at z = record { new = w.new ++ pending_rows o; rows = part-rows_so-far; ends = z; goes = part_so-far }
 
     module _ (few : d ≤ 8) (h : e < length s) (j : g.Joint) (b : get_or s e 0 ≡ g.joint_byte j) (out' : List ℕ) where
@@ -298,11 +286,11 @@ module _ (s : List ℕ) (at d n : ℕ) (out : List ℕ) where
           (omega arith)
 
       -- `&` or `!`: the rest of the part
-      pub part_joint : (r : Reached) → PartRead s (e + 1) d k (waits_for j) out₂ out' r → PartRead s at d n o out out' r
-      part_joint (At f i) v = record {
+      pub part_joint : (r : Result Reached Stop) → PartRead s (e + 1) d k (waits_for j) out₂ out' r → PartRead s at d n o out out' r
+      part_joint (Ok r) v = record {
         new = (w.new ++ pending_rows o) ++ v.new;
         rows =
-            then-rows s at n out out₂ out' e k f i (length (pending_rows o)) (w.new ++ pending_rows o) v.new part-rows_so-far
+            then-rows s at n out out₂ out' e k r.at r.rows (length (pending_rows o)) (w.new ++ pending_rows o) v.new part-rows_so-far
             (one-slack j v.rows);
         ends = v.ends;
         goes = λ p ps l u.
@@ -314,42 +302,39 @@ module _ (s : List ℕ) (at d n : ℕ) (out : List ℕ) where
             );
       }
         where
-          one-slack : (j : g.Joint) → Stored s (e + 1) k (length (pending_rows (waits_for j))) out₂ out' f i v.new
-              → Stored s (e + 1) k 1 out₂ out' f i v.new
+          one-slack : (j : g.Joint) → Stored s (e + 1) k (length (pending_rows (waits_for j))) out₂ out' r.at r.rows v.new
+              → Stored s (e + 1) k 1 out₂ out' r.at r.rows v.new
           one-slack g.both z = z
           one-slack g.without z = z
-      part_joint (Broken f) v =
+      part_joint (Err (Broken f)) v =
           λ p ps l u.
           let a = part_so-far p ps l u in
           a.1 ∙ joins_on p ps a.0 l ∙ v (next (front_of p) a.0 j) ps l (joins-next (front_of p) a.0)
-      part_joint (Deep f) v =
+      part_joint (Err (Deep f)) v =
           λ p ps l u.
           let a = part_so-far p ps l u in
           a.1 ∙ joins_on p ps a.0 l ∙ v (next (front_of p) a.0 j) ps l (joins-next (front_of p) a.0)
 
-  -- its first item breaks the grammar
-  pub part-broken : (o : Pending) (out' : List ℕ) (k : ℕ) → ItemRead s at d n out out' (Broken k) → PartRead s at d n o out out' (Broken k)
-  part-broken o out' k w = λ p ps l u. w p ps l
-
-  -- a bracket of its first item is too deep
-  pub part-deep : (o : Pending) (out' : List ℕ) (k : ℕ) → ItemRead s at d n out out' (Deep k) → PartRead s at d n o out out' (Deep k)
-  part-deep o out' k w = λ p ps l u. w p ps l
+  -- the reading comes no further than its first item
+  pub part-stops : (o : Maybe Connective) (out' : List ℕ) (e : Stop) → ItemRead s at d n out out' (Err e) → PartRead s at d n o out out' (Err e)
+  part-stops o out' (Broken k) w = λ p ps l u. w p ps l
+  part-stops o out' (Deep k) w = λ p ps l u. w p ps l
 
   -- lines: a part and the `|` that waited for it
-  module _ (o : Pending) (out₁ out₂ : List ℕ) (e m k : ℕ) (w : PartAt s at d n pending.Nothing out out₁ e m)
+  module _ (o : Maybe Connective) (out₁ out₂ : List ℕ) (e m k : ℕ) (w : PartAt s at d n None out out₁ e m)
       (x : out₂ ≡ stored out₁ m (pending_rows o)) (y : k ≡ m + length (pending_rows o)) where
     line_so-far : (f : Front) (ps : List Bracket) → length ps ≡ d → waits f ≡ o
         → (q : Part) × (from s (ready (first f) ps) at ≡ from s (after f q ps) e)
         × (line_rows (line_of f q) ≡ front_rows f ++ (w.new ++ pending_rows o))
     line_so-far f ps l u =
         let q = w.goes (first f) ps l refl in
-        (q.0, q.1, line-part f q.0 ∙ ap₂ (λ (a : List Row) (b : Pending). front_rows f ++ (a ++ pending_rows b)) q.2 u)
+        (q.0, q.1, line-part f q.0 ∙ ap₂ (λ (a : List Row) (b : Maybe Connective). front_rows f ++ (a ++ pending_rows b)) q.2 u)
 
     line-rows_so-far : Stored s at n (length (pending_rows o)) out out₂ e k (w.new ++ pending_rows o)
     line-rows_so-far = settled-rows s at n out out₁ out₂ e m k w.new o w.rows x y
 
     -- no `|` follows
-    pub line_at : (e < length s → get_or s e 0 ≢ 124) → LineRead s at d n o out out₂ (At e k)
+    pub line_at : (e < length s → get_or s e 0 ≢ 124) → LineRead s at d n o out out₂ (Ok (record { at = e; rows = k }))
     line_at z = record {
       new = w.new ++ pending_rows o;
       rows = line-rows_so-far;
@@ -364,11 +349,11 @@ module _ (s : List ℕ) (at d n : ℕ) (out : List ℕ) where
           from_goes s (after f q ps) e (ready (first (eithers (line_of f q))) ps) h (step-either f q ps (get_or s e 0) b) (omega arith)
 
       -- `|`: the rest of the line
-      pub line-either : (r : Reached) → LineRead s (e + 1) d k pending.Either out₂ out' r → LineRead s at d n o out out' r
-      line-either (At f i) v = record {
+      pub line-either : (r : Result Reached Stop) → LineRead s (e + 1) d k (Some Or) out₂ out' r → LineRead s at d n o out out' r
+      line-either (Ok r) v = record {
         new = (w.new ++ pending_rows o) ++ v.new;
         rows =
-            then-rows s at n out out₂ out' e k f i (length (pending_rows o)) (w.new ++ pending_rows o) v.new line-rows_so-far v.rows;
+            then-rows s at n out out₂ out' e k r.at r.rows (length (pending_rows o)) (w.new ++ pending_rows o) v.new line-rows_so-far v.rows;
         ends = v.ends;
         goes = λ g' ps l u.
             let a = line_so-far g' ps l u in
@@ -379,47 +364,37 @@ module _ (s : List ℕ) (at d n : ℕ) (out : List ℕ) where
               c.3 ∙ ap (λ (z : List Row). z ++ v.new) a.2 ∙ append_assoc (front_rows g') (w.new ++ pending_rows o) v.new,
             );
       }
-      line-either (Broken f) v =
+      line-either (Err (Broken f)) v =
           λ g' ps l u. let a = line_so-far g' ps l u in a.1 ∙ either_on g' ps a.0 l ∙ v (eithers (line_of g' a.0)) ps l refl
-      line-either (Deep f) v =
+      line-either (Err (Deep f)) v =
           λ g' ps l u. let a = line_so-far g' ps l u in a.1 ∙ either_on g' ps a.0 l ∙ v (eithers (line_of g' a.0)) ps l refl
 
-  -- its first part breaks the grammar
-  pub line-broken : (o : Pending) (out' : List ℕ) (k : ℕ) → PartRead s at d n pending.Nothing out out' (Broken k)
-      → LineRead s at d n o out out' (Broken k)
-  line-broken o out' k w = λ f ps l u. w (first f) ps l refl
-
-  -- a bracket of its first part is too deep
-  pub line-deep : (o : Pending) (out' : List ℕ) (k : ℕ) → PartRead s at d n pending.Nothing out out' (Deep k)
-      → LineRead s at d n o out out' (Deep k)
-  line-deep o out' k w = λ f ps l u. w (first f) ps l refl
+  -- the reading comes no further than its first part
+  pub line-stops : (o : Maybe Connective) (out' : List ℕ) (e : Stop) → PartRead s at d n None out out' (Err e) → LineRead s at d n o out out' (Err e)
+  line-stops o out' (Broken k) w = λ f ps l u. w (first f) ps l refl
+  line-stops o out' (Deep k) w = λ f ps l u. w (first f) ps l refl
 
 -- the whole text
 module _ (s out : List ℕ) where
-  -- the line breaks the grammar
-  pub whole-broken_off : (out' : List ℕ) (k : ℕ) → LineRead s 0 0 0 pending.Nothing out out' (Broken k)
-      → WholeRead s out out' (Broken k) (reading.reading s)
-  whole-broken_off out' k w = subst (WholeRead s out out' (Broken k)) (sym (w bare [] refl refl)) refl
+  -- the reading comes no further than the line
+  pub whole-stops : (out' : List ℕ) (e : Stop) → LineRead s 0 0 0 None out out' (Err e) → WholeRead s out out' (Err e) (reading.reading s)
+  whole-stops out' (Broken k) w = subst (WholeRead s out out' (Err (Broken k))) (sym (w bare [] refl refl)) refl
+  whole-stops out' (Deep k) w = subst (WholeRead s out out' (Err (Deep k))) (sym (w bare [] refl refl)) refl
 
-  -- a bracket of it is too deep
-  pub whole-deep : (out' : List ℕ) (k : ℕ) → LineRead s 0 0 0 pending.Nothing out out' (Deep k)
-      → WholeRead s out out' (Deep k) (reading.reading s)
-  whole-deep out' k w = subst (WholeRead s out out' (Deep k)) (sym (w bare [] refl refl)) refl
-
-  module _ (out' : List ℕ) (k m : ℕ) (w : LineAt s 0 0 0 pending.Nothing out out' k m) where
+  module _ (out' : List ℕ) (k m : ℕ) (w : LineAt s 0 0 0 None out out' k m) where
     -- more text follows the line
-    pub whole-broken : k < length s → WholeRead s out out' (Broken k) (reading.reading s)
+    pub whole-broken : k < length s → WholeRead s out out' (Err (Broken k)) (reading.reading s)
     whole-broken h =
         let x = w.goes bare [] refl refl in
         let n = w.ends h in
-        subst (WholeRead s out out' (Broken k))
+        subst (WholeRead s out out' (Err (Broken k)))
         (sym (x.2 ∙ from-none s (after x.0 x.1 []) k h (step-no-more x.0 x.1 (get_or s k 0) n.0 n.1 n.2))) refl
 
     -- the text is a line
-    pub whole-at : length s ≤ k → WholeRead s out out' (At k m) (reading.reading s)
+    pub whole-at : length s ≤ k → WholeRead s out out' (Ok (record { at = k; rows = m })) (reading.reading s)
     whole-at h =
         let x = w.goes bare [] refl refl in
         let c = w.rows.count in
         let e : w.new ≡ line_rows (line_of x.0 x.1) = sym x.3 in
-        subst (WholeRead s out out' (At k m)) (sym (x.2 ∙ from_end s (after x.0 x.1 []) k h))
+        subst (WholeRead s out out' (Ok (record { at = k; rows = m }))) (sym (x.2 ∙ from_end s (after x.0 x.1 []) k h))
         (let l = ap length e in omega arith, w.rows.is ∙ ap (stored out 0) e)

@@ -6,37 +6,41 @@
 use Prim.Native.Nat.{ℕ, suc, ◌+◌, ◌-◌, ◌<◌, ◌≤◌, max}
 use native.Mathlib.Omega.{arith}
 use mathlib.Core.Path.{◌≡◌, refl, sym, ap, ap₂, ◌∙◌}
+use mathlib.Core.Bool.{Bool, true, false, cond, ◌&&◌}
 use mathlib.Core.Logic.{◌≢◌}
+use lib.Dec.{leb}
 use mathlib.Core.List.{List, ◌∷◌, ◌++◌, append_assoc}
-use mathlib.Core.Option.{none, some}
+use mathlib.Core.Option.{Option, none, some}
 use lib.ListN.{length, get_or, length-append}
-use borrow.Author.Tests.{lt-ltb, le-ltb, le-leb, lt-leb, ne_eqb}
+use borrow.Author.Tests.{lt-ltb, le-ltb, le-leb, lt-leb, ne_eqb, leb-true}
+use Rattle.std.proofs.Common.{None, Result, Ok, Err}
 use Rattle.line.specs.declared.steps.Words.{Words}
-use Rattle.line.specs.declared.reading.Pending.TheVariants as pending
 use Rattle.plan.specs.declared.row.Operator.TheVariants.{AtLeast}
 use Rattle.plan.specs.declared.row.Kind.TheVariants as kind
 use Rattle.plan.specs.declared.row.Row.{Row}
 use Rattle.grammar.specs.Meaning.{operator_row, line_rows, lines_rows}
 use Rattle.line.specs.Inner.Store.{put_words, stored}
 use Rattle.line.specs.declared.reading.Reached.{Reached}
-use Rattle.line.specs.declared.reading.Reached.TheVariants.{At, Broken, Deep}
+use Rattle.line.specs.declared.reading.Stop.{Stop}
+use Rattle.line.specs.declared.reading.Stop.TheVariants.{Broken, Deep}
 use Rattle.grammar.specs.Grammar as g
 use Rattle.grammar.specs.Grammar.{Line, Part, Lines, line_count}
-use Rattle.grammar.specs.Reading.{Front, bare, Context, first, Bracket, among, ready, after, opened, numbered, line_of, filled, step}
+use Rattle.grammar.specs.Reading.{Front, bare, Context, first, Bracket, among, Config, ready, after, opened, numbered, line_of, filled, step}
 use Rattle.line.specs.Inner.States.{threshold_words}
 use Rattle.line.specs.Inner.Reads.{from, Stored, LineAt, LineRead, SeveralRead, LinesRead}
 use Rattle.grammar.proofs.Laws.Steps.{filled_open}
-use Rattle.line.proofs.Laws.Figure.{from_goes, from-none, from_end, stored_append, stored_one}
+use Rattle.line.proofs.Laws.Figure.{from_goes, from-none, from_end, stops_at, stored_append, stored_one}
 use Rattle.line.proofs.Laws.Reads.{step-not-ended, then-rows}
 
 -- the steps of the readers, by the byte that is there
-step-low : (p : Context) (ps : List Bracket) (b : ℕ) → b < 49 → step (opened p ps) b ≡ none
+step_no-number : (p : Context) (ps : List Bracket) (b : ℕ) → (49 ≤ b → b ≤ 56 → ⊥) → step (opened p ps) b ≡ none
 unfolding step
-step-low p ps b h = rw (lt-leb 49 b h)
-
-step-high : (p : Context) (ps : List Bracket) (b : ℕ) → 49 ≤ b → 56 < b → step (opened p ps) b ≡ none
-unfolding step
-step-high p ps b h l = rw (le-leb 49 b h, lt-leb b 56 l)
+step_no-number p ps b f = go (leb 49 b) (leb b 56) refl refl
+  where
+    go : (t u : Bool) → leb 49 b ≡ t → leb b 56 ≡ u → ◌≡◌ {A = Option Config} (cond (t && u) (some (numbered (b - 48) p ps)) none) none
+    go false u e k = refl
+    go true false e k = refl
+    go true true e k = absurd (f (leb-true 49 b e) (leb-true b 56 k))
 
 step-number : (p : Context) (ps : List Bracket) (b : ℕ) → 49 ≤ b → b ≤ 56 → step (opened p ps) b ≡ some (numbered (b - 48) p ps)
 unfolding step
@@ -74,36 +78,29 @@ module _ (f : Front) (q : Part) (n : ℕ) (ls : Lines) (p : Context) (ps : List 
 -- several lines behind `<`
 module _ (s : List ℕ) (at d n : ℕ) (out : List ℕ) where
   -- the text ends behind `<`
-  pub several-out : length s ≤ at → SeveralRead s at d n out out (Broken at)
+  pub several-out : length s ≤ at → SeveralRead s at d n out out (Err (Broken at))
   several-out h p ps l = from_end s (opened p ps) at h
 
   module _ (h : at < length s) where
-    -- a byte below `1`
-    pub several-low : get_or s at 0 < 49 → SeveralRead s at d n out out (Broken at)
-    several-low b p ps l = from-none s (opened p ps) at h (step-low p ps (get_or s at 0) b)
+    -- a byte that is no digit from `1` to `8`
+    pub several-none : (49 ≤ get_or s at 0 → get_or s at 0 ≤ 56 → ⊥) → SeveralRead s at d n out out (Err (Broken at))
+    several-none b p ps l = from-none s (opened p ps) at h (step_no-number p ps (get_or s at 0) b)
 
     module _ (low : 49 ≤ get_or s at 0) where
-      -- a byte above `8`
-      pub several-high : 56 < get_or s at 0 → SeveralRead s at d n out out (Broken at)
-      several-high b p ps l = from-none s (opened p ps) at h (step-high p ps (get_or s at 0) low b)
-
       module _ (high : get_or s at 0 ≤ 56) (few : d ≤ 8) where
         number_on : (p : Context) (ps : List Bracket) → suc (length ps) ≡ d
             → from s (opened p ps) at ≡ from s (numbered (get_or s at 0 - 48) p ps) (at + 1)
         number_on p ps l =
             from_goes s (opened p ps) at (numbered (get_or s at 0 - 48) p ps) h (step-number p ps (get_or s at 0) low high) (omega arith)
 
-        -- the text ends behind the number
-        pub several_open : length s ≤ at + 1 → SeveralRead s at d n out out (Broken (at + 1))
-        several_open o p ps l = number_on p ps l ∙ from_end s (numbered (get_or s at 0 - 48) p ps) (at + 1) o
+        -- no `:` stands behind it
+        pub several-wrong : (at + 1 < length s → get_or s (at + 1) 0 ≢ 58) → SeveralRead s at d n out out (Err (Broken (at + 1)))
+        several-wrong f p ps l =
+            number_on p ps l
+            ∙ stops_at s (numbered (get_or s at 0 - 48) p ps) (at + 1)
+            (λ o. step-no_colon (get_or s at 0 - 48) p ps (get_or s (at + 1) 0) (f o)) refl
 
         module _ (o : at + 1 < length s) where
-          -- no `:` stands behind it
-          pub several-wrong : get_or s (at + 1) 0 ≢ 58 → SeveralRead s at d n out out (Broken (at + 1))
-          several-wrong e p ps l =
-              number_on p ps l
-              ∙ from-none s (numbered (get_or s at 0 - 48) p ps) (at + 1) o (step-no_colon (get_or s at 0 - 48) p ps (get_or s (at + 1) 0) e)
-
           module _ (e : get_or s (at + 1) 0 ≡ 58) (out' : List ℕ) where
             colon_on : (p : Context) (ps : List Bracket) → suc (length ps) ≡ d
                 → from s (opened p ps) at ≡ from s (ready (first bare) (among (get_or s at 0 - 48) g.nil p ∷ ps)) (at + 2)
@@ -114,9 +111,9 @@ module _ (s : List ℕ) (at d n : ℕ) (out : List ℕ) where
                 ∙ ap (from s (ready (first bare) (among (get_or s at 0 - 48) g.nil p ∷ ps))) (let q : at + 1 + 1 ≡ at + 2 = omega arith in q)
 
             -- `:`: the lines
-            pub several-lines : (r : Reached) → LinesRead s (at + 2) d (get_or s at 0 - 48) 0 n out out' r → SeveralRead s at d n out out' r
+            pub several-lines : (r : Result Reached Stop) → LinesRead s (at + 2) d (get_or s at 0 - 48) 0 n out out' r → SeveralRead s at d n out out' r
             unfolding line_rows
-            several-lines (At k i) w = record {
+            several-lines (Ok r) w = record {
               new = w.new;
               rows = record {
                 ahead = let a = w.rows.ahead in omega arith;
@@ -127,28 +124,25 @@ module _ (s : List ℕ) (at d n : ℕ) (out : List ℕ) where
               };
               goes = λ p ps l. let x = w.goes g.nil p ps l refl in (x.0, colon_on p ps l ∙ x.1, x.2);
             }
-            several-lines (Broken k) w = λ p ps l. colon_on p ps l ∙ w g.nil p ps l refl
-            several-lines (Deep k) w = λ p ps l. colon_on p ps l ∙ w g.nil p ps l refl
+            several-lines (Err (Broken k)) w = λ p ps l. colon_on p ps l ∙ w g.nil p ps l refl
+            several-lines (Err (Deep k)) w = λ p ps l. colon_on p ps l ∙ w g.nil p ps l refl
 
 -- the lines between `<` and `>`, one by one
 module _ (s : List ℕ) (at d least count n : ℕ) (out out₁ : List ℕ) where
-  -- a line breaks the grammar
-  pub lines-broken : (k : ℕ) → LineRead s at d n pending.Nothing out out₁ (Broken k) → LinesRead s at d least count n out out₁ (Broken k)
-  lines-broken k w = λ ls p ps l c. w bare (among least ls p ∷ ps) l refl
+  -- the reading comes no further than a line
+  pub lines-stops : (e : Stop) → LineRead s at d n None out out₁ (Err e) → LinesRead s at d least count n out out₁ (Err e)
+  lines-stops (Broken k) w = λ ls p ps l c. w bare (among least ls p ∷ ps) l refl
+  lines-stops (Deep k) w = λ ls p ps l c. w bare (among least ls p ∷ ps) l refl
 
-  -- a bracket of a line is too deep
-  pub lines-deep : (k : ℕ) → LineRead s at d n pending.Nothing out out₁ (Deep k) → LinesRead s at d least count n out out₁ (Deep k)
-  lines-deep k w = λ ls p ps l c. w bare (among least ls p ∷ ps) l refl
-
-  module _ (k m : ℕ) (w : LineAt s at d n pending.Nothing out out₁ k m) where
+  module _ (k m : ℕ) (w : LineAt s at d n None out out₁ k m) where
     -- the text ends behind a line
-    pub lines_open : length s ≤ k → LinesRead s at d least count n out out₁ (Broken k)
+    pub lines_open : length s ≤ k → LinesRead s at d least count n out out₁ (Err (Broken k))
     lines_open o ls p ps l c =
         let x = w.goes bare (among least ls p ∷ ps) l refl in x.2 ∙ from_end s (after x.0 x.1 (among least ls p ∷ ps)) k o
 
     module _ (o : k < length s) where
       -- a byte that no lines have there
-      pub lines-wrong : get_or s k 0 ≢ 44 → get_or s k 0 ≢ 62 → LinesRead s at d least count n out out₁ (Broken k)
+      pub lines-wrong : get_or s k 0 ≢ 44 → get_or s k 0 ≢ 62 → LinesRead s at d least count n out out₁ (Err (Broken k))
       lines-wrong e f ls p ps l c =
           let x = w.goes bare (among least ls p ∷ ps) l refl in
           let z = w.ends o in
@@ -158,7 +152,7 @@ module _ (s : List ℕ) (at d least count n : ℕ) (out out₁ : List ℕ) where
 
       module _ (e : get_or s k 0 ≡ 44) where
         -- a comma behind the eighth line
-        pub lines-full : 8 ≤ count + 1 → LinesRead s at d least count n out out₁ (Broken k)
+        pub lines-full : 8 ≤ count + 1 → LinesRead s at d least count n out out₁ (Err (Broken k))
         lines-full z ls p ps l c =
             let x = w.goes bare (among least ls p ∷ ps) l refl in
             x.2
@@ -180,12 +174,12 @@ module _ (s : List ℕ) (at d least count n : ℕ) (out out₁ : List ℕ) where
               )
 
           -- a comma: the rest of the lines
-          pub lines_comma : (r : Reached) → LinesRead s (k + 1) d least (count + 1) m out₁ out₂ r
+          pub lines_comma : (r : Result Reached Stop) → LinesRead s (k + 1) d least (count + 1) m out₁ out₂ r
               → LinesRead s at d least count n out out₂ r
           unfolding line_rows
-          lines_comma (At f i) v = record {
+          lines_comma (Ok r) v = record {
             new = w.new ++ v.new;
-            rows = then-rows s at n out out₁ out₂ k m f i 0 w.new v.new w.rows (more-slack v.rows);
+            rows = then-rows s at n out out₁ out₂ k m r.at r.rows 0 w.new v.new w.rows (more-slack v.rows);
             goes = λ ls p ps l c.
                 let a = comma_on ls p ps l c in
                 let b = v.goes (g.snoc ls a.0) p ps l (omega arith) in (
@@ -195,7 +189,7 @@ module _ (s : List ℕ) (at d least count n : ℕ) (out out₁ : List ℕ) where
                 );
           }
             where
-              more-slack : Stored s (k + 1) m 0 out₁ out₂ f i v.new → Stored s (k + 1) m 1 out₁ out₂ f i v.new
+              more-slack : Stored s (k + 1) m 0 out₁ out₂ r.at r.rows v.new → Stored s (k + 1) m 1 out₁ out₂ r.at r.rows v.new
               more-slack q = record {
                 ahead = q.ahead;
                 within = q.within;
@@ -203,14 +197,14 @@ module _ (s : List ℕ) (at d least count n : ℕ) (out out₁ : List ℕ) where
                 count = q.count;
                 is = q.is;
               }
-          lines_comma (Broken f) v =
+          lines_comma (Err (Broken f)) v =
               λ ls p ps l c. let a = comma_on ls p ps l c in a.1 ∙ v (g.snoc ls a.0) p ps l (omega arith)
-          lines_comma (Deep f) v =
+          lines_comma (Err (Deep f)) v =
               λ ls p ps l c. let a = comma_on ls p ps l c in a.1 ∙ v (g.snoc ls a.0) p ps l (omega arith)
 
       module _ (e : get_or s k 0 ≡ 62) where
         -- `>` behind fewer than two lines, or than are asked for
-        pub lines-early : count + 1 < max 2 least → LinesRead s at d least count n out out₁ (Broken k)
+        pub lines-early : count + 1 < max 2 least → LinesRead s at d least count n out out₁ (Err (Broken k))
         lines-early z ls p ps l c =
             let x = w.goes bare (among least ls p ∷ ps) l refl in
             x.2
@@ -220,7 +214,7 @@ module _ (s : List ℕ) (at d least count n : ℕ) (out out₁ : List ℕ) where
         -- `>`: the row of AT LEAST
         pub lines_end : 2 ≤ count + 1 → least ≤ count + 1 → d ≤ 8 → (out₂ : List ℕ) (ws : Words)
             → ws ≡ threshold_words least (count + 1) → out₂ ≡ put_words out₁ m ws
-            → LinesRead s at d least count n out out₂ (At (k + 1) (m + 1))
+            → LinesRead s at d least count n out out₂ (Ok (record { at = k + 1; rows = m + 1 }))
         unfolding line_rows
         lines_end y z few out₂ ws u v = record {
           new = w.new ++ operator_row (AtLeast least (count + 1));

@@ -3,19 +3,19 @@
 --     from                       the reading of a text from a byte on
 --     Stored                     rows that are stored while a stretch of text is read
 --     FigureRead, ItemRead, PartRead, LineRead, SeveralRead, LinesRead, WholeRead     the answers of the readers
-use Rattle.std.specs.Prelude.{ℕ, suc, ◌+◌, ◌<◌, ◌≤◌, ◌≡◌, ◌≢◌, List, [], ◌∷◌, ◌++◌, length, get_or, drop}
+use Rattle.std.specs.Prelude.{ℕ, suc, ◌+◌, ◌<◌, ◌≤◌, ◌≡◌, ◌≢◌, List, [], ◌∷◌, ◌++◌, length, get_or, drop, Option, Some, None, Result, Ok, Err}
 use Rattle.plan.specs.declared.row.Row.{Row}
 use Rattle.plan.specs.declared.row.Operator.TheVariants.{Both, Either, FirstNotSecond}
 use Rattle.plan.specs.Parts.{pattern_rows}
 use Rattle.line.specs.declared.reading.Reached.{Reached}
-use Rattle.line.specs.declared.reading.Reached.TheVariants.{At, Broken, Deep}
-use Rattle.line.specs.declared.reading.Pending.{Pending}
-use Rattle.line.specs.declared.reading.Pending.TheVariants as pending
+use Rattle.line.specs.declared.reading.Stop.{Stop}
+use Rattle.line.specs.declared.reading.Stop.TheVariants.{Broken, Deep}
+use Rattle.grammar.specs.declared.tokens.Connective.{Connective}
+use Rattle.grammar.specs.declared.tokens.Connective.TheVariants.{And, Or, AndNot}
 use Rattle.grammar.specs.Grammar.{Figure, Part, Item, Lines, figure, both, without, line_count}
 use Rattle.grammar.specs.Meaning.{pattern_of, operator_row, line_rows, part_rows, item_rows, lines_rows}
-use Rattle.grammar.specs.Reading.{listing, Front, bare, eithers, Context, first, next, Bracket, among, Config, ready, inside, after, opened}
+use Rattle.grammar.specs.Reading.{listing, fresh, Front, bare, eithers, Context, first, next, Bracket, among, Config, ready, inside, after, opened}
 use Rattle.grammar.specs.Reading.{line_of, filled, Outcome, whole, broken, deep, outcome}
-use Rattle.grammar.specs.declared.tokens.Number.TheVariants.{Fresh as fresh}
 use Rattle.line.specs.Inner.Store.{stored}
 
 -- a text from byte q on, where c has been read
@@ -38,11 +38,11 @@ pub record FigureAt (s : List ℕ) (at n : ℕ) (out out' : List ℕ) (e m : ℕ
       → from s (inside (listing [] fresh) p ps) at ≡ from s (filled p (figure read) ps) e
 
 -- the answer of its reader
-abbrev pub FigureRead : List ℕ → ℕ → ℕ → List ℕ → List ℕ → Reached → Type 0
-FigureRead s at n out out' (At e m) = FigureAt s at n out out' e m
-FigureRead s at n out out' (Broken e) =
+abbrev pub FigureRead : List ℕ → ℕ → ℕ → List ℕ → List ℕ → Result Reached Stop → Type 0
+FigureRead s at n out out' (Ok r) = FigureAt s at n out out' r.at r.rows
+FigureRead s at n out out' (Err (Broken e)) =
     (p : Context) (ps : List Bracket) → length ps ≤ 8 → from s (inside (listing [] fresh) p ps) at ≡ broken e
-FigureRead s at n out out' (Deep e) = ⊥
+FigureRead s at n out out' (Err (Deep e)) = ⊥
 
 -- an item
 pub record ItemAt (s : List ℕ) (at d n : ℕ) (out out' : List ℕ) (e m : ℕ) : Type 0 where
@@ -52,10 +52,10 @@ pub record ItemAt (s : List ℕ) (at d n : ℕ) (out out' : List ℕ) (e m : ℕ
       → (i : Item) × (from s (ready p ps) at ≡ from s (filled p i ps) e) × (item_rows i ≡ new)
 
 -- the answer of its reader
-abbrev pub ItemRead : List ℕ → ℕ → ℕ → ℕ → List ℕ → List ℕ → Reached → Type 0
-ItemRead s at d n out out' (At e m) = ItemAt s at d n out out' e m
-ItemRead s at d n out out' (Broken e) = (p : Context) (ps : List Bracket) → length ps ≡ d → from s (ready p ps) at ≡ broken e
-ItemRead s at d n out out' (Deep e) = (p : Context) (ps : List Bracket) → length ps ≡ d → from s (ready p ps) at ≡ deep e
+abbrev pub ItemRead : List ℕ → ℕ → ℕ → ℕ → List ℕ → List ℕ → Result Reached Stop → Type 0
+ItemRead s at d n out out' (Ok r) = ItemAt s at d n out out' r.at r.rows
+ItemRead s at d n out out' (Err (Broken e)) = (p : Context) (ps : List Bracket) → length ps ≡ d → from s (ready p ps) at ≡ broken e
+ItemRead s at d n out out' (Err (Deep e)) = (p : Context) (ps : List Bracket) → length ps ≡ d → from s (ready p ps) at ≡ deep e
 
 -- what stands in front of the part of a context
 abbrev pub front_of : Context → Front
@@ -63,10 +63,10 @@ front_of (first f) = f
 front_of (next f p j) = f
 
 -- the operator that waits there
-abbrev pub joins : Context → Pending
-joins (first f) = pending.Nothing
-joins (next f p both) = pending.Both
-joins (next f p without) = pending.Without
+abbrev pub joins : Context → Option Connective
+joins (first f) = None
+joins (next f p both) = Some And
+joins (next f p without) = Some AndNot
 
 -- the rows of the part in front of it
 abbrev pub part_before : Context → List Row
@@ -74,14 +74,14 @@ part_before (first f) = []
 part_before (next f p j) = part_rows p
 
 -- the row of an operator that waits
-abbrev pub pending_rows : Pending → List Row
-pending_rows pending.Nothing = []
-pending_rows pending.Both = operator_row Both
-pending_rows pending.Either = operator_row Either
-pending_rows pending.Without = operator_row FirstNotSecond
+abbrev pub pending_rows : Option Connective → List Row
+pending_rows None = []
+pending_rows (Some And) = operator_row Both
+pending_rows (Some Or) = operator_row Either
+pending_rows (Some AndNot) = operator_row FirstNotSecond
 
 -- the rest of a part: no `&` and no `!` follows
-pub record PartAt (s : List ℕ) (at d n : ℕ) (o : Pending) (out out' : List ℕ) (e m : ℕ) : Type 0 where
+pub record PartAt (s : List ℕ) (at d n : ℕ) (o : Option Connective) (out out' : List ℕ) (e m : ℕ) : Type 0 where
   pub new : List Row
   pub rows : Stored s at n (length (pending_rows o)) out out' e m new
   pub ends : e < length s → (get_or s e 0 ≢ 38) × (get_or s e 0 ≢ 33)
@@ -89,17 +89,17 @@ pub record PartAt (s : List ℕ) (at d n : ℕ) (o : Pending) (out out' : List �
       → (q : Part) × (from s (ready p ps) at ≡ from s (after (front_of p) q ps) e) × (part_rows q ≡ part_before p ++ new)
 
 -- the answer of its reader
-abbrev pub PartRead : List ℕ → ℕ → ℕ → ℕ → Pending → List ℕ → List ℕ → Reached → Type 0
-PartRead s at d n o out out' (At e m) = PartAt s at d n o out out' e m
-PartRead s at d n o out out' (Broken e) =
+abbrev pub PartRead : List ℕ → ℕ → ℕ → ℕ → Option Connective → List ℕ → List ℕ → Result Reached Stop → Type 0
+PartRead s at d n o out out' (Ok r) = PartAt s at d n o out out' r.at r.rows
+PartRead s at d n o out out' (Err (Broken e)) =
     (p : Context) (ps : List Bracket) → length ps ≡ d → joins p ≡ o → from s (ready p ps) at ≡ broken e
-PartRead s at d n o out out' (Deep e) =
+PartRead s at d n o out out' (Err (Deep e)) =
     (p : Context) (ps : List Bracket) → length ps ≡ d → joins p ≡ o → from s (ready p ps) at ≡ deep e
 
 -- the operator that waits behind a line
-abbrev pub waits : Front → Pending
-waits bare = pending.Nothing
-waits (eithers l) = pending.Either
+abbrev pub waits : Front → Option Connective
+waits bare = None
+waits (eithers l) = Some Or
 
 -- the rows of that line
 abbrev pub front_rows : Front → List Row
@@ -107,7 +107,7 @@ front_rows bare = []
 front_rows (eithers l) = line_rows l
 
 -- the rest of a line: no `|` follows either
-pub record LineAt (s : List ℕ) (at d n : ℕ) (o : Pending) (out out' : List ℕ) (e m : ℕ) : Type 0 where
+pub record LineAt (s : List ℕ) (at d n : ℕ) (o : Option Connective) (out out' : List ℕ) (e m : ℕ) : Type 0 where
   pub new : List Row
   pub rows : Stored s at n (length (pending_rows o)) out out' e m new
   pub ends : e < length s → (get_or s e 0 ≢ 38) × (get_or s e 0 ≢ 33) × (get_or s e 0 ≢ 124)
@@ -115,11 +115,11 @@ pub record LineAt (s : List ℕ) (at d n : ℕ) (o : Pending) (out out' : List �
       → (h : Front) × (q : Part) × (from s (ready (first f) ps) at ≡ from s (after h q ps) e) × (line_rows (line_of h q) ≡ front_rows f ++ new)
 
 -- the answer of its reader
-abbrev pub LineRead : List ℕ → ℕ → ℕ → ℕ → Pending → List ℕ → List ℕ → Reached → Type 0
-LineRead s at d n o out out' (At e m) = LineAt s at d n o out out' e m
-LineRead s at d n o out out' (Broken e) =
+abbrev pub LineRead : List ℕ → ℕ → ℕ → ℕ → Option Connective → List ℕ → List ℕ → Result Reached Stop → Type 0
+LineRead s at d n o out out' (Ok r) = LineAt s at d n o out out' r.at r.rows
+LineRead s at d n o out out' (Err (Broken e)) =
     (f : Front) (ps : List Bracket) → length ps ≡ d → waits f ≡ o → from s (ready (first f) ps) at ≡ broken e
-LineRead s at d n o out out' (Deep e) =
+LineRead s at d n o out out' (Err (Deep e)) =
     (f : Front) (ps : List Bracket) → length ps ≡ d → waits f ≡ o → from s (ready (first f) ps) at ≡ deep e
 
 -- several lines behind their `<`, inside d brackets with it
@@ -130,10 +130,10 @@ pub record SeveralAt (s : List ℕ) (at d n : ℕ) (out out' : List ℕ) (e m : 
       → (i : Item) × (from s (opened p ps) at ≡ from s (filled p i ps) e) × (item_rows i ≡ new)
 
 -- the answer of their reader
-abbrev pub SeveralRead : List ℕ → ℕ → ℕ → ℕ → List ℕ → List ℕ → Reached → Type 0
-SeveralRead s at d n out out' (At e m) = SeveralAt s at d n out out' e m
-SeveralRead s at d n out out' (Broken e) = (p : Context) (ps : List Bracket) → suc (length ps) ≡ d → from s (opened p ps) at ≡ broken e
-SeveralRead s at d n out out' (Deep e) = (p : Context) (ps : List Bracket) → suc (length ps) ≡ d → from s (opened p ps) at ≡ deep e
+abbrev pub SeveralRead : List ℕ → ℕ → ℕ → ℕ → List ℕ → List ℕ → Result Reached Stop → Type 0
+SeveralRead s at d n out out' (Ok r) = SeveralAt s at d n out out' r.at r.rows
+SeveralRead s at d n out out' (Err (Broken e)) = (p : Context) (ps : List Bracket) → suc (length ps) ≡ d → from s (opened p ps) at ≡ broken e
+SeveralRead s at d n out out' (Err (Deep e)) = (p : Context) (ps : List Bracket) → suc (length ps) ≡ d → from s (opened p ps) at ≡ deep e
 
 -- the rest of them, where `least` are asked for and `count` have been read
 pub record LinesAt (s : List ℕ) (at d least count n : ℕ) (out out' : List ℕ) (e m : ℕ) : Type 0 where
@@ -144,23 +144,23 @@ pub record LinesAt (s : List ℕ) (at d least count n : ℕ) (out out' : List �
       × (item_rows i ≡ lines_rows ls ++ new)
 
 -- the answer of their reader
-abbrev pub LinesRead : List ℕ → ℕ → ℕ → ℕ → ℕ → ℕ → List ℕ → List ℕ → Reached → Type 0
-LinesRead s at d least count n out out' (At e m) = LinesAt s at d least count n out out' e m
-LinesRead s at d least count n out out' (Broken e) =
+abbrev pub LinesRead : List ℕ → ℕ → ℕ → ℕ → ℕ → ℕ → List ℕ → List ℕ → Result Reached Stop → Type 0
+LinesRead s at d least count n out out' (Ok r) = LinesAt s at d least count n out out' r.at r.rows
+LinesRead s at d least count n out out' (Err (Broken e)) =
     (ls : Lines) (p : Context) (ps : List Bracket) → suc (length ps) ≡ d → line_count ls ≡ count
     → from s (ready (first bare) (among least ls p ∷ ps)) at ≡ broken e
-LinesRead s at d least count n out out' (Deep e) =
+LinesRead s at d least count n out out' (Err (Deep e)) =
     (ls : Lines) (p : Context) (ps : List Bracket) → suc (length ps) ≡ d → line_count ls ≡ count
     → from s (ready (first bare) (among least ls p ∷ ps)) at ≡ deep e
 
 -- what comes of a whole text: the line's rows are stored from row 0 on
-abbrev pub WholeRead : List ℕ → List ℕ → List ℕ → Reached → Outcome → Type 0
-WholeRead s out out' (At e m) (whole l) = (m ≡ length (line_rows l)) × (out' ≡ stored out 0 (line_rows l))
-WholeRead s out out' (At e m) (broken q) = ⊥
-WholeRead s out out' (At e m) (deep q) = ⊥
-WholeRead s out out' (Broken e) (whole l) = ⊥
-WholeRead s out out' (Broken e) (broken q) = e ≡ q
-WholeRead s out out' (Broken e) (deep q) = ⊥
-WholeRead s out out' (Deep e) (whole l) = ⊥
-WholeRead s out out' (Deep e) (broken q) = ⊥
-WholeRead s out out' (Deep e) (deep q) = e ≡ q
+abbrev pub WholeRead : List ℕ → List ℕ → List ℕ → Result Reached Stop → Outcome → Type 0
+WholeRead s out out' (Ok r) (whole l) = (r.rows ≡ length (line_rows l)) × (out' ≡ stored out 0 (line_rows l))
+WholeRead s out out' (Ok r) (broken q) = ⊥
+WholeRead s out out' (Ok r) (deep q) = ⊥
+WholeRead s out out' (Err (Broken e)) (whole l) = ⊥
+WholeRead s out out' (Err (Broken e)) (broken q) = e ≡ q
+WholeRead s out out' (Err (Broken e)) (deep q) = ⊥
+WholeRead s out out' (Err (Deep e)) (whole l) = ⊥
+WholeRead s out out' (Err (Deep e)) (broken q) = ⊥
+WholeRead s out out' (Err (Deep e)) (deep q) = e ≡ q

@@ -3,29 +3,25 @@
 --     grown_by, step_state                  what a byte makes of a number, and of a state
 --     voice_words, condition_words, threshold_words     the words of rows
 --     state_of                             the state of a pattern so far
-use Rattle.std.specs.Prelude.{ℕ, ◌+◌, ◌-◌, ◌*◌, ◌≤◌, ◌<◌, cond, length, get_or, eqb, ltb}
+use Rattle.std.specs.Prelude.{ℕ, ◌+◌, ◌-◌, ◌*◌, ◌≤◌, ◌<◌, cond, length, get_or, eqb, ltb, Option, Some, None}
 use Rattle.grammar.specs.declared.tokens.Word.{Word}
 use Rattle.grammar.specs.declared.tokens.Word.TheVariants as word
-use Rattle.grammar.specs.declared.tokens.Number.{Number}
-use Rattle.grammar.specs.declared.tokens.Number.TheVariants.{Fresh, Digits}
 use Rattle.line.specs.declared.steps.State.{State}
 use Rattle.line.specs.declared.steps.State.TheVariants.{Listing, Semicolon, Lettered, Counting}
 use Rattle.line.specs.declared.steps.Next.{Next}
-use Rattle.line.specs.declared.steps.Next.TheVariants.{Goes, Emits, Closes, Stuck}
+use Rattle.line.specs.declared.steps.Next.TheVariants.{Goes, Emits, Closes}
 use Rattle.line.specs.declared.steps.Words.{Words}
 use Rattle.plan.specs.declared.row.Row.{Row}
 use Rattle.plan.specs.Limits.{least_unit}
 use Rattle.plan.specs.Rows.{words_of}
-use Rattle.line.specs.declared.steps.Grown.{Grown}
-use Rattle.line.specs.declared.steps.Grown.TheVariants.{Value, Not}
 use Rattle.grammar.specs.Grammar.{arity, most_of}
 use Rattle.grammar.specs.Reading as reading
 use Rattle.grammar.specs.Reading.{grown, grows}
 
 -- a number so far is at most `most`
-abbrev pub NumberMost : ℕ → Number → Type 0
-NumberMost most Fresh = Unit
-NumberMost most (Digits n) = n ≤ most
+abbrev pub NumberMost : ℕ → Option ℕ → Type 0
+NumberMost most None = Unit
+NumberMost most (Some n) = n ≤ most
 
 -- the last number of a condition is in the grammar's limit
 abbrev pub LastMost : Word → ℕ → Type 0
@@ -39,12 +35,12 @@ StateMost (Lettered w) = Unit
 StateMost (Counting w k a b c x) = NumberMost (most_of w k) x × (k < arity w) × (c ≤ 65535)
 
 -- in the numbers of a condition
-abbrev pub counting : Word → ℕ → ℕ → ℕ → ℕ → Number → State
+abbrev pub counting : Word → ℕ → ℕ → ℕ → ℕ → Option ℕ → State
 counting w k a b c x = Counting w k a b c x
 
 -- a number with one more digit, or none
-abbrev pub grown_by : ℕ → Number → ℕ → Grown
-grown_by most x b = cond (grows most x b) (Value (grown x b)) Not
+abbrev pub grown_by : ℕ → Option ℕ → ℕ → Option ℕ
+grown_by most x b = cond (grows most x b) (Some (grown x b)) None
 
 -- the words of a row
 abbrev pub words_in : Row → Words
@@ -72,43 +68,43 @@ abbrev pub threshold_words : ℕ → ℕ → Words
 threshold_words least of = record { kind = 11; a = least; b = of; c = 0 }
 
 -- behind a whole number at the end of a list or of a condition
-abbrev pub ending_state : Words → ℕ → Next
-ending_state ws b = cond (eqb b 59) (Emits ws Semicolon) (cond (eqb b 93) (Closes ws) Stuck)
+abbrev pub ending_state : Words → ℕ → Option Next
+ending_state ws b = cond (eqb b 59) (Some (Emits ws Semicolon)) (cond (eqb b 93) (Some (Closes ws)) None)
 
 -- a byte in the list numbers
-abbrev pub step_listing : Number → ℕ → Next
-step_listing Fresh b = cond (grows 65536 Fresh b) (Goes (Listing (Digits (grown Fresh b)))) Stuck
-step_listing (Digits n) b =
-    cond (grows 65536 (Digits n) b) (Goes (Listing (Digits (grown (Digits n) b))))
-    (cond (eqb b 32) (Emits (voice_words n) (Listing Fresh)) (ending_state (voice_words n) b))
+abbrev pub step_listing : Option ℕ → ℕ → Option Next
+step_listing None b = cond (grows 65536 None b) (Some (Goes (Listing (Some (grown None b))))) None
+step_listing (Some n) b =
+    cond (grows 65536 (Some n) b) (Some (Goes (Listing (Some (grown (Some n) b)))))
+    (cond (eqb b 32) (Some (Emits (voice_words n) (Listing None))) (ending_state (voice_words n) b))
 
 -- a byte behind `;`
-abbrev pub step_semicolon : ℕ → Next
+abbrev pub step_semicolon : ℕ → Option Next
 step_semicolon b =
-    cond (eqb b 110) (Goes (Lettered word.Near)) (cond (eqb b 98) (Goes (Lettered word.Before))
-    (cond (eqb b 116) (Goes (Lettered word.Same)) (cond (eqb b 115) (Goes (Lettered word.Span))
-    (cond (eqb b 97) (Goes (Lettered word.Apart)) Stuck))))
+    cond (eqb b 110) (Some (Goes (Lettered word.Near))) (cond (eqb b 98) (Some (Goes (Lettered word.Before)))
+    (cond (eqb b 116) (Some (Goes (Lettered word.Same))) (cond (eqb b 115) (Some (Goes (Lettered word.Span)))
+    (cond (eqb b 97) (Some (Goes (Lettered word.Apart))) None))))
 
 -- a byte behind a number n that is not the last of its condition
-abbrev pub another_state : Word → ℕ → ℕ → ℕ → ℕ → ℕ → ℕ → Next
+abbrev pub another_state : Word → ℕ → ℕ → ℕ → ℕ → ℕ → ℕ → Option Next
 another_state w k x y z n b =
     cond (eqb b 32)
-    (cond (eqb k 0) (Goes (Counting w (k + 1) n y z Fresh))
-    (cond (eqb k 1) (Goes (Counting w (k + 1) x n z Fresh)) (Goes (Counting w (k + 1) x y n Fresh))))
-    Stuck
+    (cond (eqb k 0) (Some (Goes (Counting w (k + 1) n y z None)))
+    (cond (eqb k 1) (Some (Goes (Counting w (k + 1) x n z None))) (Some (Goes (Counting w (k + 1) x y n None)))))
+    None
 
 -- a byte in the numbers of a condition
-abbrev pub step_counting : Word → ℕ → ℕ → ℕ → ℕ → Number → ℕ → Next
-step_counting w k x y z Fresh b = cond (grows (most_of w k) Fresh b) (Goes (Counting w k x y z (Digits (grown Fresh b)))) Stuck
-step_counting w k x y z (Digits n) b =
-    cond (grows (most_of w k) (Digits n) b) (Goes (Counting w k x y z (Digits (grown (Digits n) b))))
+abbrev pub step_counting : Word → ℕ → ℕ → ℕ → ℕ → Option ℕ → ℕ → Option Next
+step_counting w k x y z None b = cond (grows (most_of w k) None b) (Some (Goes (Counting w k x y z (Some (grown None b))))) None
+step_counting w k x y z (Some n) b =
+    cond (grows (most_of w k) (Some n) b) (Some (Goes (Counting w k x y z (Some (grown (Some n) b)))))
     (cond (ltb (k + 1) (arity w)) (another_state w k x y z n b) (ending_state (condition_words w x y z n) b))
 
 -- what a byte makes of a state
-abbrev pub step_state : State → ℕ → Next
+abbrev pub step_state : State → ℕ → Option Next
 step_state (Listing x) b = step_listing x b
 step_state Semicolon b = step_semicolon b
-step_state (Lettered w) b = cond (eqb b 32) (Goes (Counting w 0 0 0 0 Fresh)) Stuck
+step_state (Lettered w) b = cond (eqb b 32) (Some (Goes (Counting w 0 0 0 0 None))) None
 step_state (Counting w k x y z n) b = step_counting w k x y z n b
 
 -- a pattern so far, without what has been read of it

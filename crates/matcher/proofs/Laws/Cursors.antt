@@ -7,21 +7,30 @@
 --                                what a search in doubling steps knows
 --     seek-between               the sought index, by two words beside each other
 --     window_hit, window-passed  what a word tells of those in front of it
+--     arrived-at, arrived-end, arrived-some, arrived-none     the posting where a cursor has come to
+--     length-ats, length-ends, ats-at, ends-at, ats-set, ends-set, ends-kept, ats-room     where cursors stand, and where their lists end
 -- Assumes nothing.
 use Prim.Native.Nat.{ℕ, zero, suc, ◌+◌, ◌-◌, ◌<◌, ◌≤◌}
 use native.Mathlib.Omega.{arith}
-use mathlib.Core.Path.{◌≡◌, refl, ap, ◌∙◌}
+use mathlib.Core.Path.{◌≡◌, refl, sym, ap, ◌∙◌}
+use mathlib.Core.Bool.{Bool, true, false, cond}
 use mathlib.Core.List.{List}
+use lib.ListN.{length, get_or, set, length-map, get_or-map}
 use mathlib.Core.Logic.{⊎_elim}
-use lib.Dec.{leb}
-use borrow.Author.Tests.{leb-true, leb-false, lt-ltb, le-ltb}
+use lib.Dec.{leb, ltb}
+use borrow.Author.Tests.{leb-true, leb-false, lt-ltb, le-ltb, ltb-true, ltb-false}
+use Rattle.std.proofs.Common.{Option, Some, None}
+use Rattle.std.proofs.lemmas.List.{map-set}
+use Rattle.std.proofs.Math.Seq.{map-set_same}
 use Rattle.seq.specs.Numbers.{sum_to}
 use Rattle.seq.proofs.Laws.Numbers.{first_ge, first-le, first-at, first-before}
 use Rattle.seq.proofs.Laws.Tests.{below_or}
 use Rattle.volume.specs.Layout.{word}
 use Rattle.volume.specs.Inner.Below.{below_of, below_count}
+use Rattle.volume.specs.declared.posting.Posting.{Posting}
 use Rattle.matcher.specs.declared.cursor.Cursor.{Cursor}
-use Rattle.matcher.specs.Inner.Cursors.{seek_from, Stretch, sought, Galloped, Forward}
+use Rattle.matcher.specs.declared.cursor.Reached.{Reached}
+use Rattle.matcher.specs.Inner.Cursors.{seek_from, Stretch, sought, Galloped, Forward, Arrived, ats_of, ends_of, no_cursor}
 
 module _ (v : List ℕ) (target i e : ℕ) where
   pub seek_ge : i ≤ seek_from v target i e
@@ -185,3 +194,59 @@ window-passed v target i e m s h w = galloped-next v target i e s i (i + m) (gal
 pub sought-is : (v : List ℕ) (target : ℕ) (c : Cursor) (i : ℕ) → i ≡ seek_from v target c.at c.end → (record { at = i; end = c.end } ≡ sought v target c) × Forward c (record { at = i; end = c.end })
 sought-is v target c i e =
     (ap (λ (n : ℕ). record { at = n; end = c.end }) e, record { same_end = refl; not_back = rw e (seek_ge v target c.at c.end) })
+
+-- the posting where a cursor has come to
+module _ {v : List ℕ} {target i e : ℕ} where
+  pub arrived-at : {p : Posting} (k : ℕ) → k ≡ seek_from v target i e → k < e → p ≡ record { bits = word v k } → Arrived v target i e (record { at = k; posting = Some p })
+  arrived-at k is h q = record { at-is = is; posting_is = rw (lt-ltb k e h) (ap Some q) }
+
+  pub arrived-end : (k : ℕ) → k ≡ seek_from v target i e → e ≤ k → Arrived v target i e (record { at = k; posting = None })
+  arrived-end k is h = record { at-is = is; posting_is = rw (le-ltb k e h) refl }
+
+  pub arrived-some : {r : Reached} {p : Posting} → Arrived v target i e r → r.posting ≡ Some p → (r.at < e) × (p.bits ≡ word v r.at)
+  arrived-some {r} {p} a h = go (ltb r.at e) refl (sym h ∙ a.posting_is)
+    where
+      go : (t : Bool) → ltb r.at e ≡ t → Some p ≡ cond t (Some (record { bits = word v r.at })) None → (r.at < e) × (p.bits ≡ word v r.at)
+      go true q s = let same : p ≡ record { bits = word v r.at } = cc in (ltb-true r.at e q, ap (λ (w : Posting). w.bits) same)
+      go false q s = cc
+
+  pub arrived-none : {r : Reached} → Arrived v target i e r → r.posting ≡ None → e ≤ r.at
+  arrived-none {r} a h = go (ltb r.at e) refl (sym h ∙ a.posting_is)
+    where
+      go : (t : Bool) → ltb r.at e ≡ t → ◌≡◌ {A = Option Posting} None (cond t (Some (record { bits = word v r.at })) None) → e ≤ r.at
+      go true q s = cc
+      go false q s = ltb-false r.at e q
+
+-- where cursors stand, and where their lists end
+pub length-ats : (cs : List Cursor) → length (ats_of cs) ≡ length cs
+unfolding ats_of
+length-ats cs = length-map cs (λ (c : Cursor). c.at)
+
+pub length-ends : (cs : List Cursor) → length (ends_of cs) ≡ length cs
+unfolding ends_of
+length-ends cs = length-map cs (λ (c : Cursor). c.end)
+
+pub ats-at : (cs : List Cursor) (x : ℕ) → get_or (ats_of cs) x 0 ≡ (get_or cs x no_cursor).at
+unfolding ats_of
+ats-at cs x = get_or-map (λ (c : Cursor). c.at) cs x no_cursor
+
+pub ends-at : (cs : List Cursor) (x : ℕ) → get_or (ends_of cs) x 0 ≡ (get_or cs x no_cursor).end
+unfolding ends_of
+ends-at cs x = get_or-map (λ (c : Cursor). c.end) cs x no_cursor
+
+pub ats-set : (cs : List Cursor) (x : ℕ) (c : Cursor) → ats_of (set cs x c) ≡ set (ats_of cs) x c.at
+unfolding ats_of
+ats-set cs x c = map-set (λ (c : Cursor). c.at) cs x c
+
+pub ends-set : (cs : List Cursor) (x : ℕ) (c : Cursor) → ends_of (set cs x c) ≡ set (ends_of cs) x c.end
+unfolding ends_of
+ends-set cs x c = map-set (λ (c : Cursor). c.end) cs x c
+
+-- a cursor that moves in its list
+pub ends-kept : (cs : List Cursor) (x : ℕ) (c : Cursor) → c.end ≡ (get_or cs x no_cursor).end → ends_of (set cs x c) ≡ ends_of cs
+unfolding ends_of
+ends-kept cs x c e = map-set_same (λ (c : Cursor). c.end) cs x c no_cursor e
+
+-- there are as many of both
+pub ats-room : (cs : List Cursor) (n : ℕ) → n ≤ length (ends_of cs) → n ≤ length (ats_of cs)
+ats-room cs n h = let a = length-ats cs in let e = length-ends cs in omega arith

@@ -3,6 +3,7 @@
 --     samepara-first, samepara-behind     by the start that is needed beside the later position
 --     samepara-second              whichever of a and b is named first
 --     proximity-alone, proximity-behind, proximity-second, proximity-first     by how far b stands behind a
+--     max-small                    the later of two positions is one
 --     largest-first, largest-next  the largest of the first positions
 --     window-short, window-few, window-kept     what it tells, where the variables are looked at in an order
 --     distance-asked, ordered-asked, samepara-asked, window-asked, proximity-asked     what `falls_short` hands on
@@ -96,6 +97,10 @@ module _ (ss ps : List ℕ) (small : InDocument ps) where
 -- whichever of a and b is named first
 pub samepara-second : {ss ps : List ℕ} {a b x r : ℕ} → LeftShort ss (Samepara b a) ps x r → LeftShort ss (Samepara a b) ps x r
 samepara-second {ss} {ps} {a} {b} h = record { there = h.there; before = h.before; most = h.most; needs = λ qs n le e. h.needs qs n le (samepara-turned ss qs b a ∙ e) }
+
+-- the later of two positions is one
+pub max-small : (ps : List ℕ) → InDocument ps → (a b : ℕ) → a < length ps → b < length ps → max (at ps a) (at ps b) ≤ 65535
+max-small ps small a b h k = let m = small a h in let n = small b k in omega arith
 
 -- of the first x positions the largest
 pub largest-first : (ps : List ℕ) → Largest ps 1 (get_or ps 0 0)

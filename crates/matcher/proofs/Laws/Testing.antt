@@ -1,6 +1,6 @@
 -- What `src/testing.rt` finds. No contract cites this file.
---     small_decides                       no position is over 65,535
---     list-before, found-there, found-not     a cursor on a list at a position, or at its end
+--     small_decides, all-small            no position is over 65,535
+--     list-before, found-none, found-there, found-not     a cursor on a list at a position, if the list holds it
 --     posed-given, vars-order             what is posed of a pattern
 --     voice-of, voice-few                 the VOICE row of a variable
 --     Brought, at_next, at-not, at_all    the variables that stand at their positions
@@ -16,11 +16,14 @@ use mathlib.Core.Path.{◌≡◌, refl, sym, ap, subst, ◌∙◌}
 use mathlib.Core.Bool.{Bool, true, false, cond, true≢false}
 use mathlib.Core.Logic.{⊎_elim, ◌≢◌, ◌↔◌}
 use mathlib.Core.List.{List, ◌++◌}
+use Rattle.std.proofs.Common.{Some, None}
 use lib.ListN.{length, get_or, set, take, drop}
 use lib.Seq.{get_or-set_same, get_or-set_other, get_or-take, take_at, take-length, ext_get_or}
 use lib.Dec.{leb}
 use borrow.Author.Tests.{le-leb, leb-true}
-use Rattle.seq.specs.Lists.{all}
+use Rattle.std.proofs.lemmas.List.Elements.{All-from_get_or}
+use Rattle.std.specs.Prelude.{All, IsTrue}
+use Rattle.seq.specs.Lists.{all, elem}
 use Rattle.seq.specs.Refusals.{refused, answered}
 use Rattle.seq.proofs.Laws.Tests.{below_or, true_or, contrary}
 use Rattle.seq.proofs.Laws.Decides as decides
@@ -28,28 +31,29 @@ use Rattle.seq.proofs.Laws.Decides.{Decides, eqb_decides}
 use Rattle.seq.proofs.Laws.Lists.{all-each}
 use Rattle.volume.specs.Layout.{word, list_count, start, lists_of}
 use Rattle.volume.specs.Check as volume
+use Rattle.volume.specs.declared.posting.Posting.{Posting}
 use Rattle.plan.specs.declared.row.Kind.TheVariants as kind
 use Rattle.plan.specs.Limits.{most_rows}
 use Rattle.plan.specs.Rows.{row_at}
 use Rattle.plan.specs.Patterns.{Pattern}
-use Rattle.plan.specs.Answers.{Sizes}
+use Rattle.plan.specs.declared.answers.Sizes.{Sizes}
 use Rattle.plan.specs.Check.{verdict}
 use Rattle.plan.specs.Accepted.{pattern_at, Given}
 use Rattle.plan.specs.declared.outline.Outline.{Outline}
 use Rattle.plan.proofs.Laws.Accepted.{given}
 use Rattle.matcher.specs.declared.cursor.Cursor.{Cursor}
 use Rattle.matcher.specs.declared.cursor.Reached.{Reached}
-use Rattle.fulltext.specs.Positions.{limit, list_of}
+use Rattle.fulltext.specs.Positions.{limit, list_of, positions_in}
 use Rattle.fulltext.specs.Calculus.{at, Holds}
 use Rattle.fulltext.specs.Matches.{fits, vars_in, matches_at}
 use Rattle.fulltext.specs.Inner.Bounds.{HeldMatch}
 use Rattle.matcher.specs.Inner.Shortfall.{InDocument}
-use Rattle.matcher.specs.Inner.Cursors.{seek_from, Stretch, Arrived, list_end, list_cursor, Stands}
+use Rattle.matcher.specs.Inner.Cursors.{seek_from, Stretch, Arrived, list_end, list_cursor, ats_of, ends_of, Stands}
 use Rattle.matcher.specs.Testing.{out_of_range, test_by, test_answer}
-use Rattle.matcher.specs.Inner.Settling.{AtPos, Standing, Posed, Asked, Found, StoodAt}
+use Rattle.matcher.specs.Inner.Settling.{AtPos, Standing, Posed, Asked, On, StoodAt}
 use Rattle.fulltext.proofs.Laws.Positions.{positions_hold, lists-rise}
 use Rattle.fulltext.proofs.Laws.Least.{fits_iff, least_from_iff}
-use Rattle.matcher.proofs.Laws.Cursors.{seek_ge, seek-at, seek-below}
+use Rattle.matcher.proofs.Laws.Cursors.{seek_ge, seek-at, seek-below, arrived-some, arrived-none, length-ats, length-ends, ats-set, ends-set}
 use Rattle.matcher.proofs.Laws.Volume.{list-stretch, held, holds_at}
 use Rattle.matcher.proofs.Laws.Placed.{Voiced, voiced, voiced-list}
 use Rattle.matcher.proofs.Laws.Range.{range-missing, range-number, range_doc, range_small}
@@ -62,6 +66,11 @@ small_decides ps = record {
   where
     each : (all (λ q. leb q 65535) ps ≡ true) ↔ ((x : ℕ) → x < length ps → leb (get_or ps x 0) 65535 ≡ true)
     each = all-each (λ q. leb q 65535) 0 ps
+
+-- std's word for it
+pub all-small : (r : Bool) (ps : List ℕ) → (IsTrue r ↔ All (λ q. q ≤ 65535) ps) → r ≡ all (λ q. leb q 65535) ps
+all-small true ps e = sym (decides.holds (small_decides ps) (λ x l. e.0 refl x 0 l))
+all-small false ps e = sym (decides.fails (small_decides ps) (λ h. true≢false (sym (e.1 (All-from_get_or (λ q. q ≤ 65535) ps 0 h)))))
 
 -- a cursor on list l, at its first posting
 module _ (v : List ℕ) (ok : volume.Accepted v) (l : ℕ) (h : l < list_count v) (first : Cursor) (e : first ≡ list_cursor v l) where
@@ -124,26 +133,32 @@ module _ (v : List ℕ) (ok : volume.Accepted v) (l : ℕ) (h : l < list_count v
             (λ (c : j ≤ there). let f : there ≡ j = omega arith in let g = ap (word v) f in omega arith)
             (below_or there j)
 
-    -- the posting there is that of the position
-    pub found-there : r.bits ≡ d * 65536 + p → Found v l d p (record { at = r.at; end = first.end })
-    found-there same = record {
-      end_is = end_is;
-      at-is = λ m.
-          let q = there-is in
-          let g = seek_ge v (d * 65536 + p) (start v l) (list_end v l) in
-          let f = end_is in
-          let b = arrived.bits_are m in
-          record { from = omega arith; inside = omega arith; small = small; word-is = omega arith };
-      out = λ m. let f = end_is in sym (decides.fails (positions_hold d p (list_of (lists_of v) l)) (λ w. let t = (stands w).0 in omega arith));
-    }
+    -- no other is
+    absent : (there < first.end → word v there ≢ d * 65536 + p) → false ≡ elem p (positions_in d (list_of (lists_of v) l))
+    absent other = sym (decides.fails (positions_hold d p (list_of (lists_of v) l)) (λ w. let t = stands w in let f = end_is in other (let a = t.0 in omega arith) t.1))
 
-    -- it is another
-    pub found-not : r.bits ≢ d * 65536 + p → Found v l d p (record { at = first.end; end = first.end })
-    found-not other = record {
-      end_is = end_is;
-      at-is = λ m. absurd (let z : ⊥ = omega arith in z);
-      out = λ m. sym (decides.fails (positions_hold d p (list_of (lists_of v) l)) (λ w. let t = stands w in let f = end_is in other (arrived.bits_are (let a = t.0 in omega arith) ∙ t.1)));
-    }
+    pub found-none : r.posting ≡ None → false ≡ elem p (positions_in d (list_of (lists_of v) l))
+    found-none h = let o = arrived-none arrived h in absent (λ m. absurd (let z : ⊥ = omega arith in z))
+
+    module _ (w : Posting) (is : r.posting ≡ Some w) where
+      here-is : (there < first.end) × (w.bits ≡ word v there)
+      here-is = arrived-some arrived is
+
+      -- the posting there is that of the position
+      pub found-there : w.bits ≡ d * 65536 + p → On v l d p (record { at = r.at; end = first.end })
+      found-there same = record {
+        end_is = end_is;
+        at-is =
+            let q = there-is in
+            let g = seek_ge v (d * 65536 + p) (start v l) (list_end v l) in
+            let f = end_is in
+            let b = here-is in
+            record { from = omega arith; inside = omega arith; small = small; word-is = omega arith };
+      }
+
+      -- it is another
+      pub found-not : w.bits ≢ d * 65536 + p → false ≡ elem p (positions_in d (list_of (lists_of v) l))
+      found-not other = absent (λ m e. other (here-is.1 ∙ e))
 
 starts-stand : (v : List ℕ) (d : ℕ) → Stands v 0 d (start v 0)
 starts-stand v d = record { from = omega arith; to = omega arith; behind = λ j a b. absurd (let z : ⊥ = omega arith in z) }
@@ -184,31 +199,32 @@ module _ {v p : List ℕ} {o : Outline} {d : ℕ} {ps : List ℕ} (posed : Asked
   pub voice-few : (x : ℕ) → x < length ps → first_var + x < most_rows
   voice-few x h = let i = (voice-of x h).inside in let r = posed-given.most-rows in omega arith
 
-  -- the list that is read of the VOICE row of variable x, and a cursor on it
-  module _ (x : ℕ) (h : x < length ps) (l : ℕ) (r : (row_at p (first_var + x)).kind ≡ kind.Voice l) (c : Cursor) (found : Found v l d (at ps x) c) where
-    variable : Found v (get_or vars x 0) d (at ps x) c
-    variable = subst (λ (i : ℕ). Found v i d (at ps x) c) (voiced-list (voice-of x h) l r) found
+  -- the list that is read of the VOICE row of variable x
+  module _ (x : ℕ) (h : x < length ps) (l : ℕ) (r : (row_at p (first_var + x)).kind ≡ kind.Voice l) where
+    list-is : l ≡ get_or vars x 0
+    list-is = voiced-list (voice-of x h) l r
 
-    pub at_next : (ends here : List ℕ) → Brought v d vars ps ends here x → x < length ends → x < length here → c.at < c.end → Brought v d vars ps (set ends x c.end) (set here x c.at) (x + 1)
-    at_next ends here b e g m = record {
+    pub at_next : {c : Cursor} → On v l d (at ps x) c → (cs : List Cursor) → Brought v d vars ps (ends_of cs) (ats_of cs) x → x < length cs
+        → Brought v d vars ps (ends_of (set cs x c)) (ats_of (set cs x c)) (x + 1)
+    at_next {c} found cs b room = record {
       at_are = λ y k. ⊎_elim
-          (λ (f : y ≡ x). rw (f, get_or-set_same here x c.at 0 g) (variable.at-is m))
-          (λ (f : y ≢ x). rw (get_or-set_other here x y c.at 0 f) (b.at_are y (omega arith)))
+          (λ (f : y ≡ x). rw (f, ats-set cs x c, get_or-set_same (ats_of cs) x c.at 0 (let z = length-ats cs in omega arith)) (rw list-is at found.at-is))
+          (λ (f : y ≢ x). rw (ats-set cs x c, get_or-set_other (ats_of cs) x y c.at 0 f) (b.at_are y (omega arith)))
           (decides.decided (eqb_decides y x));
       ends_are = λ y k. ⊎_elim
-          (λ (f : y ≡ x). rw (f, get_or-set_same ends x c.end 0 e) variable.end_is)
-          (λ (f : y ≢ x). rw (get_or-set_other ends x y c.end 0 f) (b.ends_are y (omega arith)))
+          (λ (f : y ≡ x). rw (f, ends-set cs x c, get_or-set_same (ends_of cs) x c.end 0 (let z = length-ends cs in omega arith)) (rw list-is at found.end_is))
+          (λ (f : y ≢ x). rw (ends-set cs x c, get_or-set_other (ends_of cs) x y c.end 0 f) (b.ends_are y (omega arith)))
           (decides.decided (eqb_decides y x));
     }
 
-    pub at-not : c.end ≤ c.at → (ends here : List ℕ) → StoodAt v d (pattern_at p k) ps false ends here
-    at-not m ends here = record { fits_are = unfit; standing = λ t. absurd (true≢false (sym t)); ends_are = λ t. absurd (true≢false (sym t)) }
+    pub at-not : false ≡ elem (at ps x) (positions_in d (list_of (lists_of v) l)) → (ends here : List ℕ) → StoodAt v d (pattern_at p k) ps false ends here
+    at-not out ends here = record { fits_are = unfit; standing = λ t. absurd (true≢false (sym t)); ends_are = λ t. absurd (true≢false (sym t)) }
       where
         unfit : false ≡ fits (vars_in (lists_of v) d vars) ps
         unfit =
             let n = posed.number in
             ⊎_elim
-            (λ (g : fits (vars_in (lists_of v) d vars) ps ≡ true). absurd ((positions_hold d (at ps x) (list_of (lists_of v) (get_or vars x 0))).no (sym (variable.out m)) (((fits_iff (lists_of v) d vars ps).0 g).1 x (omega arith))))
+            (λ (g : fits (vars_in (lists_of v) d vars) ps ≡ true). absurd ((positions_hold d (at ps x) (list_of (lists_of v) (get_or vars x 0))).no (sym (rw list-is at out)) (((fits_iff (lists_of v) d vars ps).0 g).1 x (omega arith))))
             (λ (g : fits (vars_in (lists_of v) d vars) ps ≡ false). sym g)
             (true_or (fits (vars_in (lists_of v) d vars) ps))
 

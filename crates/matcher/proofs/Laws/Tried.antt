@@ -1,13 +1,14 @@
 -- The search for the least match of a pattern, its predicates in turn. No contract cites this file.
 --     Passed                   the predicates that hold: all but so many in turn
 --     Tried                    where the search stands: these hold, and no match is in front of the positions
+--     tried-turn               the predicate that is tried is one of the pattern's
 --     tried-first              before the first predicate
 --     tried_asks               what is asked of a predicate's row
 --     tried-holds              a predicate holds
 --     tried-held               a variable that must stay is left short
 --     tried-jump, tried-out    a variable that is left short jumps; it finds no position
 --     tried-done               all predicates hold
---     arrived-out, arrived-away, arrived-jump     where a cursor has come to
+--     jumped-out, jumped-away, jumped-there     where a cursor has come to
 --     slack                    what the positions still may move
 -- Assumes nothing.
 use Prim.Native.Nat.{ℕ, zero, suc, ◌+◌, ◌-◌, ◌*◌, ◌<◌, ◌≤◌, max}
@@ -17,12 +18,14 @@ use mathlib.Core.Bool.{Bool, true, false, true≢false, cond}
 use mathlib.Core.Logic.{◌⊎◌, inl, inr, ⊎_elim, ◌≢◌}
 use mathlib.Core.List.{List, [], ◌∷◌}
 use mathlib.Core.Option.{none, some}
+use Rattle.std.proofs.Common.{Some, None}
 use lib.ListN.{length, get_or, set, take, length-set}
 use lib.Dec.{eqb}
 use lib.Seq.{get_or-set_same, get_or-set_other, get_or-take, length-take-le}
 use borrow.Author.Tests.{eqb-true, eqb-false}
 use Rattle.seq.proofs.Laws.Tests.{below_or}
 use Rattle.seq.proofs.Laws.Decides.{decided, eqb_decides}
+use Rattle.volume.specs.declared.posting.Posting.{Posting}
 use Rattle.volume.specs.Posting.{doc_of, pos_of}
 use Rattle.volume.specs.Layout.{word, list_count, lists_of}
 use Rattle.volume.specs.Check as volume
@@ -46,6 +49,7 @@ use Rattle.matcher.specs.Inner.Shortfall.{Largest, LeftShort}
 use Rattle.matcher.specs.Inner.Cursors.{seek_from, Stretch, Arrived, list_end, AtDocument}
 use Rattle.matcher.specs.Inner.Settling.{Jumped, Standing, Within, turned, Low, Posed}
 use Rattle.matcher.specs.Inner.Order.{Order}
+use Rattle.matcher.proofs.Laws.Cursors.{arrived-some, arrived-none}
 use Rattle.matcher.proofs.Laws.Settling.{low_first, low-done, low-var, low-before, low_needed, low-stretch, low_end, low-out, low-later, low_jump}
 
 -- how far positions are from the end of a document, added up
@@ -62,16 +66,20 @@ slack-set (p ∷ ps) (suc x) q h l m = let r = slack-set ps x q (omega arith) l 
 -- a cursor that reaches position b of document d, or a later posting
 module _ (v : List ℕ) (d e b x : ℕ) (here ps : List ℕ) (r : Reached) (a : Arrived v (d * 65536 + b) (get_or here x 0) e r) where
   -- it is at the list's end
-  pub arrived-out : e ≤ r.at → Jumped v d e b x here ps false here ps
-  arrived-out h = (inl (rw (← a.at-is) h), (refl, refl))
+  pub jumped-out : r.posting ≡ None → Jumped v d e b x here ps false here ps
+  jumped-out h = (inl (rw (← a.at-is) (arrived-none a h)), (refl, refl))
 
-  -- it is in another document
-  pub arrived-away : r.at < e → doc_of r.bits ≢ d → Jumped v d e b x here ps false here ps
-  arrived-away h n = (inr (rw (← a.at-is) (h, λ q. n (ap doc_of (a.bits_are h) ∙ q))), (refl, refl))
+  module _ (p : Posting) (h : r.posting ≡ Some p) where
+    there-is : (r.at < e) × (p.bits ≡ word v r.at)
+    there-is = arrived-some a h
 
-  -- it is in this one
-  pub arrived-jump : r.at < e → doc_of r.bits ≡ d → Jumped v d e b x here ps true (set here x r.at) (set ps x (pos_of r.bits))
-  arrived-jump h q = rw (← a.at-is) (h, (ap doc_of (sym (a.bits_are h)) ∙ q, (refl, ap (λ (i : ℕ). set ps x i) (ap pos_of (a.bits_are h)))))
+    -- it is in another document
+    pub jumped-away : doc_of p.bits ≢ d → Jumped v d e b x here ps false here ps
+    jumped-away n = (inr (rw (← a.at-is) (there-is.0, λ q. n (ap doc_of there-is.1 ∙ q))), (refl, refl))
+
+    -- it is in this one
+    pub jumped-there : doc_of p.bits ≡ d → Jumped v d e b x here ps true (set here x r.at) (set ps x (pos_of p.bits))
+    jumped-there q = rw (← a.at-is) (there-is.0, (ap doc_of (sym there-is.1) ∙ q, (refl, ap (λ (i : ℕ). set ps x i) (ap pos_of there-is.1))))
 
 -- the predicate of a condition
 abbrev condition_of : Kind → Predicate
@@ -140,6 +148,10 @@ pub record Tried (v p : List ℕ) (o : Outline) (d held : ℕ) (here₀ ps₀ he
   pub greatest : Largest ps o.vars largest
   pub holding : (j : ℕ) → j < o.last - o.condition → Passed (o.last - o.condition) turn left j
       → holds (starts_in (lists_of v) d) (get_or (pattern_at p o.pattern).predicates j (Window 1)) (take o.vars ps) ≡ true
+
+-- the predicate that is tried is one of the pattern's
+pub tried-turn : {v p : List ℕ} {o : Outline} {d held : ℕ} {here₀ ps₀ here ps : List ℕ} {largest turn left : ℕ} → Tried v p o d held here₀ ps₀ here ps largest turn left → 1 ≤ left → turn < o.last - o.condition
+tried-turn m h = let l = m.most in m.next (omega arith)
 
 module _ (v p : List ℕ) (o : Outline) (doc : Document) (ends : List ℕ) (q : Posed v p o doc ends) where
   abbrev k : ℕ

@@ -1,6 +1,6 @@
 -- Cursors on the lists of a volume: where they stand, and how they move. A cursor is a stream index and the end of its list.
 -- Assumes nothing.
-use Rattle.std.specs.Prelude.{ℕ, ◌+◌, ◌-◌, ◌*◌, ◌<◌, ◌≤◌, ◌≡◌, List, leb}
+use Rattle.std.specs.Prelude.{ℕ, ◌+◌, ◌-◌, ◌*◌, ◌<◌, ◌≤◌, ◌≡◌, cond, List, map, leb, ltb, None, Some}
 use Rattle.seq.specs.Numbers.{first_from}
 use Rattle.volume.specs.Layout.{stream_length, word, count, start}
 use Rattle.matcher.specs.declared.cursor.Cursor.{Cursor}
@@ -33,10 +33,10 @@ pub record Forward (c r : Cursor) : Type 0 where
   pub same_end : r.end ≡ c.end
   pub not_back : c.at ≤ r.at
 
--- a cursor has come behind the words below target, and has read the word there
+-- a cursor has come behind the words below target, and has read the posting there; none behind the list
 pub record Arrived (v : List ℕ) (target i e : ℕ) (r : Reached) : Type 0 where
   pub at-is : r.at ≡ seek_from v target i e
-  pub bits_are : r.at < e → r.bits ≡ word v r.at
+  pub posting_is : r.posting ≡ cond (ltb r.at e) (Some (record { bits = word v r.at })) None
 
 -- the stream index behind list l
 abbrev pub list_end : List ℕ → ℕ → ℕ
@@ -45,6 +45,17 @@ list_end v l = start v l + count v l
 -- a cursor on list l, at its first posting
 abbrev pub list_cursor : List ℕ → ℕ → Cursor
 list_cursor v l = record { at = start v l; end = list_end v l }
+
+-- where cursors stand, and where their lists end
+unfoldable pub ats_of : List Cursor → List ℕ
+ats_of cs = map (λ c. c.at) cs
+
+unfoldable pub ends_of : List Cursor → List ℕ
+ends_of cs = map (λ c. c.end) cs
+
+-- a cursor on no list
+abbrev pub no_cursor : Cursor
+no_cursor = record { at = 0; end = 0 }
 
 -- stream index i lies in list l, or at its end, and all postings of the list in front of it are in documents below d
 pub record Stands (v : List ℕ) (l d i : ℕ) : Type 0 where

@@ -1,5 +1,6 @@
 -- One pattern in one document: where its variables stand on the way to its least match. Assumes nothing.
 use Rattle.std.specs.Prelude.{ℕ, ◌+◌, ◌*◌, ◌<◌, ◌≤◌, ◌≡◌, Bool, true, false, cond, List, ◌⊎◌, ◌≢◌, eqb, length, get_or, set}
+use Rattle.std.specs.Prelude as std
 use Rattle.std.proofs.Math.Option.{Option, none, some}
 use Rattle.seq.specs.Lists.{elem}
 use Rattle.volume.specs.Posting.{doc_of, pos_of}
@@ -72,11 +73,15 @@ pub record Posed (v p : List ℕ) (o : Outline) (doc : Document) (ends : List �
   pub room : o.vars ≤ length ends
   pub ends_are : (x : ℕ) → x < o.vars → get_or ends x 0 ≡ list_end v (get_or (pattern_at p o.pattern).vars x 0)
 
--- a cursor on list l at position q of document d; at the list's end where the list does not hold it
-pub record Found (v : List ℕ) (l d q : ℕ) (c : Cursor) : Type 0 where
+-- a cursor on list l at position q of document d
+pub record On (v : List ℕ) (l d q : ℕ) (c : Cursor) : Type 0 where
   pub end_is : c.end ≡ list_end v l
-  pub at-is : c.at < c.end → AtPos v l d c.at q
-  pub out : c.end ≤ c.at → false ≡ elem q (positions_in d (list_of (lists_of v) l))
+  pub at-is : AtPos v l d c.at q
+
+-- it is found; none where the list does not hold the position
+abbrev pub Found : List ℕ → ℕ → ℕ → ℕ → std.Option Cursor → Type 0
+Found v l d q std.None = false ≡ elem q (positions_in d (list_of (lists_of v) l))
+Found v l d q (std.Some c) = On v l d q c
 
 -- the variables of a pattern are brought to positions ps of document d, and `ends` has the ends of their lists; or a list does not hold its
 -- position

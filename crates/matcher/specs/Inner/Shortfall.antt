@@ -1,8 +1,7 @@
 -- What a predicate that fails needs. Assumes nothing.
-use Rattle.std.specs.Prelude.{ℕ, ◌<◌, ◌≤◌, ◌≡◌, true, List, length, get_or}
+use Rattle.std.specs.Prelude.{ℕ, ◌<◌, ◌≤◌, ◌≡◌, true, List, length, get_or, Option, None, Some}
 use Rattle.plan.specs.declared.row.Predicate.{Predicate}
 use Rattle.matcher.specs.declared.predicates.Shortfall.{Shortfall}
-use Rattle.matcher.specs.declared.predicates.Shortfall.TheVariants.{Holds, Short}
 use Rattle.fulltext.specs.Positions.{limit}
 use Rattle.fulltext.specs.Calculus.{at}
 use Rattle.fulltext.specs.Matches.{holds}
@@ -25,6 +24,6 @@ pub record LeftShort (starts : List ℕ) (c : Predicate) (ps : List ℕ) (x b : 
   pub needs : Needs starts c ps x b
 
 -- what is told of a predicate: that it holds, or a variable that it leaves short
-abbrev pub Told : List ℕ → Predicate → List ℕ → Shortfall → Type 0
-Told starts c ps Holds = holds starts c ps ≡ true
-Told starts c ps (Short x b) = LeftShort starts c ps x b
+abbrev pub Told : List ℕ → Predicate → List ℕ → Option Shortfall → Type 0
+Told starts c ps None = holds starts c ps ≡ true
+Told starts c ps (Some s) = LeftShort starts c ps s.var s.need

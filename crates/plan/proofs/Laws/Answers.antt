@@ -9,6 +9,7 @@ use mathlib.Core.Bool.{cond}
 use mathlib.Core.List.{[], ◌∷◌}
 use lib.ListN.{get_or}
 use lib.Dec.{leb}
+use Rattle.std.specs.Prelude.{Result, Ok, Err}
 use Rattle.seq.specs.Refusals.{Said, refused, answered}
 use Rattle.seq.proofs.Laws.Refusals.{alike}
 use Rattle.volume.specs.declared.answers.Refusal.TheVariants as volume
@@ -16,8 +17,6 @@ use Rattle.volume.proofs.Laws.Answers.{heard_refusal}
 use Rattle.plan.specs.declared.answers.Fault.TheVariants as fault
 use Rattle.plan.specs.declared.answers.Refusal.{Refusal}
 use Rattle.plan.specs.declared.answers.Refusal.TheVariants.{Volume, Length, Row, Unfinished}
-use Rattle.plan.specs.declared.answers.Checked.{Checked}
-use Rattle.plan.specs.declared.answers.Checked.TheVariants as checked
 use Rattle.plan.specs.Answers.{Sizes, said_refusal, said_checked}
 use Rattle.plan.specs.Demands.{OneToOne}
 
@@ -29,9 +28,9 @@ abbrev heard_sizes : Said Sizes → Refusal
 heard_sizes (refused n q) = heard n q
 heard_sizes (answered s) = Length
 
-abbrev heard_checked : Said Sizes → Checked
-heard_checked (refused n q) = checked.Refused (heard n q)
-heard_checked (answered s) = checked.Accepted s.patterns s.vars
+abbrev heard_checked : Said Sizes → Result Sizes Refusal
+heard_checked (refused n q) = Err (heard n q)
+heard_checked (answered s) = Ok s
 
 heard-refusal : (r : Refusal) → heard_sizes (said_refusal r) ≡ r
 heard-refusal (Volume volume.Length) = refl
@@ -49,9 +48,9 @@ heard-refusal (Row fault.TooMany i) = refl
 heard-refusal (Row fault.Order i) = refl
 heard-refusal Unfinished = refl
 
-heard-checked : (a : Checked) → heard_checked (said_checked a) ≡ a
-heard-checked (checked.Accepted f v) = refl
-heard-checked (checked.Refused r) = ap checked.Refused (heard-refusal r)
+heard-checked : (a : Result Sizes Refusal) → heard_checked (said_checked a) ≡ a
+heard-checked (Ok s) = refl
+heard-checked (Err r) = ap Err (heard-refusal r)
 
 pub one-to-one : OneToOne
 one-to-one = record { refusal = alike said_refusal heard_sizes heard-refusal; checked = alike said_checked heard_checked heard-checked }

@@ -1,7 +1,7 @@
 -- The laws of `specs/Check.antt`: the rungs of the verdict, from the tests to the answer. No contract cites this file.
 --     row-stands, row-faulty                     what the step of a row tells of its test
---     rows_fault, rows_open, rows-count, rows-answer   rows_verdict by its first test that applies
---     plan-zero, plan-cut, plan-long, plan-rows  plan_verdict by the length
+--     rows_fault, rows-unfinished, rows-answer    rows_verdict by its first test that applies
+--     plan-length, plan-rows                     plan_verdict by the length
 --     length_wrong_decides, unfinished_decides    the tests decide document 01's sentences
 --     row-right                                  the four tests of a row
 --     passed                                     a plan whose verdict answers
@@ -14,18 +14,17 @@ use mathlib.Core.Bool.{true, false, cond, true≢false}
 use mathlib.Core.Logic.{inl, inr, ⊎_elim, ◌≢◌}
 use mathlib.Core.List.{List}
 use lib.ListN.{length}
+use Rattle.std.specs.Prelude.{Result, Ok, Err}
 use borrow.Author.Tests.{lt-ltb, le-ltb, eq-eqb, ne_eqb}
 use Rattle.seq.specs.Refusals.{Said, refused, answered}
 use Rattle.seq.proofs.Laws.Numbers.{search-clear}
-use Rattle.seq.proofs.Laws.Decides.{Decides, stable, not_decides, eqb_decides, ltb_decides, or_decides}
+use Rattle.seq.proofs.Laws.Decides.{Decides, holds, stable, not_decides, eqb_decides, ltb_decides, or_decides}
 use Rattle.seq.proofs.Laws.Refusals.{not-both, past}
 use Rattle.volume.specs.Layout.{list_count}
 use Rattle.volume.specs.Check as volume
 use Rattle.volume.proofs.Laws.CheckFirst.{check_sound}
 use Rattle.plan.specs.declared.answers.Fault.{Fault}
 use Rattle.plan.specs.declared.state.State.{State}
-use Rattle.plan.specs.declared.state.Step.{Step}
-use Rattle.plan.specs.declared.state.Step.TheVariants.{Stands, Faulty}
 use Rattle.plan.specs.Answers.{Sizes, fault_code}
 use Rattle.plan.specs.Limits.{most_words}
 use Rattle.plan.specs.Rows.{row_count, row_at, form_wrong_at}
@@ -35,16 +34,24 @@ use Rattle.plan.specs.Refusals.{WrongLength, Unfinished}
 use Rattle.plan.proofs.Laws.Passed.{Passed}
 use Rattle.plan.proofs.Laws.State.{step_right}
 
+pub length_wrong_decides : (p : List ℕ) → Decides (length_wrong p) (WrongLength p)
+unfolding length_wrong
+length_wrong_decides p = or_decides (eqb_decides (length p) 0) (or_decides (not_decides (eqb_decides (length p % 4) 0)) (ltb_decides most_words (length p)))
+
+pub unfinished_decides : (p : List ℕ) → Decides (unfinished p) (Unfinished (state_at p (row_count p)))
+unfolding unfinished
+unfinished_decides p = or_decides (not_decides (eqb_decides (state_at p (row_count p)).vars 0)) (not_decides (eqb_decides (state_at p (row_count p)).answers 1))
+
 module _ (t : ℕ) (p : List ℕ) where
-  pub row-stands : (i : ℕ) (s : State) → step t (state_at p i) p i ≡ Stands s → row_wrong t p i ≡ false
+  pub row-stands : (i : ℕ) (s : State) → step t (state_at p i) p i ≡ Ok s → row_wrong t p i ≡ false
   unfolding row_wrong
   row-stands i s e = ap faulty e
 
-  pub row-faulty : (i : ℕ) (why : Fault) → step t (state_at p i) p i ≡ Faulty why → (row_wrong t p i ≡ true) × (row_fault t p i ≡ fault_code why)
+  pub row-faulty : (i : ℕ) (why : Fault) → step t (state_at p i) p i ≡ Err why → (row_wrong t p i ≡ true) × (row_fault t p i ≡ fault_code why)
   unfolding row_wrong row_fault
   row-faulty i why e = (ap faulty e, ap fault_of e)
 
-  pub rows_fault : (i : ℕ) (why : Fault) → i < row_count p → bad_row t p ≡ i → step t (state_at p i) p i ≡ Faulty why → rows_verdict t p ≡ refused (fault_code why) i
+  pub rows_fault : (i : ℕ) (why : Fault) → i < row_count p → bad_row t p ≡ i → step t (state_at p i) p i ≡ Err why → rows_verdict t p ≡ refused (fault_code why) i
   unfolding rows_verdict rows_wrong
   rows_fault i why h b e = rw (b, lt-ltb i (row_count p) h, (row-faulty i why e).1)
 
@@ -57,53 +64,30 @@ module _ (t : ℕ) (p : List ℕ) where
     unfolding rows_verdict rows_wrong end
     past-rows = rw (le-ltb (bad_row t p) (row_count p) (omega arith))
 
-    pub rows_open : (state_at p (row_count p)).vars ≢ 0 → rows_verdict t p ≡ refused 14 0
+    pub rows-unfinished : Unfinished (state_at p (row_count p)) → rows_verdict t p ≡ refused 14 0
+    unfolding end
+    rows-unfinished h = past-rows ∙ rw (holds (unfinished_decides p) h)
+
+    pub rows-answer : (state_at p (row_count p)).vars ≡ 0 → (state_at p (row_count p)).answers ≡ 1 → rows_verdict t p ≡ answered (sizes p)
     unfolding unfinished end
-    rows_open h = past-rows ∙ rw (ne_eqb (state_at p (row_count p)).vars 0 h)
+    rows-answer closed h = past-rows ∙ rw (eq-eqb (state_at p (row_count p)).vars 0 closed, eq-eqb (state_at p (row_count p)).answers 1 h)
 
-    module _ (closed : (state_at p (row_count p)).vars ≡ 0) where
-      pub rows-count : (state_at p (row_count p)).answers ≢ 1 → rows_verdict t p ≡ refused 14 0
-      unfolding unfinished end
-      rows-count h = past-rows ∙ rw (eq-eqb (state_at p (row_count p)).vars 0 closed, ne_eqb (state_at p (row_count p)).answers 1 h)
+  pub plan-length : WrongLength p → plan_verdict t p ≡ refused 9 0
+  unfolding plan_verdict
+  plan-length h = rw (holds (length_wrong_decides p) h)
 
-      pub rows-answer : (state_at p (row_count p)).answers ≡ 1 → rows_verdict t p ≡ answered (sizes p)
-      unfolding unfinished end
-      rows-answer h = past-rows ∙ rw (eq-eqb (state_at p (row_count p)).vars 0 closed, eq-eqb (state_at p (row_count p)).answers 1 h)
-
-  pub plan-zero : length p ≡ 0 → plan_verdict t p ≡ refused 9 0
+  pub plan-rows : length p ≢ 0 → length p % 4 ≡ 0 → length p ≤ most_words → plan_verdict t p ≡ rows_verdict t p
   unfolding plan_verdict length_wrong
-  plan-zero e = rw (eq-eqb (length p) 0 e)
-
-  module _ (some : length p ≢ 0) where
-    pub plan-cut : length p % 4 ≢ 0 → plan_verdict t p ≡ refused 9 0
-    unfolding plan_verdict length_wrong
-    plan-cut h = rw (ne_eqb (length p) 0 some, ne_eqb (length p % 4) 0 h)
-
-    module _ (whole : length p % 4 ≡ 0) where
-      pub plan-long : most_words < length p → plan_verdict t p ≡ refused 9 0
-      unfolding plan_verdict length_wrong
-      plan-long h = rw (ne_eqb (length p) 0 some, eq-eqb (length p % 4) 0 whole, lt-ltb most_words (length p) h)
-
-      pub plan-rows : length p ≤ most_words → plan_verdict t p ≡ rows_verdict t p
-      unfolding plan_verdict length_wrong
-      plan-rows h = rw (ne_eqb (length p) 0 some, eq-eqb (length p % 4) 0 whole, le-ltb most_words (length p) h)
-
-pub length_wrong_decides : (p : List ℕ) → Decides (length_wrong p) (WrongLength p)
-unfolding length_wrong
-length_wrong_decides p = or_decides (eqb_decides (length p) 0) (or_decides (not_decides (eqb_decides (length p % 4) 0)) (ltb_decides most_words (length p)))
-
-pub unfinished_decides : (p : List ℕ) → Decides (unfinished p) (Unfinished (state_at p (row_count p)))
-unfolding unfinished
-unfinished_decides p = or_decides (not_decides (eqb_decides (state_at p (row_count p)).vars 0)) (not_decides (eqb_decides (state_at p (row_count p)).answers 1))
+  plan-rows some whole h = rw (ne_eqb (length p) 0 some, eq-eqb (length p % 4) 0 whole, le-ltb most_words (length p) h)
 
 -- the tests of one row, from the test of its step
 pub row-right : (t : ℕ) (p : List ℕ) (i : ℕ) → row_wrong t p i ≡ false → (form_wrong_at p i ≡ false) × (list_wrong t (row_at p i).kind ≡ false) × (too_many (state_at p i) (row_at p i).kind ≡ false) × (order_wrong (state_at p i) (row_at p i).kind ≡ false)
 unfolding row_wrong
 row-right t p i e = go (step t (state_at p i) p i) refl e
   where
-    go : (x : Step) → step t (state_at p i) p i ≡ x → faulty x ≡ false → (form_wrong_at p i ≡ false) × (list_wrong t (row_at p i).kind ≡ false) × (too_many (state_at p i) (row_at p i).kind ≡ false) × (order_wrong (state_at p i) (row_at p i).kind ≡ false)
-    go (Stands s) q f = let w = step_right t (state_at p i) p i s q in (w.0, w.1, w.2, w.3)
-    go (Faulty why) q f = absurd (true≢false f)
+    go : (x : Result State Fault) → step t (state_at p i) p i ≡ x → faulty x ≡ false → (form_wrong_at p i ≡ false) × (list_wrong t (row_at p i).kind ≡ false) × (too_many (state_at p i) (row_at p i).kind ≡ false) × (order_wrong (state_at p i) (row_at p i).kind ≡ false)
+    go (Ok s) q f = let w = step_right t (state_at p i) p i s q in (w.0, w.1, w.2, w.3)
+    go (Err why) q f = absurd (true≢false f)
 
 -- a verdict that answers: every test is passed, and the sizes are those of the plan
 module _ (t : ℕ) (p : List ℕ) (s : Sizes) (e : plan_verdict t p ≡ answered s) where

@@ -7,7 +7,7 @@
 --     Laid, laid-first, laid_next, laid_done   a table that is laid out entry by entry
 --     Outlined, outlined                       the outline of a pattern, as it is read from a table
 -- Assumes nothing.
-use Prim.Native.Nat.{ℕ, zero, suc, ◌+◌, ◌-◌, ◌*◌, ◌/◌, ◌<◌, ◌≤◌}
+use Prim.Native.Nat.{ℕ, zero, suc, ◌+◌, ◌-◌, ◌/◌, ◌<◌, ◌≤◌}
 use native.Mathlib.Nat.{add-zero}
 use native.Mathlib.Numerals.{add-one}
 use native.Mathlib.Omega.{arith}
@@ -39,7 +39,7 @@ use Rattle.plan.proofs.Laws.Passed.{Passed}
 use Rattle.plan.proofs.Laws.Check.{verdict-passed}
 use Rattle.plan.proofs.Laws.Rows.{rows_slice}
 use Rattle.plan.proofs.Laws.Parts.{span-within, span-rises, part-rows}
-use Rattle.plan.specs.Inner.Outline.{behind_voices, vars_before, outline_at, Entry, Tabled}
+use Rattle.plan.specs.Inner.Outline.{behind_voices, vars_before, no_outline, outline_at, Entry, Tabled}
 
 -- the number of a pattern's variables, and of its predicates
 abbrev var_count : Pattern → ℕ
@@ -232,91 +232,49 @@ spanned v p accepted k h s behind e b =
     let q : behind ≡ first_row p k + var_count (pattern_at p k) = b ∙ ap (behind_voices p) f ∙ behind_voices-is v p accepted k h in
     record { starts = f; ends = omega arith; some = omega arith; behind-is = b; vars_are = omega arith; order = omega arith; inside = o.1 }
 
--- a table after the four stores of an entry from index i on
-abbrev stored : List ℕ → ℕ → ℕ → ℕ → ℕ → ℕ → List ℕ
-stored table i a b c d = set (set (set (set table i a) (i + 1) b) (i + 2) c) (i + 3) d
-
-module _ (table : List ℕ) (i a b c d : ℕ) where
-  stored-before : (j : ℕ) → j < i → get_or (stored table i a b c d) j 0 ≡ get_or table j 0
-  stored-before j h =
-      get_or-set_other (set (set (set table i a) (i + 1) b) (i + 2) c) (i + 3) j d 0 (λ e. omega arith)
-      ∙ get_or-set_other (set (set table i a) (i + 1) b) (i + 2) j c 0 (λ e. omega arith)
-      ∙ get_or-set_other (set table i a) (i + 1) j b 0 (λ e. omega arith)
-      ∙ get_or-set_other table i j a 0 (λ e. omega arith)
-
-  stored-length : length (stored table i a b c d) ≡ length table
-  stored-length = simp length-set
-
-  module _ (h : i + 3 < length table) where
-    stored_0 : get_or (stored table i a b c d) i 0 ≡ a
-    stored_0 =
-        get_or-set_other (set (set (set table i a) (i + 1) b) (i + 2) c) (i + 3) i d 0 (λ e. omega arith)
-        ∙ get_or-set_other (set (set table i a) (i + 1) b) (i + 2) i c 0 (λ e. omega arith)
-        ∙ get_or-set_other (set table i a) (i + 1) i b 0 (λ e. omega arith)
-        ∙ get_or-set_same table i a 0 (omega arith)
-
-    stored_1 : get_or (stored table i a b c d) (i + 1) 0 ≡ b
-    stored_1 =
-        get_or-set_other (set (set (set table i a) (i + 1) b) (i + 2) c) (i + 3) (i + 1) d 0 (λ e. omega arith)
-        ∙ get_or-set_other (set (set table i a) (i + 1) b) (i + 2) (i + 1) c 0 (λ e. omega arith)
-        ∙ get_or-set_same (set table i a) (i + 1) b 0 (simp length-set (omega arith))
-
-    stored_2 : get_or (stored table i a b c d) (i + 2) 0 ≡ c
-    stored_2 =
-        get_or-set_other (set (set (set table i a) (i + 1) b) (i + 2) c) (i + 3) (i + 2) d 0 (λ e. omega arith)
-        ∙ get_or-set_same (set (set table i a) (i + 1) b) (i + 2) c 0 (simp length-set (omega arith))
-
-    stored_3 : get_or (stored table i a b c d) (i + 3) 0 ≡ d
-    stored_3 = get_or-set_same (set (set (set table i a) (i + 1) b) (i + 2) c) (i + 3) d 0 (simp length-set (omega arith))
-
 -- the entry of pattern k
-abbrev pub EntryAt : List ℕ → List ℕ → ℕ → Type 0
-EntryAt p table k = Entry p (outline_at table k)
+abbrev pub EntryAt : List ℕ → List Outline → ℕ → Type 0
+EntryAt p table k = Entry p (outline_at table k) × ((outline_at table k).pattern ≡ k)
 
--- the entries of the first k patterns, which have so many variables, in a table of n numbers
-pub record Laid (p : List ℕ) (n : ℕ) (table : List ℕ) (vars k : ℕ) : Type 0 where
+-- the entries of the first k patterns, which have so many variables, in a table of n outlines
+pub record Laid (p : List ℕ) (n : ℕ) (table : List Outline) (vars k : ℕ) : Type 0 where
   pub within : k ≤ (sizes p).patterns
   pub same : length table ≡ n
   pub vars_are : vars ≡ vars_before p k
   pub entries : (j : ℕ) → j < k → EntryAt p table j
 
-pub laid-first : (p table : List ℕ) → Laid p (length table) table 0 0
+pub laid-first : (p : List ℕ) (table : List Outline) → Laid p (length table) table 0 0
 laid-first p table = record { within = omega arith; same = refl; vars_are = sym (vars_before-first p); entries = λ j h. absurd (let z : ⊥ = omega arith in z) }
 
 -- one more entry
-module _ (v p : List ℕ) (accepted : Accepted v p) (n : ℕ) (table : List ℕ) (vars k start len behind : ℕ) where
-  -- its four numbers are stored
-  abbrev pub entered : List ℕ
-  entered = stored table (4 * k) vars (behind - start / 4) behind (start / 4 + len / 4 - 1)
+module _ (v p : List ℕ) (accepted : Accepted v p) (n : ℕ) (table : List Outline) (vars k start len behind : ℕ) where
+  -- its outline, and the table with it
+  abbrev outline : Outline
+  outline = record { pattern = k; first = vars; vars = behind - start / 4; condition = behind; last = start / 4 + len / 4 - 1 }
 
-  module _ (r : Laid p n table vars k) (h : k < (sizes p).patterns) (l : 4 * (sizes p).patterns ≤ n) (t : Spanned p k start len behind) where
+  abbrev pub entered : List Outline
+  entered = set table k outline
+
+  module _ (r : Laid p n table vars k) (h : k < (sizes p).patterns) (l : (sizes p).patterns ≤ n) (t : Spanned p k start len behind) where
     entry_here : EntryAt p entered k
     entry_here =
         let s = r.same in
-        let m : 4 * k + 3 < length table = omega arith in
-        let count = behind - start / 4 in
-        let last = start / 4 + len / 4 - 1 in
-        rw (stored_0 table (4 * k) vars count behind last m, stored_1 table (4 * k) vars count behind last m)
-        (rw (stored_2 table (4 * k) vars count behind last m, stored_3 table (4 * k) vars count behind last m)
-        (entry-is v p accepted k h vars count behind last r.vars_are (omega arith) (omega arith) t.ends))
+        rw (get_or-set_same table k outline no_outline (omega arith))
+        (entry-is v p accepted k h vars (behind - start / 4) behind (start / 4 + len / 4 - 1) r.vars_are (omega arith) (omega arith) t.ends, refl)
 
     entry-before : (j : ℕ) → j < k → EntryAt p entered j
-    entry-before j m =
-        let same = stored-before table (4 * k) vars (behind - start / 4) behind (start / 4 + len / 4 - 1) in
-        rw (same (4 * j) (omega arith), same (4 * j + 1) (omega arith), same (4 * j + 2) (omega arith), same (4 * j + 3) (omega arith))
-        (r.entries j m)
+    entry-before j m = rw (get_or-set_other table k j outline no_outline (λ e. omega arith)) (r.entries j m)
 
     pub laid_next : Laid p n entered (vars + (behind - start / 4)) (k + 1)
     laid_next =
-        let s = r.same in
         record {
           within = omega arith;
-          same = stored-length table (4 * k) vars (behind - start / 4) behind (start / 4 + len / 4 - 1) ∙ r.same;
+          same = length-set table k outline ∙ r.same;
           vars_are = let e = r.vars_are in let m = vars_before-next p k h in omega arith;
           entries = λ j m. ⊎_elim (entry-before j) (λ (o : k ≤ j). let e : j ≡ k = omega arith in rw e entry_here) (below_or j k);
         }
 
-pub laid_done : (p : List ℕ) (n : ℕ) (table : List ℕ) (vars k : ℕ) → Laid p n table vars k → (sizes p).patterns ≤ k → Tabled p table
+pub laid_done : (p : List ℕ) (n : ℕ) (table : List Outline) (vars k : ℕ) → Laid p n table vars k → (sizes p).patterns ≤ k → Tabled p table
 laid_done p n table vars k r h = λ j m. r.entries j (omega arith)
 
 -- the outline of pattern k, as it is read from a table
@@ -328,5 +286,16 @@ pub record Outlined (p : List ℕ) (k : ℕ) (o : Outline) : Type 0 where
   pub first-is : o.first ≡ vars_before p k
   pub vars_are : o.vars ≡ length (pattern_at p k).vars
 
-pub outlined : {p : List ℕ} (table : List ℕ) → Tabled p table → (k : ℕ) → k < (sizes p).patterns → {o : Outline} → o ≡ outline_at table k → Outlined p k o
-outlined table t k h e = rw e (record { entry = t k h; pattern-is = refl; there = h; room = (t k h).outlines.room; first-is = (t k h).first-is; vars_are = (t k h).outlines.vars_are })
+pub outlined : {p : List ℕ} (table : List Outline) → Tabled p table → (k : ℕ) → k < (sizes p).patterns → {o : Outline} → o ≡ outline_at table k → Outlined p k o
+outlined {p} table t k h e =
+    let here = (t k h).0 in
+    let same = (t k h).1 in
+    rw e
+    (record {
+      entry = here;
+      pattern-is = same;
+      there = omega arith;
+      room = here.outlines.room;
+      first-is = rw same at here.first-is;
+      vars_are = rw same at here.outlines.vars_are;
+    })

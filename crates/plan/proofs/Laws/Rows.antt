@@ -4,8 +4,7 @@
 --     words-of, range-of           they are the words of their row, whose numbers are in range
 --     reads-row                    and such words are read as their row
 --     words-at                     row i of a plan has the words there
---     form-below, form-above       the form of a row of unknown kind
---     form-a .. form-pair          the form of a row of a known kind, word by word
+--     form-unknown, form-known     the form of a row of unknown kind, and of a known one
 --     never_decides                a test that is always false
 --     form_wrong_decides           the test of the form decides document 01's sentence
 --     rows_slice, words_slice      in a plan that passes every test: the rows of a slice of whole rows; it is their words
@@ -17,7 +16,7 @@ use native.Mathlib.Numerals.{add-one, add-two, add-three}
 use native.Mathlib.Omega.{arith}
 use mathlib.Core.Path.{◌≡◌, refl, sym, ap, ap₂, ◌∙◌, subst}
 use mathlib.Core.Bool.{Bool, true, false, ◌||◌, true≢false}
-use mathlib.Core.Logic.{◌↔◌}
+use mathlib.Core.Logic.{◌⊎◌, ⊎_elim, ◌↔◌}
 use mathlib.Core.List.{List, [], ◌∷◌, ◌++◌}
 use lib.ListN.{length, get_or, take, drop}
 use lib.Dec.{eqb, ltb}
@@ -235,46 +234,14 @@ module _ (t : ℕ) (p : List ℕ) (ok : Passed t p) where
 
 -- the test of the form, the way the code takes it
 module _ (k a b c : ℕ) where
-  pub form-below : k < 1 → form_wrong k a b c ≡ true
+  pub form-unknown : (k < 1) ⊎ ((1 ≤ k) × (last_kind < k)) → form_wrong k a b c ≡ true
   unfolding form_wrong
-  form-below h = simp (lt-ltb k 1 h)
-
-  pub form-above : 1 ≤ k → last_kind < k → form_wrong k a b c ≡ true
-  unfolding form_wrong
-  form-above h l = simp (le-ltb k 1 h, lt-ltb last_kind k l)
+  form-unknown = ⊎_elim (λ h. simp (lt-ltb k 1 h)) (λ h. simp (le-ltb k 1 h.0, lt-ltb last_kind k h.1))
 
   -- what a known kind uses
-  module _ (u : Uses) (e : u ≡ uses_of (kind_of k a b c)) (low : 1 ≤ k) (high : k ≤ last_kind) where
-    form-used : form_wrong k a b c ≡ (misused u a b c || pair_wrong (kind_of k a b c))
-    unfolding form_wrong
-    form-used = simp (le-ltb k 1 low, le-ltb last_kind k high) (ap (λ (w : Uses). misused w a b c || pair_wrong (kind_of k a b c)) (sym e))
-
-    pub form-a : stray u.a a ≡ true → form_wrong k a b c ≡ true
-    unfolding misused
-    form-a x = form-used ∙ rw x
-
-    module _ (xa : stray u.a a ≡ false) where
-      pub form-b : stray u.b b ≡ true → form_wrong k a b c ≡ true
-      unfolding misused
-      form-b x = form-used ∙ rw (xa, x)
-
-      module _ (xb : stray u.b b ≡ false) where
-        pub form-c : stray u.c c ≡ true → form_wrong k a b c ≡ true
-        unfolding misused
-        form-c x = form-used ∙ rw (xa, xb, x)
-
-        module _ (xc : stray u.c c ≡ false) where
-          pub form-least : c < u.least → form_wrong k a b c ≡ true
-          unfolding misused
-          form-least h = form-used ∙ rw (xa, xb, xc, lt-ltb c u.least h)
-
-          pub form-most : u.least ≤ c → u.most < c → form_wrong k a b c ≡ true
-          unfolding misused
-          form-most h l = form-used ∙ rw (xa, xb, xc, le-ltb c u.least h, lt-ltb u.most c l)
-
-          pub form-pair : u.least ≤ c → c ≤ u.most → form_wrong k a b c ≡ pair_wrong (kind_of k a b c)
-          unfolding misused
-          form-pair h l = form-used ∙ rw (xa, xb, xc, le-ltb c u.least h, le-ltb u.most c l)
+  pub form-known : (u : Uses) → u ≡ uses_of (kind_of k a b c) → 1 ≤ k → k ≤ last_kind → form_wrong k a b c ≡ (misused u a b c || pair_wrong (kind_of k a b c))
+  unfolding form_wrong
+  form-known u e low high = simp (le-ltb k 1 low, le-ltb last_kind k high) (ap (λ (w : Uses). misused w a b c || pair_wrong (kind_of k a b c)) (sym e))
 
 -- a test that is always false decides what never holds
 pub never_decides : Decides false ⊥

@@ -15,7 +15,7 @@ use Prim.Native.Nat.{ℕ, zero, suc, ◌+◌, ◌-◌, ◌*◌, ◌^◌, ◌/◌
 use native.Mathlib.Nat.{two-pow-succ, mod-one, zero-mod, div-one, zero-div}
 use native.Mathlib.Numerals.{one-add, add-one}
 use native.Mathlib.Omega.{arith}
-use mathlib.Core.Path.{◌≡◌, refl, sym, ap, ap₂, subst, ◌∙◌}
+use mathlib.Core.Path.{◌≡◌, refl, sym, ap, ap₂, ◌∙◌}
 use mathlib.Core.Bool.{Bool, true, false, not, ◌&&◌, ◌||◌}
 use mathlib.Core.Logic.{◌≢◌, ⊎_elim}
 use mathlib.Core.List.{List, [], ◌∷◌, ◌++◌, map}
@@ -24,6 +24,8 @@ use lib.Pow.{shr-shr, mod-pow-add}
 use lib.Count.{ones_in, ones, ones_step}
 use lib.Seq.{get_or-set_same, get_or-set_other, set-get_or}
 use lib.Dec.{eqb, leb}
+use Rattle.std.specs.Prelude.{Option, Some, None}
+use Rattle.std.proofs.lemmas.Option.{none-some}
 use Rattle.seq.specs.Lists.{keep}
 use Rattle.seq.specs.Numbers.{run}
 use Rattle.seq.proofs.Laws.Decides.{decided, eqb_decides}
@@ -309,51 +311,31 @@ pub found-small : (found : Pattern → Bool) (p : List ℕ) → (sizes p).patter
 unfolding sizes
 found-small found p h = bits-lt 8 (map found (patterns_of (rows_of p))) (let l = length-map (patterns_of (rows_of p)) found in omega arith)
 
--- a mark is 1 more than the flag of its answer
-mark_of : (n : ℕ) → n ≢ 0 → n ≤ 2 → n ≡ 1 + flag_of (eqb n 2)
-mark_of zero h l = absurd (h refl)
-mark_of (suc zero) h l = refl
-mark_of (suc (suc zero)) h l = refl
-mark_of (suc (suc (suc n))) h l = absurd (let z : ⊥ = omega arith in z)
-
-mark-back : (t : Bool) → eqb (1 + flag_of t) 2 ≡ t
-mark-back true = refl
-mark-back false = refl
-
-nothing : (n b : ℕ) → get_or {A = ℕ} (replicate n 0) b 0 ≡ 0
+-- nothing is known at first
+nothing : (n b : ℕ) → get_or {A = Option Bool} (replicate n None) b None ≡ None
 nothing zero b = refl
 nothing (suc n) zero = refl
 nothing (suc n) (suc b) = nothing n b
 
-pub remembers-first : (p : List ℕ) (n : ℕ) → Remembers p (replicate n 0)
-remembers-first p n = record {
-  small = λ b. rw (nothing n b) (omega arith);
-  right = λ found h. absurd (h (nothing n (found_bits found p)));
-}
+pub remembers-first : (p : List ℕ) (n : ℕ) → Remembers p (replicate n None)
+remembers-first p n = record { right = λ found yes e. absurd (none-some yes (sym (nothing n (found_bits found p)) ∙ e)) }
 
-module _ (p known : List ℕ) (m : Remembers p known) (bits : ℕ) where
+module _ (p : List ℕ) (known : List (Option Bool)) (m : Remembers p known) (bits : ℕ) where
   pub remembers-next :
       bits < length known → (r : Bool) → ((found : Pattern → Bool) → bits ≡ found_bits found p → r ≡ answer found (rows_of p))
-      → Remembers p (set known bits (1 + flag_of r))
+      → Remembers p (set known bits (Some r))
   remembers-next h r told = record {
-    small = λ b.
+    right = λ found yes.
         ⊎_elim
-        (λ (e : b ≡ bits). rw (e, get_or-set_same known bits (1 + flag_of r) 0 h) (let f = flag-le r in omega arith))
-        (λ (n : b ≢ bits). rw (get_or-set_other known bits b (1 + flag_of r) 0 n) (m.small b))
-        (decided (eqb_decides b bits));
-    right = λ found.
-        ⊎_elim
-        (λ (e : found_bits found p ≡ bits) a. rw (e, get_or-set_same known bits (1 + flag_of r) 0 h) (ap (λ (t : Bool). 1 + flag_of t) (told found (sym e))))
-        (λ (n : found_bits found p ≢ bits). rw (get_or-set_other known bits (found_bits found p) (1 + flag_of r) 0 n) (m.right found))
+        (λ (e : found_bits found p ≡ bits) a. let q : Some r ≡ Some yes = sym (get_or-set_same known bits (Some r) None h) ∙ rw e at a in let t = told found (sym e) in cc)
+        (λ (n : found_bits found p ≢ bits) a. m.right found yes (sym (get_or-set_other known bits (found_bits found p) (Some r) None n) ∙ a))
         (decided (eqb_decides (found_bits found p) bits));
   }
 
-  module _ (asked : get_or known bits 0 ≢ 0) where
-    pub known-answer : (found : Pattern → Bool) → bits ≡ found_bits found p → eqb (get_or known bits 0) 2 ≡ answer found (rows_of p)
-    known-answer found e =
-        ap (λ (b : ℕ). eqb (get_or known b 0) 2) e
-        ∙ ap (λ (n : ℕ). eqb n 2) (m.right found (subst (λ (b : ℕ). get_or known b 0 ≢ 0) e asked))
-        ∙ mark-back (answer found (rows_of p))
+  -- what is known is the answer, and stays
+  module _ (yes : Bool) (asked : get_or known bits None ≡ Some yes) where
+    pub known-answer : (found : Pattern → Bool) → bits ≡ found_bits found p → yes ≡ answer found (rows_of p)
+    known-answer found e = m.right found yes (rw e at asked)
 
-    pub known_same : known ≡ set known bits (1 + flag_of (eqb (get_or known bits 0) 2))
-    known_same = sym (set-get_or known bits 0) ∙ ap (set known bits) (mark_of (get_or known bits 0) asked (m.small bits))
+    pub known_same : known ≡ set known bits (Some yes)
+    known_same = sym (set-get_or known bits None) ∙ ap (set known bits) asked

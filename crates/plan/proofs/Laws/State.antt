@@ -16,6 +16,7 @@ use mathlib.Core.Bool.{Bool, true, false, not, cond, ◌&&◌, true≢false}
 use mathlib.Core.Logic.{◌⊎◌, inl, inr, ⊎_elim, ◌≢◌}
 use mathlib.Core.List.{List, [], ◌∷◌, ◌++◌}
 use lib.Dec.{eqb, ltb}
+use Rattle.std.specs.Prelude.{Ok, Err}
 use borrow.Author.Tests.{eqb-true, eqb-false, ltb-false, not-false}
 use Rattle.seq.specs.Numbers.{run}
 use Rattle.seq.proofs.Laws.Tests.{neither, contrary}
@@ -31,7 +32,6 @@ use Rattle.plan.specs.declared.row.Kind.{Kind}
 use Rattle.plan.specs.declared.row.Kind.TheVariants as kind
 use Rattle.plan.specs.declared.row.Row.{Row}
 use Rattle.plan.specs.declared.state.State.{State}
-use Rattle.plan.specs.declared.state.Step.TheVariants.{Stands, Faulty}
 use Rattle.plan.specs.Limits.{most_patterns, most_pattern_vars}
 use Rattle.plan.specs.Rows.{row_at, form_wrong_at, InRange}
 use Rattle.plan.specs.Check.{faulty}
@@ -109,38 +109,38 @@ operator-stands s o e =
     (eqb-true s.vars 0 (not-false (eqb s.vars 0) w.0), ltb-false s.answers (takes o) w.1)
 
 module _ (t : ℕ) (s : State) (p : List ℕ) (i : ℕ) where
-  pub step_form : form_wrong_at p i ≡ true → step t s p i ≡ Faulty fault.Form
+  pub step_form : form_wrong_at p i ≡ true → step t s p i ≡ Err fault.Form
   unfolding step
   step_form e = rw e
 
   module _ (formed : form_wrong_at p i ≡ false) where
-    pub step-list : list_wrong t (row_at p i).kind ≡ true → step t s p i ≡ Faulty fault.List
+    pub step-list : list_wrong t (row_at p i).kind ≡ true → step t s p i ≡ Err fault.List
     unfolding step
     step-list e = rw (formed, e)
 
     module _ (listed : list_wrong t (row_at p i).kind ≡ false) where
-      pub step-many : too_many s (row_at p i).kind ≡ true → step t s p i ≡ Faulty fault.TooMany
+      pub step-many : too_many s (row_at p i).kind ≡ true → step t s p i ≡ Err fault.TooMany
       unfolding step
       step-many e = rw (formed, listed, e)
 
       module _ (few : too_many s (row_at p i).kind ≡ false) where
-        pub step-order : order_wrong s (row_at p i).kind ≡ true → step t s p i ≡ Faulty fault.Order
+        pub step-order : order_wrong s (row_at p i).kind ≡ true → step t s p i ≡ Err fault.Order
         unfolding step
         step-order e = rw (formed, listed, few, e)
 
-        pub step-stands : order_wrong s (row_at p i).kind ≡ false → step t s p i ≡ Stands (after s (row_at p i).kind)
+        pub step-stands : order_wrong s (row_at p i).kind ≡ false → step t s p i ≡ Ok (after s (row_at p i).kind)
         unfolding step
         step-stands e = rw (formed, listed, few, e)
 
   -- a row that stands passes the four tests, and where it leads
-  pub step_right : (s' : State) → step t s p i ≡ Stands s' → (form_wrong_at p i ≡ false) × (list_wrong t (row_at p i).kind ≡ false) × (too_many s (row_at p i).kind ≡ false) × (order_wrong s (row_at p i).kind ≡ false) × (s' ≡ after s (row_at p i).kind)
+  pub step_right : (s' : State) → step t s p i ≡ Ok s' → (form_wrong_at p i ≡ false) × (list_wrong t (row_at p i).kind ≡ false) × (too_many s (row_at p i).kind ≡ false) × (order_wrong s (row_at p i).kind ≡ false) × (s' ≡ after s (row_at p i).kind)
   unfolding step
   step_right s' e = go (form_wrong_at p i) (list_wrong t (row_at p i).kind) (too_many s (row_at p i).kind) (order_wrong s (row_at p i).kind) (after s (row_at p i).kind) e
     where
-      not-faulty : (why : Fault) → Faulty why ≡ Stands s' → ⊥
+      not-faulty : (why : Fault) → Err why ≡ Ok s' → ⊥
       not-faulty why q = true≢false (ap faulty q)
 
-      go : (a b c d : Bool) (x : State) → cond a (Faulty fault.Form) (cond b (Faulty fault.List) (cond c (Faulty fault.TooMany) (cond d (Faulty fault.Order) (Stands x)))) ≡ Stands s' → (a ≡ false) × (b ≡ false) × (c ≡ false) × (d ≡ false) × (s' ≡ x)
+      go : (a b c d : Bool) (x : State) → cond a (Err fault.Form) (cond b (Err fault.List) (cond c (Err fault.TooMany) (cond d (Err fault.Order) (Ok x)))) ≡ Ok s' → (a ≡ false) × (b ≡ false) × (c ≡ false) × (d ≡ false) × (s' ≡ x)
       go true b c d x q = absurd (not-faulty fault.Form q)
       go false true c d x q = absurd (not-faulty fault.List q)
       go false false true d x q = absurd (not-faulty fault.TooMany q)

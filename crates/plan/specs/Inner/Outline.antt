@@ -1,5 +1,5 @@
 -- Where each pattern of a plan lies: its rows, and its variables among those of the plan. Assumes nothing.
-use Rattle.std.specs.Prelude.{ℕ, ◌+◌, ◌-◌, ◌*◌, ◌<◌, ◌≤◌, ◌≡◌, not, List, length, get_or, take}
+use Rattle.std.specs.Prelude.{ℕ, ◌+◌, ◌-◌, ◌<◌, ◌≤◌, ◌≡◌, not, List, length, get_or, take}
 use Rattle.seq.specs.Lists.{total}
 use Rattle.plan.specs.declared.row.Predicate.TheVariants.{Window}
 use Rattle.plan.specs.declared.row.Kind.TheVariants as kind
@@ -37,16 +37,14 @@ pub record Entry (p : List ℕ) (o : Outline) : Type 0 where
   pub outlines : Outlines p o
   pub first-is : o.first ≡ vars_before p o.pattern
 
--- outline k of a table of four numbers for each pattern
-abbrev pub outline_at : List ℕ → ℕ → Outline
-outline_at table k = record {
-  pattern = k;
-  first = get_or table (4 * k) 0;
-  vars = get_or table (4 * k + 1) 0;
-  condition = get_or table (4 * k + 2) 0;
-  last = get_or table (4 * k + 3) 0;
-}
+-- the outline of no pattern
+abbrev pub no_outline : Outline
+no_outline = record { pattern = 0; first = 0; vars = 0; condition = 0; last = 0 }
+
+-- outline k of a table
+abbrev pub outline_at : List Outline → ℕ → Outline
+outline_at table k = get_or table k no_outline
 
 -- a table with the outline of each pattern
-abbrev pub Tabled : List ℕ → List ℕ → Type 0
-Tabled p table = (k : ℕ) → k < (sizes p).patterns → Entry p (outline_at table k)
+abbrev pub Tabled : List ℕ → List Outline → Type 0
+Tabled p table = (k : ℕ) → k < (sizes p).patterns → Entry p (outline_at table k) × ((outline_at table k).pattern ≡ k)

@@ -1,5 +1,5 @@
 -- The answers of a plan in a document as the bits of a number. Assumes nothing.
-use Rattle.std.specs.Prelude.{ℕ, ◌+◌, ◌*◌, ◌≤◌, ◌≡◌, Bool, true, false, not, List, [], ◌∷◌, map, ◌≢◌, eqb, leb, get_or}
+use Rattle.std.specs.Prelude.{ℕ, ◌+◌, ◌*◌, ◌≡◌, Bool, true, false, not, List, [], ◌∷◌, Option, Some, None, map, eqb, leb, get_or}
 use Rattle.std.specs.Int.Count.{ones}
 use Rattle.plan.specs.declared.row.Operator.{Operator}
 use Rattle.plan.specs.declared.row.Operator.TheVariants.{Both, Either, FirstNotSecond, AtLeast}
@@ -31,8 +31,6 @@ joins (AtLeast least of) taken = leb least (ones taken)
 abbrev pub most_found_sets : ℕ
 most_found_sets = 256
 
--- a number for each set of found patterns: 0 where nothing is known, else 1 for the answer no and 2 for the answer yes
-pub record Remembers (p known : List ℕ) : Type 0 where
-  pub small : (b : ℕ) → get_or known b 0 ≤ 2
-  pub right : (found : Pattern → Bool) → get_or known (found_bits found p) 0 ≢ 0
-      → get_or known (found_bits found p) 0 ≡ 1 + flag_of (answer found (rows_of p))
+-- for each set of found patterns the answer, where it is known
+pub record Remembers (p : List ℕ) (known : List (Option Bool)) : Type 0 where
+  pub right : (found : Pattern → Bool) (yes : Bool) → get_or known (found_bits found p) None ≡ Some yes → yes ≡ answer found (rows_of p)

@@ -33,8 +33,7 @@ use Rattle.grammar.specs.Text.{lead, gap_after}
 use Rattle.grammar.specs.Grammar.{condition_text, open_text, figure_text}
 use Rattle.grammar.specs.Query.{condition_of, figure_of}
 use Rattle.grammar.proofs.Laws.Text.{lead-behind}
-use Rattle.printer.specs.declared.patterns.Back.{Back}
-use Rattle.printer.specs.Inner.Writing.{PutBack, spaced, begun, Formed, behind_voice, voice_row, condition_row, Shut, Laid}
+use Rattle.printer.specs.Inner.Writing.{PutBack, Back, spaced, begun, Formed, behind_voice, voice_row, condition_row, Shut, Laid}
 use Rattle.printer.specs.Inner.Writing.{ListsEnd, ListsRoom, ListsPut, OpenEnd, OpenRoom, OpenPut, PatternEnd, PatternRoom, PatternPut}
 use Rattle.printer.proofs.Laws.Bytes.{put_as, put_then}
 

@@ -22,10 +22,9 @@ use Rattle.plan.proofs.Laws.Given.{row-range}
 use Rattle.grammar.specs.Grammar.{written, lines_text, separator}
 use Rattle.grammar.specs.Query.{Query, threshold, Queries, empty, push, query_count, query_rows, queries_rows, stack_rows, typed, typed_lines}
 use Rattle.grammar.proofs.Laws.Query.{listed, stack-listed}
-use Rattle.printer.specs.declared.patterns.Back.{Back}
 use Rattle.printer.specs.declared.trees.Level.{Level}
 use Rattle.printer.specs.declared.trees.Level.TheVariants as level
-use Rattle.printer.specs.Inner.Writing.{PutBack, Laid}
+use Rattle.printer.specs.Inner.Writing.{PutBack, Back, Laid}
 use Rattle.printer.specs.Inner.Trees.{text_at, Voiced, AllVoiced, TreeEnd, TreeRoom, TreePut, LinesEnd, LinesRoom, LinesPut}
 use Rattle.printer.proofs.Laws.Bytes.{put_as, put_then}
 use Rattle.printer.proofs.Laws.Patterns.{rows-count, rows_back, formed-back}

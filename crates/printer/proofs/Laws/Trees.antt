@@ -32,10 +32,9 @@ use Rattle.grammar.specs.Grammar.{figure_text, written, part_text, item_text}
 use Rattle.grammar.specs.Meaning.{operator_row}
 use Rattle.grammar.specs.Query.{Query, leaf, node, threshold, Queries, query_count, operator_for, query_rows, queries_rows}
 use Rattle.grammar.specs.Query.{stack_rows, figure_of, typed}
-use Rattle.printer.specs.declared.patterns.Back.{Back}
 use Rattle.printer.specs.declared.trees.Level.{Level}
 use Rattle.printer.specs.declared.trees.Level.TheVariants as level
-use Rattle.printer.specs.Inner.Writing.{PutBack, only, voice_row, condition_row, Shut, Laid, PatternEnd, PatternRoom, PatternPut}
+use Rattle.printer.specs.Inner.Writing.{PutBack, Back, only, voice_row, condition_row, Shut, Laid, PatternEnd, PatternRoom, PatternPut}
 use Rattle.printer.specs.Inner.Trees.{text_at, bracketed, left_level, right_level, connective_byte, Voiced, AllVoiced}
 use Rattle.printer.specs.Inner.Trees.{TreeEnd, TreeRoom, TreePut}
 use Rattle.printer.proofs.Laws.Bytes.{put_as, put_then}

@@ -13,7 +13,8 @@ use lib.ListN.{length}
 use borrow.Author.Tests.{lt-ltb, le-ltb}
 use Rattle.seq.specs.Refusals.{answered, laid}
 use Rattle.plan.specs.declared.answers.Refusal.{Refusal}
-use Rattle.plan.specs.Answers.{Sizes, said_refusal}
+use Rattle.plan.specs.declared.answers.Sizes.{Sizes}
+use Rattle.plan.specs.Answers.{said_refusal}
 use Rattle.plan.specs.Rows.{row_count, rows_of}
 use Rattle.plan.specs.Check.{verdict, sizes, Accepted}
 use Rattle.plan.proofs.Laws.Check.{verdict-passed}
@@ -27,11 +28,10 @@ use Rattle.grammar.proofs.Laws.Written.{plan-tree}
 use Rattle.grammar.proofs.Laws.Bounds.{accepted-line}
 use Rattle.printer.specs.declared.answers.WriteError.{WriteError}
 use Rattle.printer.specs.declared.answers.WriteError.TheVariants as writeError
-use Rattle.printer.specs.declared.patterns.Back.{Back}
 use Rattle.printer.specs.declared.trees.Level.TheVariants as level
 use Rattle.printer.specs.Answers.{said_written}
 use Rattle.printer.specs.Write.{write_answer, write_out}
-use Rattle.printer.specs.Inner.Writing.{PutBack, stored_bytes}
+use Rattle.printer.specs.Inner.Writing.{PutBack, Back, stored_bytes}
 use Rattle.printer.specs.Inner.Trees.{Voiced, AllVoiced, TreeEnd, TreeRoom, TreePut, LineWritten}
 use Rattle.printer.proofs.Laws.Bytes.{stored-front}
 use Rattle.printer.proofs.Laws.Patterns.{rows_back}

@@ -13,11 +13,10 @@ use Rattle.grammar.specs.Grammar.{written, part_text, item_text, lines_text}
 use Rattle.grammar.specs.Query.{Query, leaf, node, threshold, Queries, empty, push, query_count, queries_rows, stack_rows, typed}
 use Rattle.grammar.specs.Query.{typed_lines, plan_text}
 use Rattle.printer.specs.declared.answers.WriteError.{WriteError}
-use Rattle.printer.specs.declared.patterns.Back.{Back}
 use Rattle.printer.specs.declared.trees.Level.{Level}
 use Rattle.printer.specs.declared.trees.Level.TheVariants as level
 use Rattle.printer.specs.Answers.{said_written}
-use Rattle.printer.specs.Inner.Writing.{Formed, Laid}
+use Rattle.printer.specs.Inner.Writing.{Back, Formed, Laid}
 
 -- the text of a tree at a level
 abbrev pub text_at : Level → Query → List ℕ

@@ -1,6 +1,7 @@
 -- Text that is written from its end, piece by piece, for the contracts inside the crate. Assumes nothing.
 --     stored_bytes           a buffer with bytes stored in it, each where it fits
---     PutBack               a text is stored in front of an index
+--     PutBack, Put          a text is stored in front of an index
+--     Back, Over            where rows and their text begin
 --     ListsEnd, OpenEnd, PatternEnd     the rows of a pattern end here, behind other rows
 --     ListsPut, OpenPut, PatternPut     their text is stored
 use Rattle.std.specs.Prelude.{ℕ, zero, suc, ◌+◌, ◌<◌, ◌≤◌, ◌≡◌, Bool, false, cond, List, [], ◌∷◌, ◌++◌, map, length, set}
@@ -14,7 +15,7 @@ use Rattle.plan.specs.Parts.{pattern_rows}
 use Rattle.grammar.specs.Text.{lead}
 use Rattle.grammar.specs.Grammar.{open_text, figure_text}
 use Rattle.grammar.specs.Query.{figure_of}
-use Rattle.printer.specs.declared.patterns.Back.{Back}
+use Rattle.printer.specs.declared.bytes.Text.{Text}
 
 -- a buffer with bytes stored from index `at` on; those behind its end are passed over
 unfoldable pub stored_bytes : List ℕ → ℕ → List ℕ → List ℕ
@@ -25,6 +26,19 @@ stored_bytes out at (b ∷ bs) = set (stored_bytes out (suc at) bs) at b
 pub record PutBack (text out : List ℕ) (end : ℕ) (out' : List ℕ) (r : ℕ) : Type 0 where
   pub stored : out' ≡ stored_bytes out r text
   pub ends : r + length text ≡ end
+
+-- the same in front of the text that a buffer holds from an index on
+abbrev pub Put : List ℕ → Text → Text → Type 0
+Put bytes text text' = PutBack bytes text.out.now text.at text'.out.now text'.at
+
+-- where rows begin, and where their text does
+pub record Back : Type 0 where
+  pub row : ℕ
+  pub at : ℕ
+
+-- what is promised of a buffer, and of where rows and their text begin
+abbrev pub Over : (List ℕ → ℕ → List ℕ → Back → Type 0) → Text → Text → ℕ → Type 0
+Over P text text' row = P text.out.now text.at text'.out.now (record { row = row; at = text'.at })
 
 -- a byte where it is wanted, or nothing
 abbrev pub only : Bool → ℕ → List ℕ

@@ -17,7 +17,7 @@ use borrow.Author.Tests.{lt-ltb, le-ltb}
 use Rattle.seq.specs.Refusals.{refused, answered}
 use Rattle.seq.proofs.Laws.Refusals.{laid-refused, laid-answered, not-both}
 use Rattle.seq.proofs.Laws.Tests.{below_or}
-use Rattle.plan.specs.Answers.{Sizes}
+use Rattle.plan.specs.declared.answers.Sizes.{Sizes}
 use Rattle.plan.specs.Check.{sizes, verdict, Accepted}
 use Rattle.plan.proofs.Laws.CheckFirst.{check_sound}
 use Rattle.fulltext.specs.Positions.{limit}

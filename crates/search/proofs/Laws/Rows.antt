@@ -2,7 +2,7 @@
 --     Stored, stored-first, stored_one, stored_next, stored-over     what is written so far, and around it the words that were lent
 --     stored-under, stored_back             the word under the first that is written does not count
 --     stored-said, stored_flag              some words are written, and a flag in front of them, as a promise says it
---     zeros-next                            zeros, one by one
+--     zeros-back                            zeros fill a part
 --     Pairing, pairing-first, pairing-next, pairing-done     positions with their starts are written one by one
 --     row_first, row_next, row-le           the row, pattern by pattern
 --     Writing, writing-first, writing-room, writing-next, writing-done     the row is written pattern by pattern
@@ -21,8 +21,9 @@ use mathlib.Core.List.{List, [], ◌∷◌, ◌++◌, map, append-nil, append_as
 use mathlib.Core.Option.{Option, none, some}
 use lib.Dec.{eqb}
 use lib.ListN.{length, get_or, set, take, drop, replicate, length-append, length-drop, length-map, length-set, length-replicate}
-use lib.ListN.{take-append-drop, replicate-append-replicate}
+use lib.ListN.{take-append-drop}
 use lib.Seq.{drop-cons, length-take-le, take-suc, take-length, take-set-le, drop-set-lt}
+use Rattle.std.proofs.lemmas.List.{drop-drop}
 use Rattle.seq.specs.Lists.{keep, joined}
 use Rattle.seq.specs.Numbers.{run}
 use Rattle.seq.proofs.Laws.Lists.{joined_append, length-snoc}
@@ -34,12 +35,14 @@ use Rattle.seq.proofs.Laws.Stores.{put_next, put-over}
 use Rattle.seq.proofs.Laws.Tests.{true_or}
 use Rattle.volume.specs.Posting.{doc_of, pos_of}
 use Rattle.volume.specs.Layout.{lists_of}
+use Rattle.plan.specs.declared.outline.Outline.{Outline}
 use Rattle.plan.specs.Rows.{rows_of}
 use Rattle.plan.specs.Patterns.{Pattern, no_row, patterns_of}
 use Rattle.plan.specs.Check.{sizes}
 use Rattle.plan.specs.Accepted.{pattern_at}
 use Rattle.plan.specs.Inner.Outline.{vars_before, outline_at, Tabled}
 use Rattle.plan.specs.Inner.Stack.{flag_of, bits_of, found_bits}
+use Rattle.plan.proofs.Laws.Outline.{Outlined, outlined}
 use Rattle.fulltext.specs.Positions.{list_of, positions_in}
 use Rattle.fulltext.specs.Paragraphs.{para_start}
 use Rattle.fulltext.specs.Matches.{with_each, tuples, matches, all_hold, starts_in, vars_in, least_in}
@@ -141,9 +144,16 @@ stored_flag xs out to flag n next e h s =
     (stored_next [] out to out (stored-first out to) (omega arith) to flag (omega arith))
     (stored-said xs (set out to flag) (to + 1) n next e (omega arith) s)
 
--- one more zero
-pub zeros-next : (n : ℕ) → replicate {A = ℕ} (n + 1) 0 ≡ replicate n 0 ++ (0 ∷ [])
-zeros-next n = sym (replicate-append-replicate n 1 0)
+-- n words from a on are filled with zeros, in a part that is lent and comes back
+pub zeros-back : (xs part : List ℕ) (a n : ℕ) → a + n ≤ length xs → part ≡ replicate (length (take ((a + n) - a) (drop a xs))) 0
+    → take a xs ++ (part ++ drop ((a + n) - a) (drop a xs)) ≡ take a xs ++ replicate n 0 ++ drop (a + n) xs
+zeros-back xs part a n h e =
+    let m : (a + n) - a ≡ n = omega arith in
+    let l : length (take ((a + n) - a) (drop a xs)) ≡ n = ap (λ (k : ℕ). length (take k (drop a xs))) m ∙ length_slice xs a n h in
+    ap₂ (λ (zeros rest : List ℕ). take a xs ++ (zeros ++ rest))
+    (e ∙ ap (λ (k : ℕ). replicate k 0) l)
+    (ap (λ (k : ℕ). drop k (drop a xs)) m ∙ drop-drop n a xs)
+    ∙ sym (append_assoc (take a xs) (replicate n 0) (drop (a + n) xs))
 
 -- positions with their starts, and one more
 pairs-snoc : (starts ps : List ℕ) (p : ℕ)
@@ -153,31 +163,28 @@ pairs-snoc starts [] p = refl
 pairs-snoc starts (q ∷ ps) p = ap (λ (l : List ℕ). q ∷ (para_start starts q ∷ l)) (pairs-snoc starts ps p)
 
 -- the first x positions are written with their starts, from `to` on into a buffer that was lent as d
-pub record Pairing (starts ps d : List ℕ) (to : ℕ) (out : List ℕ) (at x : ℕ) : Type 0 where
+pub record Pairing (starts ps d : List ℕ) (to : ℕ) (out : List ℕ) (x : ℕ) : Type 0 where
   pub most : x ≤ length ps
-  pub at-is : at ≡ to + 2 * x
   pub stored : Stored (with_starts starts (take x ps)) d to out
 
-pub pairing-first : (starts ps d : List ℕ) (to : ℕ) → Pairing starts ps d to d to 0
+pub pairing-first : (starts ps d : List ℕ) (to : ℕ) → Pairing starts ps d to d 0
 unfolding with_starts joined
 pairing-first starts ps d to = record {
   most = omega arith;
-  at-is = omega arith;
   stored = stored-first d to;
 }
 
-module _ (starts ps d : List ℕ) (to : ℕ) (out : List ℕ) (at x : ℕ) (w : Pairing starts ps d to out at x) where
+module _ (starts ps d : List ℕ) (to : ℕ) (out : List ℕ) (x : ℕ) (w : Pairing starts ps d to out x) where
   pub pairing-next : x < length ps → to + 2 * length ps ≤ length d → (s : ℕ) → s ≡ para_start starts (get_or ps x 0)
-      → Pairing starts ps d to (set (set out at (get_or ps x 0)) (at + 1) s) (at + 2) (x + 1)
+      → Pairing starts ps d to (set (set out (to + 2 * x) (get_or ps x 0)) (to + 2 * x + 1) s) (x + 1)
   pairing-next h room s e =
       let p = get_or ps x 0 in
       let xs = with_starts starts (take x ps) in
       let l = length_pairs starts (take x ps) in
       let t = length-take-le x ps (omega arith) in
       let n = length-snoc xs p in
-      let a = w.at-is in record {
+      let at = to + 2 * x in record {
         most = omega arith;
-        at-is = omega arith;
         stored =
             rw (add-one x, take-suc ps x 0 h, pairs-snoc starts (take x ps) p, e)
             (stored_next (xs ++ (p ∷ [])) d to (set out at p) (stored_next xs d to out w.stored (omega arith) at p (omega arith))
@@ -199,7 +206,7 @@ halved-next : (bits k : ℕ) → halved bits k / 2 ≡ halved bits (k + 1)
 unfolding halved
 halved-next bits k = sym (ap (halved bits) (add-one k))
 
-module _ (starts table : List ℕ) (d bits : ℕ) (ps : List ℕ) where
+module _ (starts : List ℕ) (table : List Outline) (d bits : ℕ) (ps : List ℕ) where
   pub row_first : row_by starts table d bits ps 0 ≡ d ∷ []
   unfolding row_by joined run
   row_first = refl
@@ -401,8 +408,11 @@ least-small lists d f ps e =
     (every-keep Small (λ qs. all_hold ss f.predicates qs) (tuples vs) (tuples-small vs (vars-small lists d f.vars)))
     (first_has ps (matches ss vs f.predicates) e))
 
-module _ (v p table : List ℕ) (tabled : Tabled p table) (d bits : ℕ) (ps : List ℕ) (bits_are : bits ≡ found_bits (found (lists_of v) d) p)
+module _ (v p : List ℕ) (table : List Outline) (tabled : Tabled p table) (d bits : ℕ) (ps : List ℕ) (bits_are : bits ≡ found_bits (found (lists_of v) d) p)
     (least : (k : ℕ) → k < (sizes p).patterns → LeastAt v p d ps k) where
+  own_outline : (k : ℕ) → k < (sizes p).patterns → Outlined p k (outline_at table k)
+  own_outline k h = outlined table tabled k h refl
+
   flag_is : (k : ℕ) → k < (sizes p).patterns → halved bits k % 2 ≡ flag_of (found (lists_of v) d (pattern_at p k))
   unfolding sizes
   flag_is k h =
@@ -413,7 +423,7 @@ module _ (v p table : List ℕ) (tabled : Tabled p table) (d bits : ℕ) (ps : L
 
   shown-is : (k : ℕ) → k < (sizes p).patterns → shown_by (starts_in (lists_of v) d) table bits ps k ≡ shown_in (lists_of v) d (pattern_at p k)
   shown-is k h =
-      rw ((tabled k h).first-is, (tabled k h).outlines.vars_are, flag_is k h)
+      rw ((own_outline k h).first-is, (own_outline k h).vars_are, flag_is k h)
       (ap (shown (starts_in (lists_of v) d) (length (pattern_at p k).vars)) (⊎_elim yes no (true_or (found (lists_of v) d (pattern_at p k)))))
     where
       own : Bool → Option (List ℕ)
@@ -439,7 +449,7 @@ module _ (v p table : List ℕ) (tabled : Tabled p table) (d bits : ℕ) (ps : L
   pub row_small : (k : ℕ) → k < (sizes p).patterns → halved bits k % 2 ≡ 1
       → InDocument (take (outline_at table k).vars (drop (outline_at table k).first ps))
   row_small k h e =
-      rw ((tabled k h).first-is, (tabled k h).outlines.vars_are)
+      rw ((own_outline k h).first-is, (own_outline k h).vars_are)
       (least-small (lists_of v) d (pattern_at p k) (take (length (pattern_at p k).vars) (drop (vars_before p k) ps))
       (least k h (yes (found (lists_of v) d (pattern_at p k)) (sym (flag_is k h) ∙ e))))
     where

@@ -10,6 +10,7 @@
 -- Assumes nothing.
 use Prim.Native.Nat.{ℕ, ◌+◌, ◌*◌, ◌/◌, ◌<◌, ◌≤◌}
 use native.Mathlib.Omega.{arith}
+use Rattle.std.specs.Prelude.{None}
 use mathlib.Core.Path.{◌≡◌, refl, sym, ap, ◌∙◌}
 use mathlib.Core.Bool.{Bool, true, false, true≢false}
 use mathlib.Core.Logic.{⊎_elim}
@@ -20,6 +21,7 @@ use Rattle.seq.proofs.Laws.Tests.{below_or}
 use Rattle.volume.specs.Layout.{lists_of}
 use Rattle.volume.specs.Layout as layout
 use Rattle.volume.proofs.Laws.Check.{good}
+use Rattle.plan.specs.declared.outline.Outline.{Outline}
 use Rattle.plan.specs.Limits.{row_words}
 use Rattle.plan.specs.Rows.{rows_of}
 use Rattle.plan.specs.Patterns.{Pattern, answer}
@@ -30,13 +32,13 @@ use Rattle.fulltext.specs.Positions.{limit}
 use Rattle.fulltext.specs.Documents.{found, matching, work_of, work}
 use Rattle.fulltext.proofs.Laws.Skips.{matching-none}
 use Rattle.matcher.specs.Inner.Cursors.{seek_from, sought, Stretch, list_end, list_cursor, Stands, AtDocument}
-use Rattle.plan.specs.Inner.Outline.{Tabled}
+use Rattle.plan.specs.Inner.Outline.{no_outline, Tabled}
 use Rattle.matcher.specs.Inner.Tables.{var_at, Placed, Cursors}
 use Rattle.matcher.proofs.Laws.Cursors.{seek_ge, seek-le, seek-below}
 use Rattle.matcher.proofs.Laws.Volume.{list-stretch}
 use Rattle.plan.proofs.Laws.Outline.{vars-within}
 use Rattle.plan.specs.Inner.Stack.{found_bits}
-use Rattle.search.specs.Inner.Walk.{Stood, Candidate, Pending, Brought, LeastDoc, Walks, SettledAll, Walking, Visited}
+use Rattle.search.specs.Inner.Walk.{Stood, Candidate, Pending, Brought, LeastDoc, Walks, SettledAll, Walking, seen_or_end, Visited}
 use Rattle.search.proofs.Laws.Tally.{var-there}
 
 -- the words of a row, by the plan's sizes
@@ -63,10 +65,9 @@ sought-stands v l d s = record {
   behind = λ j a b. seek-below v (d * 65536) (layout.start v l) (list_end v l) j a b;
 }
 
--- the part of a table that has four numbers for each pattern
-pub tabled-part : (p table : List ℕ) (n : ℕ) → n ≡ 4 * (sizes p).patterns → Tabled p table → Tabled p (take n table)
-tabled-part p table n e t k h =
-    rw (get_or-take n table (4 * k) 0 (omega arith), get_or-take n table (4 * k + 1) 0 (omega arith), get_or-take n table (4 * k + 2) 0 (omega arith), get_or-take n table (4 * k + 3) 0 (omega arith)) (t k h)
+-- the part of a table that has an outline for each pattern
+pub tabled-part : (p : List ℕ) (table : List Outline) (n : ℕ) → n ≡ (sizes p).patterns → Tabled p table → Tabled p (take n table)
+tabled-part p table n e t k h = rw (get_or-take n table k no_outline (omega arith)) (t k h)
 
 -- the part of the cursors that has one for each variable
 pub cursors-part : (v p : List ℕ) (d : ℕ) (ats ends : List ℕ) (n : ℕ) → n ≡ (sizes p).vars → Cursors v p d ats ends → Cursors v p d (take n ats) ends
@@ -77,7 +78,7 @@ pub seen_true : (v p : List ℕ) (bits doc : ℕ) (r : Bool) → ((found : Patte
 unfolding work work_of matching
 seen_true v p bits doc r told f = sym (told (found (lists_of v) doc) f)
 
-module _ (v p table orders ends : List ℕ) (w : Walks v p table orders ends) where
+module _ (v p : List ℕ) (table : List Outline) (orders ends : List ℕ) (w : Walks v p table orders ends) where
   -- the words of list 0
   pub starts-stretch : Stretch v (layout.start v 0) (list_end v 0)
   starts-stretch = let g = (given v p w.accepted).volume-accepted in list-stretch v g 0 (good v g).lists-some
@@ -143,11 +144,11 @@ module _ (v p table orders ends : List ℕ) (w : Walks v p table orders ends) wh
       pos = c.pos;
     }
 
-    pub seen-out : (starts : Cursor) → doc ≡ limit → Visited v p ends from (record { doc = doc; found = 0 }) ats ps docs starts
+    pub seen-out : (starts : Cursor) → doc ≡ limit → Visited v p ends from (seen_or_end None) ats ps docs starts
     seen-out starts e = record {
-      later = seen-from;
-      most = l.most;
-      none = seen_none;
+      later = let f = seen-from in omega arith;
+      most = omega arith;
+      none = λ j f h. seen_none j f (omega arith);
       found_are = λ h. absurd (let z : ⊥ = omega arith in z);
       least = λ h. absurd (let z : ⊥ = omega arith in z);
       walking = λ h. absurd (let z : ⊥ = omega arith in z);

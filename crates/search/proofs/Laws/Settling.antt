@@ -21,6 +21,7 @@ use Rattle.seq.proofs.Laws.Tests.{below_or, contrary}
 use Rattle.seq.proofs.Laws.Numbers.{run_ext}
 use Rattle.seq.proofs.Laws.Slices.{slice-run}
 use Rattle.volume.specs.Layout.{lists_of}
+use Rattle.plan.specs.declared.outline.Outline.{Outline}
 use Rattle.plan.specs.Rows.{rows_of}
 use Rattle.plan.specs.Patterns.{Pattern, no_row, patterns_of}
 use Rattle.plan.specs.Check.{sizes}
@@ -28,7 +29,7 @@ use Rattle.plan.specs.Accepted.{pattern_at}
 use Rattle.plan.specs.Inner.Outline.{vars_before, outline_at}
 use Rattle.plan.specs.Inner.Stack.{bits_of}
 use Rattle.plan.proofs.Laws.Stack.{bits-lt}
-use Rattle.plan.proofs.Laws.Outline.{vars-within}
+use Rattle.plan.proofs.Laws.Outline.{vars-within, outlined}
 use Rattle.fulltext.specs.Documents.{found}
 use Rattle.matcher.specs.declared.cursor.Document.{Document}
 use Rattle.matcher.specs.Inner.Cursors.{AtDocument}
@@ -148,19 +149,21 @@ module _ (v p ends docs : List ℕ) (d : ℕ) (ats₀ ps₀ : List ℕ) where
 
     module _ (e : get_or docs k 0 ≡ d) where
       -- what is asked to settle it
-      pub settling-ready : (table orders : List ℕ) → Walks v p table orders ends → (doc : Document) → doc.doc ≡ d → AtDocument v doc
+      pub settling-ready : (table : List Outline) (orders : List ℕ) → Walks v p table orders ends → (doc : Document) → doc.doc ≡ d → AtDocument v doc
           → (sizes p).vars ≤ length ats₀ → (sizes p).vars ≤ length ps₀ → Ready v p (outline_at table k) doc orders ends ats ps
-      settling-ready table orders w doc same at a b = record {
-        accepted = w.accepted;
-        pattern = h;
-        entry = w.tabled k h;
-        document = at;
-        ordered = rw ((w.tabled k h).outlines.vars_are, (w.tabled k h).first-is) (w.ordered k h);
-        ends-room = w.ends-room;
-        ats-room = let l = s.ats-length in omega arith;
-        positions-room = let l = s.positions-length in omega arith;
-        candidate = rw same (rw e at (s.kept k h (inl (omega arith))));
-      }
+      settling-ready table orders w doc same at a b =
+          let o = outlined table w.tabled k h refl in
+          record {
+            accepted = w.accepted;
+            pattern = o.there;
+            entry = o.entry;
+            document = at;
+            ordered = rw (o.vars_are, o.first-is) (w.ordered k h);
+            ends-room = w.ends-room;
+            ats-room = let l = s.ats-length in omega arith;
+            positions-room = let l = s.positions-length in omega arith;
+            candidate = rw (o.pattern-is, same) (rw e at (s.kept k h (inl (omega arith))));
+          }
 
       module _ (room : (sizes p).vars ≤ length ps₀) (b : Bool) (nexts qs : List ℕ) (t : Settled v p ends k d ats ps b nexts qs) where
         alike : (j : ℕ) → j < (sizes p).patterns → j ≢ k → Alike p ats ps nexts qs j

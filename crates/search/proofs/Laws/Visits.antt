@@ -26,6 +26,7 @@ use Rattle.seq.specs.Refusals.{answered}
 use Rattle.seq.proofs.Laws.Numbers.{length_run}
 use Rattle.seq.proofs.Laws.Keep.{keep-le}
 use Rattle.volume.specs.Layout.{lists_of}
+use Rattle.plan.specs.declared.outline.Outline.{Outline}
 use Rattle.plan.specs.Limits.{most_patterns, row_words, most_row_words}
 use Rattle.plan.specs.Rows.{rows_of}
 use Rattle.plan.specs.Check.{sizes}
@@ -76,7 +77,7 @@ pub visit-rows : (v p : List ℕ) (start : ℕ) (out₀ out : List ℕ) (d n : �
 visit-rows v p start out₀ out d n g = let l = docs-few (work v p) start d in let t = g.to in let r = g.rows in omega arith
 
 -- the row of the document, from its bits and positions, and its words
-module _ (v p table orders ends : List ℕ) (w : Walks v p table orders ends) (from : ℕ) (seen : Seen) (ats ps docs : List ℕ)
+module _ (v p : List ℕ) (table : List Outline) (orders ends : List ℕ) (w : Walks v p table orders ends) (from : ℕ) (seen : Seen) (ats ps docs : List ℕ)
     (starts : Cursor) (s : Visited v p ends from seen ats ps docs starts) (inside : seen.doc < limit) (n : ℕ) (e : n ≡ (sizes p).patterns)
   where
     pub visit-small : (k : ℕ) → k < n → halved seen.found k % 2 ≡ 1
@@ -112,7 +113,7 @@ module _ (v p ends : List ℕ) (start : ℕ) (out₀ : List ℕ) (from : ℕ) (s
 
     -- the row is put behind the others, where one more fits
     pub visit-put : (work v p).is_true seen.doc ≡ true → (wide : ℕ) → wide ≡ row_words (sizes p).patterns (sizes p).vars
-        → rows ≢ length out₀ / wide → (table orders : List ℕ) → Walks v p table orders ends → (n : ℕ) → n ≡ (sizes p).patterns
+        → rows ≢ length out₀ / wide → (table : List Outline) (orders : List ℕ) → Walks v p table orders ends → (n : ℕ) → n ≡ (sizes p).patterns
         → (out' : List ℕ)
         → out' ≡ take (rows * wide) out ++ row_by (starts_in (lists_of v) seen.doc) table seen.doc seen.found ps n
         ++ drop (rows * wide + length (row_by (starts_in (lists_of v) seen.doc) table seen.doc seen.found ps n)) out
@@ -134,7 +135,7 @@ module _ (v p ends : List ℕ) (start : ℕ) (out₀ : List ℕ) (from : ℕ) (s
         fits : rows < length out₀ / (work v p).width
         fits = let r = room-rows (work v p) (work-even v p) g (work-wide v p) in let q = ap (λ (n : ℕ). length out₀ / n) same in omega arith
 
-module _ (v p table orders ends : List ℕ) (w : Walks v p table orders ends) where
+module _ (v p : List ℕ) (table : List Outline) (orders ends : List ℕ) (w : Walks v p table orders ends) where
   -- a plan's patterns, and the words of a row
   pub visit-few : ((sizes p).patterns ≤ most_patterns) × (row_words (sizes p).patterns (sizes p).vars ≤ most_row_words)
   visit-few = let g = given v p w.accepted in (g.most-patterns, g.width)

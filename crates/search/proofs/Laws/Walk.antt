@@ -1,5 +1,5 @@
 -- How each pattern is brought to the next document in which it can be found. No contract cites this file.
---     walk-entry, walk-within, walk-few     a pattern's entry in the table, its variables among those of the plan, and how many it has
+--     walk-outline, walk-within, walk-few     a pattern's outline in the table, its variables among those of the plan, and how many it has
 --     walk_first, walk-order   the order of its variables, in the table of orders
 --     vars-behind, vars-apart  the variables of one pattern, and those of another
 --     Alike, stood-same, candidate-same     a pattern whose cursors have not moved
@@ -18,6 +18,7 @@ use lib.Seq.{get_or-set_same, get_or-set_other, take_all}
 use Rattle.seq.proofs.Laws.Tests.{both, below_or, true_or}
 use Rattle.seq.proofs.Laws.Decides.{decided, eqb_decides}
 use Rattle.volume.specs.Layout.{word, list_count, lists_of}
+use Rattle.plan.specs.declared.outline.Outline.{Outline}
 use Rattle.plan.specs.Check.{sizes}
 use Rattle.plan.specs.Accepted.{pattern_at, Given, WellMade}
 use Rattle.plan.proofs.Laws.Accepted.{given}
@@ -25,14 +26,14 @@ use Rattle.fulltext.specs.Calculus.{at}
 use Rattle.fulltext.specs.Matches.{all_hold, fits, starts_in, vars_in, matches_at}
 use Rattle.fulltext.specs.Documents.{found}
 use Rattle.matcher.specs.Inner.Cursors.{Stretch, Stands}
-use Rattle.plan.specs.Inner.Outline.{vars_before, Entry, outline_at}
+use Rattle.plan.specs.Inner.Outline.{vars_before, outline_at}
 use Rattle.matcher.specs.Inner.Tables.{var_at}
 use Rattle.matcher.specs.Inner.Order.{Order}
 use Rattle.search.specs.Inner.Walk.{Among, Has, Aligned, Stood, Candidate, Pending, Walks}
 use Rattle.fulltext.proofs.Laws.Positions.{lists-rise}
 use Rattle.fulltext.proofs.Laws.Least.{fits_iff, found_iff}
 use Rattle.matcher.proofs.Laws.Volume.{list-stretch, held}
-use Rattle.plan.proofs.Laws.Outline.{vars_before-next, vars-within}
+use Rattle.plan.proofs.Laws.Outline.{vars_before-next, vars-within, Outlined, outlined}
 use Rattle.matcher.proofs.Laws.Placed.{var_at-is}
 
 -- the variables of a later pattern stand behind those of an earlier one
@@ -78,7 +79,7 @@ module _ (v p ats ends ps nexts qs : List ℕ) (k d : ℕ) (same : Alike p ats p
   pending-same : (r : ℕ) (fresh : Bool) → Pending v p ats ends ps k d r fresh → Pending v p nexts ends qs k d r fresh
   pending-same r fresh q = record { due = λ b. stood-same (q.due b); ahead = λ f h. candidate-same r (q.ahead f h) }
 
-module _ (v p table orders ends : List ℕ) (w : Walks v p table orders ends) where
+module _ (v p : List ℕ) (table : List Outline) (orders ends : List ℕ) (w : Walks v p table orders ends) where
   g : Given v p
   g = given v p w.accepted
 
@@ -86,36 +87,36 @@ module _ (v p table orders ends : List ℕ) (w : Walks v p table orders ends) wh
     made : WellMade (list_count v) (pattern_at p k)
     made = g.well-made k inside
 
-    walk-entry : Entry p (outline_at table k)
-    walk-entry = w.tabled k inside
+    walk-outline : Outlined p k (outline_at table k)
+    walk-outline = outlined table w.tabled k inside refl
 
-    pub walk-within : get_or table (4 * k) 0 + get_or table (4 * k + 1) 0 ≤ (sizes p).vars
-    walk-within = let a = walk-entry.first-is in let b = walk-entry.outlines.vars_are in let l = vars-within p k inside in omega arith
+    pub walk-within : (outline_at table k).first + (outline_at table k).vars ≤ (sizes p).vars
+    walk-within = let a = walk-outline.first-is in let b = walk-outline.vars_are in let l = vars-within p k inside in omega arith
 
-    pub walk-few : (1 ≤ get_or table (4 * k + 1) 0) × (get_or table (4 * k + 1) 0 ≤ 8)
-    walk-few = let b = walk-entry.outlines.vars_are in let l = made.some-vars in let m = made.most-vars in (omega arith, omega arith)
+    pub walk-few : (1 ≤ (outline_at table k).vars) × ((outline_at table k).vars ≤ 8)
+    walk-few = let b = walk-outline.vars_are in let l = made.some-vars in let m = made.most-vars in (omega arith, omega arith)
 
-    pub walk_first : get_or table (4 * k) 0 ≤ length orders
+    pub walk_first : (outline_at table k).first ≤ length orders
     walk_first =
-        let a = walk-entry.first-is in
+        let a = walk-outline.first-is in
         let r = (w.ordered k inside).room in
         let l = made.some-vars in
         let d = length-drop (vars_before p k) orders in
         omega arith
 
-    pub walk-order : Order (get_or table (4 * k + 1) 0) (take (length orders - get_or table (4 * k) 0) (drop (get_or table (4 * k) 0) orders))
+    pub walk-order : Order ((outline_at table k).vars) (take (length orders - (outline_at table k).first) (drop ((outline_at table k).first) orders))
     walk-order =
-        let a = walk-entry.first-is in
+        let a = walk-outline.first-is in
         let d = length-drop (vars_before p k) orders in
         let t = take_all (length orders - vars_before p k) (drop (vars_before p k) orders) (omega arith) in
-        rw (walk-entry.outlines.vars_are, a, t) (w.ordered k inside)
+        rw (walk-outline.vars_are, a, t) (w.ordered k inside)
 
     -- a variable of the pattern, by its number among those of the plan
-    among : (x : ℕ) → Among (get_or table (4 * k) 0) (get_or table (4 * k + 1) 0) x → Among (vars_before p k) (length (pattern_at p k).vars) x
-    among x a = let e = walk-entry.first-is in let b = walk-entry.outlines.vars_are in (omega arith, omega arith)
+    among : (x : ℕ) → Among ((outline_at table k).first) ((outline_at table k).vars) x → Among (vars_before p k) (length (pattern_at p k).vars) x
+    among x a = let e = walk-outline.first-is in let b = walk-outline.vars_are in (omega arith, omega arith)
 
-    among-back : (x : ℕ) → Among (vars_before p k) (length (pattern_at p k).vars) x → Among (get_or table (4 * k) 0) (get_or table (4 * k + 1) 0) x
-    among-back x a = let e = walk-entry.first-is in let b = walk-entry.outlines.vars_are in (omega arith, omega arith)
+    among-back : (x : ℕ) → Among (vars_before p k) (length (pattern_at p k).vars) x → Among ((outline_at table k).first) ((outline_at table k).vars) x
+    among-back x a = let e = walk-outline.first-is in let b = walk-outline.vars_are in (omega arith, omega arith)
 
     list-of : (x : ℕ) → Among (vars_before p k) (length (pattern_at p k).vars) x → var_at p x ≡ get_or (pattern_at p k).vars (x - vars_before p k) 0
     list-of x a = let e : vars_before p k + (x - vars_before p k) ≡ x = omega arith in subst (λ (y : ℕ). var_at p y ≡ get_or (pattern_at p k).vars (x - vars_before p k) 0) e (var_at-is p k (x - vars_before p k) inside (omega arith))
@@ -124,7 +125,7 @@ module _ (v p table orders ends : List ℕ) (w : Walks v p table orders ends) wh
     there x a = rw (list-of x a) (made.lists (x - vars_before p k) (omega arith)).1
 
     module _ (ats : List ℕ) (d : ℕ) (s : Stood v p ats ends k d) where
-      pub walk-stretch : (x : ℕ) → Among (get_or table (4 * k) 0) (get_or table (4 * k + 1) 0) x → Stretch v (get_or ats x 0) (get_or ends x 0)
+      pub walk-stretch : (x : ℕ) → Among ((outline_at table k).first) ((outline_at table k).vars) x → Stretch v (get_or ats x 0) (get_or ends x 0)
       walk-stretch x b =
           let a = among x b in
           let t = s x a in
@@ -150,7 +151,7 @@ module _ (v p table orders ends : List ℕ) (w : Walks v p table orders ends) wh
               (below_or j (get_or ats x 0))
 
       pub brought : (r : ℕ) (nexts ps₀ ps : List ℕ)
-          → Aligned v ends ats (get_or table (4 * k) 0) (get_or table (4 * k + 1) 0) d r nexts ps₀ ps → Candidate v p nexts ends ps k d r
+          → Aligned v ends ats ((outline_at table k).first) ((outline_at table k).vars) d r nexts ps₀ ps → Candidate v p nexts ends ps k d r
       brought r nexts ps₀ ps al = record {
         from = al.from;
         to = al.to;
@@ -172,7 +173,7 @@ module _ (v p table orders ends : List ℕ) (w : Walks v p table orders ends) wh
 
     -- the other patterns' cursors stay
     others_same : (ats nexts ps₀ ps : List ℕ) (d r j : ℕ) → j < (sizes p).patterns → j ≢ k
-        → Aligned v ends ats (get_or table (4 * k) 0) (get_or table (4 * k + 1) 0) d r nexts ps₀ ps → Alike p ats ps₀ nexts ps j
+        → Aligned v ends ats ((outline_at table k).first) ((outline_at table k).vars) d r nexts ps₀ ps → Alike p ats ps₀ nexts ps j
     others_same ats nexts ps₀ ps d r j h n al = record {
       cursors = λ x a. al.others x (λ b. vars-apart p j k x n h inside a (among x b));
       positions = λ x a. al.positions-others x (λ b. vars-apart p j k x n h inside a (among x b));
@@ -215,9 +216,9 @@ module _ (v p ends : List ℕ) (d : ℕ) (fresh : Bool) (ats₀ ps₀ docs₀ : 
     pub bringing-due : (fresh ≡ true) ⊎ (get_or docs k 0 < d) → Stood v p ats ends k d
     bringing-due c = (b.waiting k (omega arith) h).due c
 
-    pub bringing-next : (table orders : List ℕ) (w : Walks v p table orders ends) → (sizes p).patterns ≤ length docs₀
+    pub bringing-next : (table : List Outline) (orders : List ℕ) (w : Walks v p table orders ends) → (sizes p).patterns ≤ length docs₀
         → (r : ℕ) (nexts qs : List ℕ) → (fresh ≡ true) ⊎ (get_or docs k 0 < d)
-        → Aligned v ends ats (get_or table (4 * k) 0) (get_or table (4 * k + 1) 0) d r nexts ps qs
+        → Aligned v ends ats ((outline_at table k).first) ((outline_at table k).vars) d r nexts ps qs
         → Bringing v p ends d fresh ats₀ ps₀ docs₀ nexts qs (set docs k r) (k + 1)
     bringing-next table orders w room r nexts qs c al = record {
       most = omega arith;

@@ -1,6 +1,6 @@
 -- The walk over the documents: where the cursors of a pattern stand, and what is known of the documents that they have passed. Assumes
 -- nothing.
-use Rattle.std.specs.Prelude.{ℕ, ◌+◌, ◌*◌, ◌<◌, ◌≤◌, ◌≡◌, Bool, true, false, ◌⊎◌, ◌≢◌, List, length, get_or, take, drop}
+use Rattle.std.specs.Prelude.{ℕ, ◌+◌, ◌*◌, ◌<◌, ◌≤◌, ◌≡◌, Option, Some, None, Bool, true, false, ◌⊎◌, ◌≢◌, List, length, get_or, take, drop}
 use Rattle.std.proofs.Math.Option.{some}
 use Rattle.volume.specs.Posting.{doc_of, pos_of}
 use Rattle.volume.specs.Layout.{word, lists_of}
@@ -88,10 +88,10 @@ abbrev pub Ordered : List ℕ → List ℕ → Type 0
 Ordered p orders = (k : ℕ) → k < (sizes p).patterns → Order (length (pattern_at p k).vars) (drop (vars_before p k) orders)
 
 -- an accepted volume and plan, with the plan's table, an order of each pattern's variables and the ends of their lists
-pub record Walks (v p table orders ends : List ℕ) : Type 0 where
+pub record Walks (v p : List ℕ) (table : List Outline) (orders ends : List ℕ) : Type 0 where
   pub accepted : Accepted v p
   pub tabled : Tabled p table
-  pub table-room : 4 * (sizes p).patterns ≤ length table
+  pub table-length : length table ≡ (sizes p).patterns
   pub ends-room : (sizes p).vars ≤ length ends
   pub ordered : Ordered p orders
 
@@ -142,6 +142,11 @@ pub record Walking (v p ends ats ps docs : List ℕ) (from : ℕ) (fresh : Bool)
   pub pending : (k : ℕ) → k < (sizes p).patterns → Pending v p ats ends ps k from (get_or docs k 0) fresh
   pub starts-at : Stands v 0 from starts.at
   pub starts-end : starts.end ≡ list_end v 0
+
+-- what is seen of the next document; 65,536 and nothing found where there is none
+abbrev pub seen_or_end : Option Seen → Seen
+seen_or_end None = record { doc = limit; found = 0 }
+seen_or_end (Some seen) = seen
 
 -- the next document in which a pattern can be found, or 65,536: no true one is in front of it, which patterns are found there, and at
 -- which positions, and where the walk goes on

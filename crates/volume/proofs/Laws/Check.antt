@@ -2,6 +2,7 @@
 --     stream-version .. stream-answer     stream_verdict by its first test that fails
 --     verdict-length .. verdict_stream    verdict by its first test that fails
 --     length_wrong_decides .. padding_wrong_decides    what each test decides
+--     RightLength, length_right           what a length that is not wrong is
 --     Right, right, right-passes          what a block that is not wrong holds, and back
 --     blocks-clear .. tail-found          the tests of several places
 --     Good, good, accepted                what acceptance gives, and back
@@ -154,6 +155,27 @@ module _ (v : List ℕ) where
   unfolding padding_wrong
   padding_wrong_decides i = not_decides (eqb_decides (word v i) 0)
 
+-- what a length that is not wrong is
+pub record RightLength (v : List ℕ) : Type 0 where
+  pub whole : length v ≡ 512 * blocks v
+  pub some : 1 ≤ blocks v
+  pub most : blocks v ≤ 8192
+
+pub length_right : (v : List ℕ) → length_wrong v ≡ false → RightLength v
+length_right v e = record { whole = let m = rest in omega arith; some = let m = rest in let z = some in omega arith; most = most }
+  where
+    none : (length v ≡ 0) ⊎ ((length v % 512 ≢ 0) ⊎ (8192 < blocks v)) → ⊥
+    none = (length_wrong_decides v).no e
+
+    some : length v ≢ 0
+    some q = none (inl q)
+
+    rest : length v % 512 ≡ 0
+    rest = stable (eqb_decides (length v % 512) 0) (λ n. none (inr (inl n)))
+
+    most : blocks v ≤ 8192
+    most = let n : 8192 < blocks v → ⊥ = λ h. none (inr (inr h)) in omega arith
+
 -- what a block that is not wrong holds
 pub record Right (v : List ℕ) (k : ℕ) : Type 0 where
   pub number-right : block_number v k ≡ k
@@ -278,12 +300,9 @@ module _ (v : List ℕ) where
   pub good : Accepted v → Good v
   unfolding order_wrong
   good e = record {
-    whole = let m : length v % 512 ≡ 0 = stable (eqb_decides (length v % 512) 0) (λ n. len (inr (inl n))) in omega arith;
-    blocks-some =
-        let m : length v % 512 ≡ 0 = stable (eqb_decides (length v % 512) 0) (λ n. len (inr (inl n))) in
-        let z : length v ≢ 0 = λ (q : length v ≡ 0). len (inl q) in
-        omega arith;
-    blocks-most = not-lt (λ h. len (inr (inr h)));
+    whole = len.whole;
+    blocks-some = len.some;
+    blocks-most = len.most;
     blocks-right = blocks-clear p.blocks-passed;
     version-is = stable (eqb_decides (version v) 1) ((version_wrong_decides v).no p.version-passed);
     lists-some = at_least (λ h. range (inl h));
@@ -304,8 +323,8 @@ module _ (v : List ℕ) where
       at_least : {a : ℕ} → (a < 1 → ⊥) → 1 ≤ a
       at_least h = omega arith
 
-      len : (length v ≡ 0) ⊎ ((length v % 512 ≢ 0) ⊎ (8192 < blocks v)) → ⊥
-      len = (length_wrong_decides v).no p.length-passed
+      len : RightLength v
+      len = length_right v p.length-passed
 
       range : (list_count v < 1) ⊎ (1024 < list_count v) → ⊥
       range = (list_count_wrong_decides v).no p.list_count-passed

@@ -1,22 +1,23 @@
 -- The tests of refusal 17 in order, then 16, then the matches.
 use Prim.Native.Nat.{ℕ, ◌≤◌}
 use native.Mathlib.Omega.{arith}
-use mathlib.Core.Path.{sym, ap, subst, ◌∙◌}
+use mathlib.Core.Path.{refl, sym, ap, subst, ◌∙◌}
 use mathlib.Core.Bool.{true, false}
+use Rattle.std.specs.Prelude.{Ok}
 use Rattle.plan.specs.Check.{sizes}
+use Rattle.plan.specs.Inner.Outline.{outline_at}
 use Rattle.matcher.specs.declared.cursor.Cursor.{Cursor}
 use Rattle.plan.proofs.Laws.Accepted.{given}
 use Rattle.plan.proofs.Laws.Outline.{Outlined, outlined}
 use Rattle.matcher.proofs.Laws.Range.{range-number, range_doc, range_small}
 use Rattle.matcher.proofs.Laws.Testing.{small_decides}
 use Rattle.volume.proofs.Laws.Check.{good}
-use Rattle.enumeration.specs.declared.answers.Enumerated.{Enumerated}
-use Rattle.enumeration.specs.Answers.{said_matched, said_by}
+use Rattle.enumeration.specs.Answers.{said_matched}
 use Rattle.enumeration.specs.Enumeration.{Kept}
 use Rattle.enumeration.proofs.Laws.Enumerating.{matched_17, matched_16, told-refused}
 use Rattle.enumeration.proofs.Laws.Placing.{cursor-stretch, cursor-mark, document-at}
 use Rattle.enumeration.proofs.enumerate.matches_of.Goals as goal
-use Rattle.enumeration.proofs.enumerate.matches_of.Goals.{After-outline_at-outline}
+use Rattle.enumeration.proofs.enumerate.matches_of.Goals.{After-lay_out, then-from-outline-via-then-from-outline, then-from-outline-via-else-from-outline+then-doc-gt-LAST_DOC, then-from-outline-via-else-from-outline+else-doc-gt-LAST_DOC+then-not-in_document}
 
 pub lay_out-requires : goal.lay_out-requires
 lay_out-requires c =
@@ -27,67 +28,49 @@ lay_out-requires c =
       patterns_in_bounds = omega arith;
     }
 
-pub outline_at-outline-requires : goal.outline_at-outline-requires
-outline_at-outline-requires c =
+pub bounds-table-pattern : goal.bounds-table-pattern
+bounds-table-pattern c =
     let m = (given _ _ c.requires.accepted).most-patterns in
     let l = c.lay_out.auto.table in
     omega arith
 
--- it is that of the pattern
-outline : (c : After-outline_at-outline) → let a = c.args in Outlined a.plan.now a.pattern c.outline_at-outline.result
-outline c =
-    let l = c.lay_out in
-    outlined l.new.table l.ensures c.args.pattern (let p = c.requires in omega arith) c.outline_at-outline.ensures
+-- the outline that is read is that of the pattern
+outline : (c : After-lay_out) → let a = c.args in Outlined a.plan.now a.pattern (outline_at c.lay_out.new.table a.pattern)
+outline c = let p = c.requires in outlined c.lay_out.new.table c.lay_out.ensures c.args.pattern (omega arith) refl
 
-pub returns-then-from-vars : goal.returns-then-from-vars
-returns-then-from-vars c =
-    let o = outline (goal.at.returns-then-from-vars c).After-outline_at-outline in
+pub returns-then-from-outline : goal.returns-then-from-outline
+returns-then-from-outline c =
+    let o = outline (goal.at.returns-then-from-outline c).After-lay_out in
     let a = c.args in
-    let r = c.alone.ensures in
-    let w = told-refused a.volume.now a.plan.now a.pattern a.doc a.from.now a.out.now c.alone.result 17 0 (ap (λ (x : Enumerated). said_by x c.alone.result.next) r.answer_value) r.next_value
-    (matched_17 _ _ _ _ _ _ (sizes a.plan.now) c.requires.accepted (range-number _ _ _ _ _ (omega arith) (λ e. c.if-from-vars.true (omega arith)))) in
-    record { kept = w.0; next_value = w.1 }
+    told-refused a.volume.now a.plan.now a.pattern a.doc a.from.now a.out.now 17 0
+    (matched_17 _ _ _ _ _ _ (sizes a.plan.now) c.requires.accepted
+    (elim c.then-from-outline.branch [
+      | then-from-outline-via-then-from-outline w ↦ range-number _ _ _ _ _ (omega arith) (λ e. omega arith)
+      | then-from-outline-via-else-from-outline+then-doc-gt-LAST_DOC w ↦ range_doc _ _ _ _ _ (omega arith) (omega arith) (omega arith)
+      | then-from-outline-via-else-from-outline+else-doc-gt-LAST_DOC+then-not-in_document w
+          ↦ range_small _ _ _ _ _ (omega arith) (omega arith) (omega arith) false (sym w.in_document.ensures ∙ w.if-not-in_document.true)
+    ]))
 
-pub returns-then-doc-gt-LAST_DOC : goal.returns-then-doc-gt-LAST_DOC
-returns-then-doc-gt-LAST_DOC c =
-    let o = outline (goal.at.returns-then-doc-gt-LAST_DOC c).After-outline_at-outline in
+pub returns-then-out-outline : goal.returns-then-out-outline
+returns-then-out-outline c =
+    let o = outline (goal.at.returns-then-out-outline c).After-lay_out in
     let a = c.args in
-    let r = c.alone-then-doc-gt-LAST_DOC.ensures in
-    let w = told-refused a.volume.now a.plan.now a.pattern a.doc a.from.now a.out.now c.alone-then-doc-gt-LAST_DOC.result 17 0 (ap (λ (x : Enumerated). said_by x c.alone-then-doc-gt-LAST_DOC.result.next) r.answer_value) r.next_value
-    (matched_17 _ _ _ _ _ _ (sizes a.plan.now) c.requires.accepted (range_doc _ _ _ _ _ (omega arith) (omega arith) c.if-doc-gt-LAST_DOC.true)) in
-    record { kept = w.0; next_value = w.1 }
-
-pub returns-then-not-in_document : goal.returns-then-not-in_document
-returns-then-not-in_document c =
-    let o = outline (goal.at.returns-then-not-in_document c).After-outline_at-outline in
-    let a = c.args in
-    let r = c.alone-then-not-in_document.ensures in
-    let w = told-refused a.volume.now a.plan.now a.pattern a.doc a.from.now a.out.now c.alone-then-not-in_document.result 17 0 (ap (λ (x : Enumerated). said_by x c.alone-then-not-in_document.result.next) r.answer_value) r.next_value
-    (matched_17 _ _ _ _ _ _ (sizes a.plan.now) c.requires.accepted (range_small _ _ _ _ _ (omega arith) (omega arith) (omega arith) false (sym c.in_document.ensures ∙ c.if-not-in_document.true))) in
-    record { kept = w.0; next_value = w.1 }
-
-pub returns-then-out-vars : goal.returns-then-out-vars
-returns-then-out-vars c =
-    let o = outline (goal.at.returns-then-out-vars c).After-outline_at-outline in
-    let a = c.args in
-    let r = c.alone-then-out-vars.ensures in
-    let w = told-refused a.volume.now a.plan.now a.pattern a.doc a.from.now a.out.now c.alone-then-out-vars.result 16 0 (ap (λ (x : Enumerated). said_by x c.alone-then-out-vars.result.next) r.answer_value) r.next_value
+    told-refused a.volume.now a.plan.now a.pattern a.doc a.from.now a.out.now 16 0
     (matched_16 _ _ _ _ _ _ (sizes a.plan.now) c.requires.accepted (range_small _ _ _ _ _ (omega arith) (omega arith) (omega arith) true (sym c.in_document.ensures ∙ c.if-not-in_document.false))
-    (let v = o.entry.outlines.vars_are in let k = o.pattern-is in let t = c.if-out-vars.true in omega arith)) in
-    record { kept = w.0; next_value = w.1 }
+    (let v = o.entry.outlines.vars_are in let k = o.pattern-is in omega arith))
 
 -- the pattern has at most eight variables
-few : (c : After-outline_at-outline) → c.outline_at-outline.result.vars ≤ 8
+few : (c : After-lay_out) → (outline_at c.lay_out.new.table c.args.pattern).vars ≤ 8
 few c =
     let o = outline c in
-    let m = ((given _ _ c.requires.accepted).well-made c.outline_at-outline.result.pattern o.there).most-vars in
+    let m = ((given _ _ c.requires.accepted).well-made _ o.there).most-vars in
     let v = o.entry.outlines.vars_are in
     omega arith
 
 pub set_cursors-requires : goal.set_cursors-requires
 set_cursors-requires c =
-    let o = outline (goal.at.set_cursors-requires c).After-outline_at-outline in
-    let m = few (goal.at.set_cursors-requires c).After-outline_at-outline in
+    let o = outline (goal.at.set_cursors-requires c).After-lay_out in
+    let m = few (goal.at.set_cursors-requires c).After-lay_out in
     record {
       accepted = c.requires.accepted;
       pattern_bound = o.there;
@@ -106,8 +89,8 @@ seek-starts-requires c =
 
 pub rarest_first-requires : goal.rarest_first-requires
 rarest_first-requires c =
-    let o = outline (goal.at.rarest_first-requires c).After-outline_at-outline in
-    let m = few (goal.at.rarest_first-requires c).After-outline_at-outline in
+    let o = outline (goal.at.rarest_first-requires c).After-lay_out in
+    let m = few (goal.at.rarest_first-requires c).After-lay_out in
     record {
       accepted = c.requires.accepted;
       pattern_bound = o.there;
@@ -117,8 +100,8 @@ rarest_first-requires c =
 
 pub write_matches-requires : goal.write_matches-requires
 write_matches-requires c =
-    let o = outline (goal.at.write_matches-requires c).After-outline_at-outline in
-    let m = few (goal.at.write_matches-requires c).After-outline_at-outline in
+    let o = outline (goal.at.write_matches-requires c).After-lay_out in
+    let m = few (goal.at.write_matches-requires c).After-lay_out in
     let v = o.entry.outlines.vars_are in
     let k = o.pattern-is in
     let e = c.set_cursors.ensures in
@@ -146,15 +129,8 @@ write_matches-requires c =
 
 pub returns : goal.returns
 returns c =
-    let w = c.write_matches.ensures in
     let a = c.args in
-    let r = c.write_matches in
-    let back = r.new.out in record {
-      kept = subst
-          (λ (k : ℕ).
-          Kept a.volume.now a.plan.now k a.doc a.from.now
-          (record { lent = a.out.now; says = said_matched r.result; back = back }))
-          (outline (goal.at.returns c).After-outline_at-outline).pattern-is
-          w.kept;
-      next_value = w.next_value;
-    }
+    subst
+    (λ (k : ℕ). Kept a.volume.now a.plan.now k a.doc a.from.now (record { lent = a.out.now; says = said_matched (Ok c.write_matches.result); back = c.write_matches.new.out }))
+    (outline (goal.at.returns c).After-lay_out).pattern-is
+    c.write_matches.ensures

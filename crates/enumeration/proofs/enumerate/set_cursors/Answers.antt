@@ -1,4 +1,4 @@
-use Prim.Native.Nat.{◌+◌, ◌-◌, ◌<◌}
+use Prim.Native.Nat.{◌+◌, ◌<◌}
 use native.Mathlib.Omega.{arith}
 use mathlib.Core.Path.{◌≡◌}
 use lib.ListN.{get_or}
@@ -8,8 +8,8 @@ use Rattle.volume.proofs.Laws.Check.{good}
 use Rattle.plan.specs.Accepted.{pattern_at}
 use Rattle.plan.proofs.Laws.Accepted.{given}
 use Rattle.matcher.specs.Inner.Cursors.{list_cursor}
-use Rattle.matcher.proofs.Laws.Placed.{Voiced, voiced, voiced-list}
-use Rattle.enumeration.proofs.Laws.Placing.{starts_cursor, cursor-stretch, cursor-placed, placing-first, placing-next}
+use Rattle.matcher.proofs.Laws.Placed.{voiced, voiced-list}
+use Rattle.enumeration.proofs.Laws.Placing.{starts_cursor, cursor-stretch, cursor-placed, placing-next}
 use Rattle.enumeration.proofs.enumerate.set_cursors.Goals as goal
 use Rattle.enumeration.proofs.enumerate.set_cursors.Goals.{After-list_at-list, In-loop-x, Start}
 
@@ -31,61 +31,35 @@ list_starts-requires c =
       n_in_bounds = omega arith;
     }
 
-pub overflow_sub-row : goal.overflow_sub-row
-overflow_sub-row c = let r = c.requires.outlines.room in omega arith
-
-pub loop-x-init : goal.loop-x-init
-loop-x-init c = (placing-first _ _ _ _ _, omega arith)
-
--- the VOICE row of variable x
-voice : (c : In-loop-x)
-    → let a = c.args in
-    Voiced a.volume.now a.plan.now (a.outline.condition - a.outline.vars + c.loop-x.x)
-    (get_or (pattern_at a.plan.now a.outline.pattern).vars c.loop-x.x 0)
-voice c =
-    let p = c.requires in
-    voiced c.args.volume.now c.args.plan.now p.accepted c.args.outline p.pattern_bound p.outlines c.loop-x.x (omega arith)
-
-voice' : (c : After-list_at-list)
-    → let a = c.args in
-    Voiced a.volume.now a.plan.now (a.outline.condition - a.outline.vars + c.loop-x.x)
-    (get_or (pattern_at a.plan.now a.outline.pattern).vars c.loop-x.x 0)
-voice' c =
-    let p = c.requires in
-    voiced c.args.volume.now c.args.plan.now p.accepted c.args.outline p.pattern_bound p.outlines c.loop-x.x (omega arith)
-
--- its list is one of the volume's
+-- its list, one of the volume's
 the-list : (c : After-list_at-list)
     → let a = c.args in
-    c.list_at-list.result ≡ get_or (pattern_at a.plan.now a.outline.pattern).vars c.loop-x.x 0
-the-list c = voiced-list (voice' c) c.list_at-list.result c.list_at-list.ensures
-
-there : (c : After-list_at-list)
-    → c.list_at-list.result < list_count c.args.volume.now
-there c = rw (the-list c) (voice' c).there
-
-pub overflow_add-row : goal.overflow_add-row
-overflow_add-row c =
-    let t = (voice c).inside in
-    let g = (given _ _ c.requires.accepted).most-rows in
-    omega arith
+    (c.list_at-list.result ≡ get_or (pattern_at a.plan.now a.outline.pattern).vars c.loop-x.x 0) × (c.list_at-list.result < list_count a.volume.now)
+the-list c =
+    let p = c.requires in
+    let t = voiced c.args.volume.now c.args.plan.now p.accepted c.args.outline p.pattern_bound p.outlines c.loop-x.x (omega arith) in
+    let e = voiced-list t c.list_at-list.result c.list_at-list.ensures in
+    (e, rw e t.there)
 
 pub list_at-list-requires : goal.list_at-list-requires
-list_at-list-requires c = let t = voice c in record {
-  row_bound = t.inside;
-  row_value = t.formed;
-  by_index = (_, t.kind-is);
-}
+list_at-list-requires c =
+    let p = c.requires in
+    let t = voiced c.args.volume.now c.args.plan.now p.accepted c.args.outline p.pattern_bound p.outlines c.loop-x.x (omega arith) in
+    record {
+      row_bound = t.inside;
+      row_value = t.formed;
+      by_index = (_, t.kind-is);
+    }
 
 pub bounds-starts-list : goal.bounds-starts-list
 bounds-starts-list c =
-    let h = there c in
+    let h = (the-list c).1 in
     let m = (good _ (accepted (goal.at.bounds-starts-list c).Start)).lists-most in
     omega arith
 
 pub bounds-starts-list-in-loop-x : goal.bounds-starts-list-in-loop-x
 bounds-starts-list-in-loop-x c =
-    let h = there c in
+    let h = (the-list c).1 in
     let m = (good _ (accepted (goal.at.bounds-starts-list-in-loop-x c).Start)).lists-most in
     omega arith
 
@@ -94,37 +68,15 @@ on_list : (c : After-list_at-list)
     → let i = c.list_at-list.result in let t = c.list_starts.new.starts in
     record { at = get_or t i 0; end = get_or t (i + 1) 0 } ≡ list_cursor c.args.volume.now i
 on_list c =
-    let h = there c in
+    let h = (the-list c).1 in
     let e = c.word_at-lists.ensures in
     starts_cursor _ c.list_starts.new.starts _ c.list_starts.ensures.by_index c.list_at-list.result (omega arith)
 
 pub seek-cursor-requires : goal.seek-cursor-requires
-seek-cursor-requires c = cursor-stretch _ (accepted (goal.at.seek-cursor-requires c).Start) _ (there c) _ (on_list c)
-
-pub bounds-firsts-x : goal.bounds-firsts-x
-bounds-firsts-x c = let e = c.loop-x.invariant.0.firsts-length in omega arith
-
-pub bounds-ends-x : goal.bounds-ends-x
-bounds-ends-x c = let e = c.loop-x.invariant.0.ends-length in omega arith
+seek-cursor-requires c = cursor-stretch _ (accepted (goal.at.seek-cursor-requires c).Start) _ (the-list c).1 _ (on_list c)
 
 pub loop-x-preserved : goal.loop-x-preserved
 loop-x-preserved c =
-    let i = c.loop-x.invariant in
-    let p = cursor-placed _ (accepted (goal.at.loop-x-preserved c).Start) _ (there (goal.at.loop-x-preserved c).After-list_at-list) _ (on_list (goal.at.loop-x-preserved c).After-list_at-list) _ c.seek-cursor.result c.seek-cursor.ensures.value in (
-      placing-next _ _ _ _ _ c.loop-x.firsts c.loop-x.ends c.loop-x.x _ _ i.0 (omega arith) (omega arith)
-          (rw (← the-list (goal.at.loop-x-preserved c).After-list_at-list) p),
-      omega arith,
-    )
-
-pub shape_of-firsts : goal.shape_of-firsts
-shape_of-firsts c = c.loop-x.invariant.0.firsts-length
-
-pub shape_of-ends : goal.shape_of-ends
-shape_of-ends c = c.loop-x.invariant.0.ends-length
-
-pub returns : goal.returns
-returns c = let i = c.loop-x.invariant in record {
-  firsts_len_unchanged = i.0.firsts-length;
-  ends_len_unchanged = i.0.ends-length;
-  by_index = λ x h. i.0.placed x (omega arith);
-}
+    let p = cursor-placed _ (accepted (goal.at.loop-x-preserved c).Start) _ (the-list (goal.at.loop-x-preserved c).After-list_at-list).1 _ (on_list (goal.at.loop-x-preserved c).After-list_at-list) _ c.seek-cursor.result c.seek-cursor.ensures.value in
+    placing-next _ _ _ _ _ c.loop-x.firsts c.loop-x.ends c.loop-x.x _ _ c.loop-x.invariant (omega arith) (omega arith)
+    (rw (← (the-list (goal.at.loop-x-preserved c).After-list_at-list).0) p)

@@ -1,4 +1,4 @@
-use Prim.Native.Nat.{ℕ, ◌+◌, ◌<◌, ◌≤◌, min, max}
+use Prim.Native.Nat.{ℕ, ◌+◌, ◌<◌, ◌≤◌}
 use native.Mathlib.Omega.{arith}
 use mathlib.Core.Path.{◌≡◌, sym, ap, ap₂, ◌∙◌}
 use Rattle.seq.specs.Lists.{rises}
@@ -6,8 +6,7 @@ use Rattle.seq.specs.Numbers.{run}
 use Rattle.volume.specs.Layout.{word, list_count, lead, extent, start, postings_of}
 use Rattle.volume.proofs.Laws.Check.{Good, good}
 use Rattle.volume.proofs.Laws.Starts.{start_first, start-next}
-use Rattle.join.specs.declared.docs.DocRange.{DocRange}
-use Rattle.join.specs.Inner.Docs.{range_of}
+use Rattle.join.specs.Inner.Docs.{wider, range_of}
 use Rattle.join.proofs.Laws.Docs.{range_append, first_postings, first_postings-none, first_postings-next, first_postings-all}
 use Rattle.join.proofs.docs.doc_range.Goals as goal
 use Rattle.join.proofs.docs.doc_range.Goals.{After-count_at-count, Start}
@@ -22,9 +21,8 @@ lead-start-requires c = let g = accepted (goal.at.lead-start-requires c).Start i
 pub loop-i-init : goal.loop-i-init
 loop-i-init c =
     let v = c.args.volume.now in (
-      c.no_docs-range.ensures ∙ sym (first_postings-none v),
+      sym (first_postings-none v),
       c.lead-start.ensures ∙ ap (λ (n : ℕ). lead n) c.requires.lists_value ∙ sym (start_first v),
-      omega arith,
     )
 
 pub count_at-count-requires : goal.count_at-count-requires
@@ -73,12 +71,9 @@ loop-i-preserved c =
     let i = c.loop-i.i in
     let a = c.loop-i.invariant.0 in
     let b : c.list_docs.result ≡ range_of (postings_of v i)
-    = c.list_docs.ensures ∙ ap range_of (list-is (goal.at.loop-i-preserved c).After-count_at-count) in
-    let low = c.wider-range.ensures.low_value ∙ ap₂ (λ (x y : DocRange). min x.low y.low) a b in
-    let past = c.wider-range.ensures.past_value ∙ ap₂ (λ (x y : DocRange). max x.past y.past) a b in (
-      range_append c.wider-range.result (first_postings v i) (postings_of v i) low past ∙ ap range_of (sym (first_postings-next v i)),
+    = c.list_docs.ensures ∙ ap range_of (list-is (goal.at.loop-i-preserved c).After-count_at-count) in (
+      c.wider-range.ensures ∙ ap₂ wider a b ∙ range_append (first_postings v i) (postings_of v i) ∙ ap range_of (sym (first_postings-next v i)),
       (list-end (goal.at.loop-i-preserved c).After-count_at-count).0,
-      omega arith,
     )
 
 pub returns : goal.returns

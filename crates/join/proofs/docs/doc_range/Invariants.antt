@@ -1,6 +1,5 @@
 -- `docs::doc_range` meets its contract. The invariant of the loop: `range` has the documents of the first i lists, and `start` is where list i
--- starts. The measure is what is left of `lists`. Assumes nothing.
-use Prim.Native.Nat.{◌-◌, ◌≤◌}
+-- starts. Assumes nothing.
 use mathlib.Core.Path.{◌≡◌}
 use Rattle.volume.specs.Layout.{start}
 use Rattle.join.specs.Inner.Docs.{range_of}
@@ -8,7 +7,4 @@ use Rattle.join.proofs.Laws.Docs.{first_postings}
 use Rattle.join.proofs.docs.doc_range.Given as goal
 
 abbrev pub invariant-loop-i : goal.invariant-loop-i
-invariant-loop-i l = (l.range ≡ range_of (first_postings l.volume l.i)) × (l.start ≡ start l.volume l.i) × (l.i ≤ l.lists)
-
-abbrev pub decreases-loop-i : goal.decreases-loop-i
-decreases-loop-i l = l.lists - l.i
+invariant-loop-i l = (l.range ≡ range_of (first_postings l.volume l.i)) × (l.start ≡ start l.volume l.i)

@@ -1,70 +1,86 @@
 -- `joining::join` meets its contract: the verdict on each volume first, then 24, then what `join_checked` answers. Assumes nothing.
-use mathlib.Core.Path.{◌≡◌, sym, ap, ◌∙◌}
+use mathlib.Core.Path.{◌≡◌, refl, sym, ap, ◌∙◌}
+use Rattle.std.proofs.Common.{Result, Ok, Err}
+use Rattle.std.specs.Result.{MatchResult, IsErrAnd}
+use Rattle.std.proofs.lemmas.Result.{err_from_is_err_and}
 use Rattle.seq.specs.Refusals.{answered}
 use Rattle.volume.specs.Answers.{Sizes, said_checked}
 use Rattle.volume.specs.Check.{verdict}
 use Rattle.volume.proofs.Laws.Check.{accepted_by, sizes_are}
+use Rattle.join.specs.Answers.{said_joined}
 use Rattle.join.proofs.Laws.Calls.{refuses-first, refuses-second, refuses-counts, goes_on}
 use Rattle.join.proofs.joining.join.Goals as goal
-use Rattle.join.proofs.joining.join.Goals.{In-Accepted, In-Accepted-two}
+use Rattle.join.proofs.joining.join.Goals.{In_ok-one, In_ok-two}
+
+-- behind `map_err` an answer is as it was, and an error is made of the one before
+module _ {A E D : Type 0} (Q : E → D → Type 0) where
+  kept : (r : Result A E) (m : Result A D) (x : A) → MatchResult r (λ y. m ≡ Ok y) (λ e. IsErrAnd m (Q e)) → m ≡ Ok x → r ≡ Ok x
+  kept (Ok y) m x h e = cc
+  kept (Err d) m x h e = absurd (rw e at h)
+
+  turned : (r : Result A E) (m : Result A D) (y : D) → MatchResult r (λ x. m ≡ Ok x) (λ e. IsErrAnd m (Q e)) → m ≡ Err y
+      → (e : E) × (r ≡ Err e) × Q e y
+  turned (Ok x) m y h e = cc
+  turned (Err d) m y h e = (d, refl, rw e at h)
 
 -- the sizes that the checks told
-first_found : In-Accepted → Sizes
-first_found c = record { lists = c.in-Accepted.lists; postings = c.in-Accepted.postings }
+first_found : In_ok-one → Sizes
+first_found c = record { lists = c.in_ok-one.one.lists; postings = c.in_ok-one.one.postings }
 
-second-found : In-Accepted-two → Sizes
-second-found c = record { lists = c.in-Accepted-two.others; postings = c.in-Accepted-two.more }
+second-found : In_ok-two → Sizes
+second-found c = record { lists = c.in_ok-two.two.lists; postings = c.in_ok-two.two.postings }
 
-first-told : (c : In-Accepted) → answered (first_found c) ≡ verdict c.args.first.now
+first-told : (c : In_ok-one) → answered (first_found c) ≡ verdict c.args.first.now
 unfolding first_found
-first-told c = sym (ap said_checked c.in-Accepted.is) ∙ c.check-one.ensures
+first-told c = sym (ap said_checked (kept _ c.check.result _ c.in_ok-one.one c.map_err.ensures.cases c.in_ok-one.was)) ∙ c.check.ensures
 
-second-told : (c : In-Accepted-two) → answered (second-found c) ≡ verdict c.args.second.now
+second-told : (c : In_ok-two) → answered (second-found c) ≡ verdict c.args.second.now
 unfolding second-found
-second-told c = sym (ap said_checked c.in-Accepted-two.is) ∙ c.check-two.ensures
+second-told c = sym (ap said_checked (kept _ c.check-2.result _ c.in_ok-two.two c.map_err-2.ensures.cases c.in_ok-two.was)) ∙ c.check-2.ensures
 
-pub returns-then-lists-others : goal.returns-then-lists-others
+pub returns-in_err-one : goal.returns-in_err-one
+returns-in_err-one c =
+    let from = turned _ c.check.result _ c.in_err-one.field-0.0 c.map_err.ensures.cases c.in_err-one.was in
+    let to = err_from_is_err_and c.from_residual.result c.from_residual.ensures.1 in
+    let w = refuses-first _ _ _ _ _ _ (sym (ap said_checked from.1) ∙ c.check.ensures) in
+    record { result_value = ap said_joined (to.1 ∙ ap Err (to.2 ∙ from.2)) ∙ w.0; out_after = w.1 }
+
+pub returns-in_err-two : goal.returns-in_err-two
+returns-in_err-two c =
+    let one = (goal.at.returns-in_err-two c).In_ok-one in
+    let from = turned _ c.check-2.result _ c.in_err-two.field-0.0 c.map_err-2.ensures.cases c.in_err-two.was in
+    let to = err_from_is_err_and c.from_residual-in_err-two.result c.from_residual-in_err-two.ensures.1 in
+    let w = refuses-second _ _ _ _ (first_found one) (first-told one) _ _ (sym (ap said_checked from.1) ∙ c.check-2.ensures) in
+    record { result_value = ap said_joined (to.1 ∙ ap Err (to.2 ∙ from.2)) ∙ w.0; out_after = w.1 }
+
+pub returns-then-one-two : goal.returns-then-one-two
 unfolding first_found second-found
-returns-then-lists-others c =
-    let one = (goal.at.returns-then-lists-others c).In-Accepted in
-    let two = (goal.at.returns-then-lists-others c).In-Accepted-two in
-    let w = refuses-counts _ _ _ _ (first_found one) (first-told one) (second-found two) (second-told two) c.if-lists-others.true in
+returns-then-one-two c =
+    let one = (goal.at.returns-then-one-two c).In_ok-one in
+    let two = (goal.at.returns-then-one-two c).In_ok-two in
+    let w = refuses-counts _ _ _ _ (first_found one) (first-told one) (second-found two) (second-told two) c.if-one-two.true in
     record { result_value = w.0; out_after = w.1 }
 
 pub join_checked-requires : goal.join_checked-requires
 unfolding first_found second-found
 join_checked-requires c =
-    let one = (goal.at.join_checked-requires c).In-Accepted in
-    let two = (goal.at.join_checked-requires c).In-Accepted-two in
-    let s = first-told one in
-    let t = second-told two in
+    let s = first-told (goal.at.join_checked-requires c).In_ok-one in
+    let t = second-told (goal.at.join_checked-requires c).In_ok-two in
     let a = sizes_are _ _ (sym s) in
     let b = sizes_are _ _ (sym t) in
-    let others = ap (λ (x : Sizes). x.lists) b in
     record {
       accepted = accepted_by _ _ (sym s);
       accepted_2 = accepted_by _ _ (sym t);
       lists_value = ap (λ (x : Sizes). x.lists) a;
-      lists_value_2 = c.if-lists-others.false ∙ others;
+      lists_value_2 = c.if-one-two.false ∙ ap (λ (x : Sizes). x.lists) b;
       postings_value = ap (λ (x : Sizes). x.postings) a;
       more_value = ap (λ (x : Sizes). x.postings) b;
     }
 
-pub returns-in-Refused : goal.returns-in-Refused
-returns-in-Refused c =
-    let w = refuses-first _ _ _ _ _ _ (sym (ap said_checked c.in-Refused.is) ∙ c.check-one.ensures) in
-    record { result_value = w.0; out_after = w.1 }
-
-pub returns-in-Refused-two : goal.returns-in-Refused-two
-returns-in-Refused-two c =
-    let one = (goal.at.returns-in-Refused-two c).In-Accepted in
-    let w = refuses-second _ _ _ _ (first_found one) (first-told one) _ _ (sym (ap said_checked c.in-Refused-two.is) ∙ c.check-two.ensures) in
-    record { result_value = w.0; out_after = w.1 }
-
-pub returns-else-lists-others : goal.returns-else-lists-others
-returns-else-lists-others c =
-    let one = (goal.at.returns-else-lists-others c).In-Accepted in
-    let two = (goal.at.returns-else-lists-others c).In-Accepted-two in
+pub returns : goal.returns
+returns c =
+    let one = (goal.at.returns c).In_ok-one in
+    let two = (goal.at.returns c).In_ok-two in
     let e = c.join_checked.ensures in
     let w = goes_on _ _ _ _ (first_found one) (first-told one) (second-found two) (second-told two) _ _ e.result_value e.out_after in
     record { result_value = w.0; out_after = w.1 }

@@ -1,8 +1,10 @@
 -- `joining::join_checked` meets its contract: each return is a rung of `join_rest`, and only the last one comes behind a store. Assumes
 -- nothing.
 use native.Mathlib.Omega.{arith}
-use Prim.Native.Nat.{◌≤◌}
+use Prim.Native.Nat.{ℕ, ◌≤◌}
 use mathlib.Core.Path.{◌≡◌, sym, ap, ap₂, ◌∙◌}
+use Rattle.std.proofs.Common.{Option}
+use Rattle.std.specs.Int.{div_ceil}
 use Rattle.volume.specs.Layout.{list_count, posting_count, blocks_for}
 use Rattle.volume.specs.Check.{Accepted}
 use Rattle.volume.proofs.Laws.Check.{good}
@@ -19,9 +21,9 @@ given : (c : Start) → let v = c.args.first.now in let w = c.args.second.now in
       first : Accepted v;
       second : Accepted w;
       same : list_count w ≡ list_count v;
-      lists : c.args.lists ≡ list_count v;
-      postings : c.args.postings ≡ posting_count v;
-      more : c.args.more ≡ posting_count w;
+      lists : c.args.one.lists ≡ list_count v;
+      postings : c.args.one.postings ≡ posting_count v;
+      more : c.args.two.postings ≡ posting_count w;
       few-lists : list_count v ≤ 1024;
       few-postings : posting_count v ≤ 1032192;
       few-more : posting_count w ≤ 1032192;
@@ -49,7 +51,11 @@ given c =
 -- what the test of 25 finds
 clash-is : (c : After-docs_clash)
     → c.docs_clash.result ≡ found c.args.raise c.args.first.now c.args.second.now c.args.out.now
-clash-is c = c.docs_clash.ensures ∙ ap₂ (λ (a b : DocRange). clash c.args.raise a b) c.doc_range.ensures c.doc_range-2.ensures
+clash-is c = c.docs_clash.ensures ∙ ap₂ (λ (a b : Option DocRange). clash c.args.raise a b) c.doc_range.ensures c.doc_range-2.ensures
+
+-- the number of blocks, as `div_ceil` gives it
+blocks_are : (n e : ℕ) → n ≡ div_ceil e 126 → n ≡ blocks_for e
+blocks_are n e h = omega arith
 
 -- the number of stream words
 words_are : (c : After-extent_of-words) → c.extent_of-words.result ≡ extent_of_both c.args.first.now c.args.second.now
@@ -76,12 +82,13 @@ returns-then-words-gt-MAX_WORDS c =
     let w = refuses_large _ _ _ _ g.first g.second g.same test large in
     record { result_value = w.0; out_after = w.1 }
 
-pub returns-then-out-size : goal.returns-then-out-size
-returns-then-out-size c =
-    let g = given (goal.at.returns-then-out-size c).Start in
-    let e = words_are (goal.at.returns-then-out-size c).After-extent_of-words in
-    let test = sym (clash-is (goal.at.returns-then-out-size c).After-docs_clash) ∙ c.if-docs_clash.false in
-    let w = refuses-short _ _ _ _ g.first g.second g.same test (rw e at c.if-words-gt-MAX_WORDS.false) (rw e at c.if-out-size.true) in
+pub returns-then-out-n : goal.returns-then-out-n
+returns-then-out-n c =
+    let g = given (goal.at.returns-then-out-n c).Start in
+    let e = words_are (goal.at.returns-then-out-n c).After-extent_of-words in
+    let test = sym (clash-is (goal.at.returns-then-out-n c).After-docs_clash) ∙ c.if-docs_clash.false in
+    let n = blocks_are c.div_ceil-n.result c.extent_of-words.result c.div_ceil-n.ensures in
+    let w = refuses-short _ _ _ _ g.first g.second g.same test (rw e at c.if-words-gt-MAX_WORDS.false) (rw (n, e) at c.if-out-n.true) in
     record { result_value = w.0; out_after = w.1 }
 
 pub put_joined-requires : goal.put_joined-requires
@@ -99,8 +106,8 @@ put_joined-requires c =
       joinable = can;
       lists_value = g.lists;
       all_value = omega arith;
-      n_value = ap blocks_for e;
-      n_in_bounds = c.if-out-size.false;
+      n_value = blocks_are c.div_ceil-n.result c.extent_of-words.result c.div_ceil-n.ensures ∙ ap blocks_for e;
+      n_in_bounds = c.if-out-n.false;
       lifts = lift;
     }
 
@@ -110,6 +117,7 @@ returns c =
     let e = words_are (goal.at.returns c).After-extent_of-words in
     let fits = rw e at c.if-words-gt-MAX_WORDS.false in
     let test = sym (clash-is (goal.at.returns c).After-docs_clash) ∙ c.if-docs_clash.false in
-    let w = answers _ _ _ _ g.first g.second g.same test fits _ c.lift_of.ensures _ _ (ap blocks_for e)
-    c.if-out-size.false c.put_joined.ensures in
+    let n = blocks_are c.div_ceil-n.result c.extent_of-words.result c.div_ceil-n.ensures in
+    let w = answers _ _ _ _ g.first g.second g.same test fits _ c.lift_of.ensures _ _ (n ∙ ap blocks_for e)
+    c.if-out-n.false c.put_joined.ensures in
     record { result_value = w.0; out_after = w.1 }

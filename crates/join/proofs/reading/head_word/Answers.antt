@@ -9,23 +9,13 @@ use Rattle.join.specs.Inner.Reading.{head_word}
 use Rattle.join.proofs.Laws.Stream.{head-count}
 use Rattle.join.proofs.reading.head_word.Goals as goal
 
-pub returns-then-i-eq0 : goal.returns-then-i-eq0
-returns-then-i-eq0 c =
-    let e : c.args.i ≡ 0 = omega arith in
-    rw e
-
-pub returns-then-i-eq1 : goal.returns-then-i-eq1
-returns-then-i-eq1 c =
-    let e : c.args.i ≡ 1 = omega arith in
-    rw e c.requires.lists_value
-
 pub count_at-requires : goal.count_at-requires
 count_at-requires c =
     let g = good c.args.first.now c.requires.joinable.first in
     omega arith
 
-pub count_at-requires-2 : goal.count_at-requires-2
-count_at-requires-2 c =
+pub count_at-requires-in_default : goal.count_at-requires-in_default
+count_at-requires-in_default c =
     let g = good c.args.second.now c.requires.joinable.second in
     let same = c.requires.joinable.same in
     omega arith
@@ -39,12 +29,12 @@ overflow_add-result c =
     let fits = c.requires.joinable.fits in
     omega arith
 
-pub returns : goal.returns
-returns c =
+pub returns-in_default : goal.returns-in_default
+returns-in_default c =
     let v = c.args.first.now in
     let w = c.args.second.now in
     let list = c.args.i - c.entry.result in
     let e : entry list ≡ c.args.i = omega arith in
-    ap₂ (λ (m n : ℕ). m + n) c.count_at.ensures c.count_at-2.ensures
+    ap₂ (λ (m n : ℕ). m + n) c.count_at.ensures c.count_at-in_default.ensures
     ∙ sym (head-count v w list (omega arith))
     ∙ ap (head_word v w) e

@@ -5,6 +5,7 @@ use mathlib.Core.Path.{◌≡◌, refl, ap, ◌∙◌}
 use Rattle.volume.specs.Layout.{list_count, lead, extent}
 use Rattle.join.specs.Inner.Reading.{read_of}
 use Rattle.join.proofs.Laws.Reading.{Bounds, bounds}
+use Rattle.join.proofs.Laws.Made.{made_zeros}
 use Rattle.join.proofs.Laws.Blocks.{block-next, block_made}
 use Rattle.join.proofs.reading.next_block.Goals as goal
 use Rattle.join.proofs.reading.next_block.Goals.{After-fill-here}
@@ -59,24 +60,16 @@ overflow_add-to c =
     let b = behind (goal.at.overflow_add-to c).After-fill-here in
     omega arith
 
-pub put_zeros-requires : goal.put_zeros-requires
-put_zeros-requires c =
-    let i = c.fill-here.ensures.turned.inside in
-    let l = c.requires.words_len in
-    record {
-      from_bound = omega arith;
-      words_len = omega arith;
-    }
-
 pub returns : goal.returns
 returns c =
     let a = c.args in
     let r = c.requires in
     let filled = (goal.at.returns c).After-fill-here in
-    let head = c.put_head-head in record {
+    let head = c.put_head-head in
+    let zeros = made_zeros c.fill-here.new.words c.fill.new.self _ _ refl (let l = r.words_len in omega arith) (c.fill.ensures.after (λ y e. e)) in record {
       stands_before_2 = block-next a.lift a.first.now a.second.now r.joinable a.merge c.fill-here.result a.k head.result _ _
           r.stands_before r.k_bound (counts-are filled) c.fill-here.ensures.turned (read_is filled);
       words_after = block_made a.lift a.first.now a.second.now r.joinable a.merge c.fill-here.result a.k head.result _
           a.words.now _ _ _ r.stands_before r.k_bound r.words_len (counts-are filled)
-          head.ensures.words_after c.fill-here.ensures.turned (read_is filled) refl c.put_zeros.ensures;
+          head.ensures.words_after c.fill-here.ensures.turned (read_is filled) refl zeros;
     }

@@ -1,12 +1,7 @@
 -- `figure::figure` meets its contract. The invariant of its loop: the pattern has been read up to `at`, the state follows it and its whole
--- rows are stored (`Within`). The measure is the text that is left. Assumes nothing.
-use Prim.Native.Nat.{◌-◌}
-use lib.ListN.{length}
+-- rows are stored (`Within`). Assumes nothing.
 use Rattle.line.proofs.Laws.Figure.{Within}
 use Rattle.line.proofs.figure.figure.Given as goal
 
 abbrev pub invariant-loop-at : goal.invariant-loop-at
 invariant-loop-at l = Within l.text l.from l.first l.initial.out l.at l.state l.rows l.out
-
-abbrev pub decreases-loop-at : goal.decreases-loop-at
-decreases-loop-at l = length l.text - l.at

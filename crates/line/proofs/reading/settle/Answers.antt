@@ -1,37 +1,27 @@
 -- `reading::settle` meets its contract: a case for each operator that may wait. Assumes nothing.
-use native.Mathlib.Omega.{arith}
-use mathlib.Core.Path.{refl}
-use Rattle.line.specs.Inner.Store.{stored}
-use Rattle.line.proofs.Laws.Figure.{settled}
+use mathlib.Core.Path.{sym, ap, ◌∙◌}
+use Rattle.std.proofs.Common.{List, ℕ, Option, Some}
+use Rattle.grammar.specs.declared.tokens.Connective.{Connective}
+use Rattle.line.specs.Inner.Reads.{pending_rows}
+use Rattle.line.specs.Inner.Store.{put_words, stored}
 use Rattle.line.proofs.reading.settle.Goals as goal
+use Rattle.line.proofs.reading.settle.Goals.{in-And, in-Or, in-AndNot}
 
-pub returns-in-Nothing : goal.returns-in-Nothing
+pub returns-in_default-clause-out_after : goal.returns-in_default-clause-out_after
 unfolding stored
-returns-in-Nothing c =
+returns-in_default-clause-out_after c =
     let a = c.args in
-    let w = settled a.out.now a.rows a.waiting _ c.in-Nothing.is refl (omega arith) in
-    record { out_after = w.0; value = w.1 }
+    sym (ap (λ (o : Option Connective). stored a.out.now a.rows (pending_rows o)) c.in_default.is)
 
-pub returns-in-Both : goal.returns-in-Both
+pub returns-clause-out_after : goal.returns-clause-out_after
 unfolding stored
-returns-in-Both c =
+returns-clause-out_after c =
     let a = c.args in
-    let w = settled a.out.now a.rows a.waiting _ c.in-Both.is
-    c.put.ensures (omega arith) in
-    record { out_after = w.0; value = w.1 }
-
-pub returns-in-Either : goal.returns-in-Either
-unfolding stored
-returns-in-Either c =
-    let a = c.args in
-    let w = settled a.out.now a.rows a.waiting _ c.in-Either.is
-    c.put-in-Either.ensures (omega arith) in
-    record { out_after = w.0; value = w.1 }
-
-pub returns-in-Without : goal.returns-in-Without
-unfolding stored
-returns-in-Without c =
-    let a = c.args in
-    let w = settled a.out.now a.rows a.waiting _ c.in-Without.is
-    c.put-in-Without.ensures (omega arith) in
-    record { out_after = w.0; value = w.1 }
+    let with : Connective → List ℕ = λ k. stored a.out.now a.rows (pending_rows (Some k)) in
+    c.put.ensures
+    ∙ elim c.match-connective.branch [
+      | in-And w ↦ ap (put_words a.out.now a.rows) w.words-is ∙ sym (ap with w.in-And.is)
+      | in-Or w ↦ ap (put_words a.out.now a.rows) w.words-is ∙ sym (ap with w.in-Or.is)
+      | in-AndNot w ↦ ap (put_words a.out.now a.rows) w.words-is ∙ sym (ap with w.in-AndNot.is)
+    ]
+    ∙ sym (ap (λ (o : Option Connective). stored a.out.now a.rows (pending_rows o)) c.in-Some.is)

@@ -1,63 +1,54 @@
 -- `steps::grow` meets its contract: a law of `Laws/States.antt` for each way through it. Assumes nothing.
 use native.Mathlib.Omega.{arith}
-use Prim.Native.Nat.{ℕ, ◌-◌, ◌≤◌}
-use mathlib.Core.Path.{◌≡◌, sym, ap, ◌∙◌, subst}
-use Rattle.grammar.specs.declared.tokens.Number.{Number}
-use Rattle.line.specs.Inner.States.{NumberMost, grown_by}
-use Rattle.line.proofs.Laws.States.{grow-below, grow-above, grow-fresh-over, grow-fresh, grow-zero, grow-over, grow-digits}
+use mathlib.Core.Path.{◌≡◌, refl, sym, ap, ◌∙◌}
+use mathlib.Core.Bool.{true, false}
+use borrow.Author.Tests.{lt-ltb}
+use Rattle.std.proofs.Common.{ℕ, ◌<◌, Option}
+use Rattle.grammar.specs.Reading.{is_digit, may_grow, grown}
+use Rattle.line.proofs.Laws.States.{grow-no_digit, grow-zero, grow-over, grow-digit}
 use Rattle.line.proofs.steps.grow.Goals as goal
+use Rattle.line.proofs.steps.grow.Goals.{Joined-number, in-None, in-Some}
 
-pub returns-then-byte-lt48 : goal.returns-then-byte-lt48
-returns-then-byte-lt48 c = let a = c.args in sym (grow-below a.most a.byte a.number c.if-byte-lt48.true)
-
-pub returns-then-byte-gt57 : goal.returns-then-byte-gt57
-returns-then-byte-gt57 c = let a = c.args in sym (grow-above a.most a.byte a.number (omega arith) c.if-byte-gt57.true)
-
-pub returns-then-most-d : goal.returns-then-most-d
-returns-then-most-d c =
+pub returns-then-not-is_ascii_digit : goal.returns-then-not-is_ascii_digit
+returns-then-not-is_ascii_digit c =
     let a = c.args in
-    let w = c.wide-d in
-    let d : w.result - 48 ≡ a.byte - 48 = ap (λ (n : ℕ). n - 48) w.ensures in
-    sym (ap (λ (x : Number). grown_by a.most x a.byte) c.in-Fresh.is
-    ∙ grow-fresh-over a.most a.byte (omega arith) (omega arith) _ d c.if-most-d.true)
+    sym (grow-no_digit a.most a.number a.byte (sym c.is_ascii_digit.ensures.value ∙ c.if-not-is_ascii_digit.true))
 
-pub returns-then-n-eq0 : goal.returns-then-n-eq0
-returns-then-n-eq0 c =
+pub returns-in-Some-eq0 : goal.returns-in-Some-eq0
+returns-in-Some-eq0 c =
     let a = c.args in
-    sym (ap (λ (x : Number). grown_by a.most x a.byte) c.in-Digits.is
-    ∙ grow-zero a.most a.byte (omega arith) (omega arith) _ c.if-n-eq0.true)
+    let e : c.in-Some-eq0.field-0 ≡ 0 = sym c.in-Some-eq0.field-0-is ∙ c.in-Some-eq0.field-0-test in
+    let z : may_grow a.number ≡ false = ap may_grow c.in-Some-eq0.is ∙ rw e refl in
+    sym (grow-zero a.most a.number a.byte z)
 
-pub overflow_mul-value : goal.overflow_mul-value
-overflow_mul-value c =
-    let h : c.in-Digits.n ≤ 65536 = subst (NumberMost 65536) c.in-Digits.is c.requires in
-    omega arith
+-- the number with its new digit
+record Value (x : Option ℕ) (b v : ℕ) : Type 0 where
+  digit : is_digit b ≡ true
+  may : may_grow x ≡ true
+  is : v ≡ grown x b
 
-pub overflow_add-value : goal.overflow_add-value
-overflow_add-value c =
-    let h : c.in-Digits.n ≤ 65536 = subst (NumberMost 65536) c.in-Digits.is c.requires in
-    let e = c.wide-d.ensures in
-    omega arith
+value-of : (c : Joined-number) → Value c.args.number c.args.byte c.match-number.value
+value-of c = record {
+  digit = sym c.is_ascii_digit.ensures.value ∙ c.if-not-is_ascii_digit.false;
+  may = elim c.match-number.branch [
+    | in-None w ↦ ap may_grow w.in-None.is
+    | in-Some w ↦ let t = rw w.in-Some.is at w.in-Some.n-test in
+        ap may_grow w.in-Some.is ∙ lt-ltb 0 w.in-Some.n (let l : 0 < w.in-Some.n = omega arith in l)
+  ];
+  is = elim c.match-number.branch [
+    | in-None w ↦ rw w.in-None.is (omega arith)
+    | in-Some w ↦ rw w.in-Some.is (omega arith)
+  ];
+}
 
 pub returns-then-most-value : goal.returns-then-most-value
 returns-then-most-value c =
     let a = c.args in
-    let w = c.wide-d in
-    let d : w.result - 48 ≡ a.byte - 48 = ap (λ (n : ℕ). n - 48) w.ensures in
-    sym (ap (λ (x : Number). grown_by a.most x a.byte) c.in-Digits.is
-    ∙ grow-over a.most a.byte (omega arith) (omega arith) _ _ d (omega arith) c.if-most-value.true)
+    let v = value-of (goal.at.returns-then-most-value c).Joined-number in
+    sym (grow-over a.most a.number a.byte _ v.digit v.may v.is c.if-most-value.true)
 
-pub returns-else-most-d : goal.returns-else-most-d
-returns-else-most-d c =
+pub returns : goal.returns
+returns c =
     let a = c.args in
-    let w = c.wide-d in
-    let d : w.result - 48 ≡ a.byte - 48 = ap (λ (n : ℕ). n - 48) w.ensures in
-    sym (ap (λ (x : Number). grown_by a.most x a.byte) c.in-Fresh.is
-    ∙ grow-fresh a.most a.byte (omega arith) (omega arith) _ d c.if-most-d.false)
-
-pub returns-else-most-value : goal.returns-else-most-value
-returns-else-most-value c =
-    let a = c.args in
-    let w = c.wide-d in
-    let d : w.result - 48 ≡ a.byte - 48 = ap (λ (n : ℕ). n - 48) w.ensures in
-    sym (ap (λ (x : Number). grown_by a.most x a.byte) c.in-Digits.is
-    ∙ grow-digits a.most a.byte (omega arith) (omega arith) _ _ d (omega arith) c.if-most-value.false)
+    let v = value-of (goal.at.returns c).Joined-number in
+    sym (grow-digit a.most a.number a.byte _ v.digit v.may v.is c.if-most-value.false)

@@ -13,8 +13,8 @@ pub lower_bound-requires : goal.lower_bound-requires
 lower_bound-requires c = let g = c.loop-step.invariant.0 in
     stretch-within _ _ _ _ _ c.requires.stretch g.from (omega arith) (omega arith)
 
-pub returns-then-target-word_at : goal.returns-then-target-word_at
-returns-then-target-word_at c = let g = c.loop-step.invariant.0 in
+pub returns-then-target-from : goal.returns-then-target-from
+returns-then-target-from c = let g = c.loop-step.invariant.0 in
     let e = c.word_at.ensures in
     c.lower_bound.ensures ∙ galloped_hit _ _ _ _ c.requires.stretch _ _ g (omega arith) (omega arith) (omega arith)
 

@@ -8,8 +8,8 @@ loop-low-init c = narrowed-first _ _ _ _ c.requires.order
 pub word_at-requires : goal.word_at-requires
 word_at-requires c = let w = c.requires.within in omega arith
 
-pub loop-low-preserved-then-word_at-target : goal.loop-low-preserved-then-word_at-target
-loop-low-preserved-then-word_at-target c =
+pub loop-low-preserved-then-from-target : goal.loop-low-preserved-then-from-target
+loop-low-preserved-then-from-target c =
     let e = c.word_at.ensures in
     narrowed-up _ _ _ _ c.requires c.loop-low.low _ _ c.loop-low.invariant (omega arith) (omega arith) (omega arith)
 

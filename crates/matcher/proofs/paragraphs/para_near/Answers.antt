@@ -44,22 +44,20 @@ word_in_block-requires c =
       k_bound_2 = omega arith;
     }
 
-pub word_in_block-requires-then-block-blocks : goal.word_in_block-requires-then-block-blocks
-word_in_block-requires-then-block-blocks c = let w = (rises c).within in record {
+pub word_in_block-front-requires : goal.word_in_block-front-requires
+word_in_block-front-requires c = let w = (rises c).within in record {
   k_bound = omega arith;
   k_bound_2 = omega arith;
 }
 
-pub word_in_block-requires-then-word_in_block-bound : goal.word_in_block-requires-then-word_in_block-bound
-word_in_block-requires-then-word_in_block-bound c = let w = (rises (goal.at.word_in_block-requires-then-word_in_block-bound c).After-below).within in record {
+pub word_in_block-back-requires : goal.word_in_block-back-requires
+word_in_block-back-requires c = let w = (rises (goal.at.word_in_block-back-requires c).After-below).within in record {
   k_bound = omega arith;
   k_bound_2 = omega arith;
 }
 
 pub last_below-k-requires : goal.last_below-k-requires
 last_below-k-requires c =
-    let e = c.word_in_block-then-block-blocks.ensures in
-    let f = c.word_in_block-then-word_in_block-bound.ensures in
     let n = c.args.block + c.below.result in
     let q : 126 * n + 0 + 125 ≡ 126 * n + 125 = omega arith in
     record {
@@ -67,26 +65,27 @@ last_below-k-requires c =
       across = record { below = omega arith; above = rw q (omega arith) };
     }
 
-pub word_in_block-requires-then-bound-word_in_block : goal.word_in_block-requires-then-bound-word_in_block
-word_in_block-requires-then-bound-word_in_block c =
-    let w = (rises (goal.at.word_in_block-requires-then-bound-word_in_block c).After-below).within in
+pub word_in_block-requires-then-bound-from : goal.word_in_block-requires-then-bound-from
+word_in_block-requires-then-bound-from c =
+    let w = (rises (goal.at.word_in_block-requires-then-bound-from c).After-below).within in
     let k = c.last_below-k.ensures.upper_bound in
     record {
       k_bound = omega arith;
       k_bound_2 = omega arith;
     }
 
-pub returns-then-bound-word_in_block : goal.returns-then-bound-word_in_block
-returns-then-bound-word_in_block c =
+pub returns-then-bound-from : goal.returns-then-bound-from
+returns-then-bound-from c =
     let a = c.args in
     let p = c.requires in
-    let i = inside (goal.at.returns-then-bound-word_in_block c).After-below in
+    let i = inside (goal.at.returns-then-bound-from c).After-below in
     let starts = a.document.starts in
     let k = c.last_below-k.ensures.upper_bound in
-    let e = c.word_in_block-then-bound-word_in_block.ensures in
+    let e = c.word_in_block-then-bound-from.ensures in
+    let bound : c.bound_of-bound.result + 1 ≡ a.document.doc * 65536 + a.pos + 1 = omega arith in
     let s : seek_from a.volume.now (a.document.doc * 65536 + a.pos + 1) starts.at starts.end
     ≡ 126 * (a.block + c.below.result) + c.last_below-k.result + 1 =
-    across_seek (stands-stretch p.accepted p.at_document) _ i.from i.to k c.last_below-k.ensures.across_2 in
+    rw bound at (across_seek (stands-stretch p.accepted p.at_document) _ i.from i.to k c.last_below-k.ensures.across_2) in
     let n = a.block + c.below.result in
     let back : 126 * n + c.last_below-k.result ≡ 126 * n + c.last_below-k.result + 1 - 1 = omega arith in
     let h = i.from in

@@ -21,13 +21,14 @@ word_at-requires c =
     let w = (stands-stretch p.accepted p.at_document).within in
     omega arith
 
-pub returns-then-bound-word_at : goal.returns-then-bound-word_at
-returns-then-bound-word_at c =
+pub returns-then-bound-from : goal.returns-then-bound-from
+returns-then-bound-from c =
     let a = c.args in
     let p = c.requires in
     let starts = a.document.starts in
     let e = ap (λ (r : Posting). r.bits) c.posting_at-last.ensures in
     let f = c.word_at.ensures in
+    let b = c.bound_of-bound.ensures in
     let q : a.mark - 1 + 1 ≡ a.mark = omega arith in
     let found : a.mark ≡ seek_from a.volume.now (a.document.doc * 65536 + a.pos + 1) starts.at starts.end =
     sym q

@@ -1,9 +1,8 @@
 -- `testing::cursor_at` meets its contract: the posting that is reached is that of the position, or the list does not hold it. Assumes nothing.
-use mathlib.Core.Path.{sym, ap, ◌∙◌}
+use mathlib.Core.Path.{sym, ◌∙◌}
 use Prim.Native.Nat.{◌+◌, ◌*◌}
-use Rattle.volume.specs.declared.posting.Posting.{Posting}
 use Rattle.matcher.specs.Inner.Cursors.{Arrived}
-use Rattle.matcher.proofs.Laws.Testing.{list-before, found-there, found-not}
+use Rattle.matcher.proofs.Laws.Testing.{list-before, found-none, found-there, found-not}
 use Rattle.matcher.proofs.testing.cursor_at.Goals as goal
 use Rattle.matcher.proofs.testing.cursor_at.Goals.{After-advance-reached}
 
@@ -15,14 +14,24 @@ advance-reached-requires c =
 arrived : (c : After-advance-reached)
     →
     Arrived c.args.volume.now (c.args.doc * 65536 + c.args.pos) c.list_cursor-first.result.at c.list_cursor-first.result.end c.advance-reached.result
-arrived c = rw (← ap (λ (q : Posting). q.bits) c.new-sought.ensures) c.advance-reached.ensures
+arrived c = rw c.bound_of-bound.ensures at c.advance-reached.ensures
 
-pub returns-then-reached-sought : goal.returns-then-reached-sought
-returns-then-reached-sought c =
-    let e = ap (λ (q : Posting). q.bits) c.new-sought.ensures in
-    found-there c.args.volume.now c.requires.accepted c.args.list c.requires.list_bound _ c.list_cursor-first.ensures c.args.doc c.args.pos _ c.requires.pos_bound (arrived (goal.at.returns-then-reached-sought c).After-advance-reached) (c.if-reached-sought.true ∙ e)
+pub returns-in_err-posting : goal.returns-in_err-posting
+returns-in_err-posting c =
+    let a = c.args in
+    let r = c.requires in
+    rw c.from_residual.ensures
+    (found-none a.volume.now r.accepted a.list r.list_bound _ c.list_cursor-first.ensures a.doc a.pos _ r.pos_bound (arrived (goal.at.returns-in_err-posting c).After-advance-reached) c.in_err-posting.was)
+
+pub returns-then-from-bound : goal.returns-then-from-bound
+returns-then-from-bound c =
+    let a = c.args in
+    let r = c.requires in
+    found-there a.volume.now r.accepted a.list r.list_bound _ c.list_cursor-first.ensures a.doc a.pos _ r.pos_bound (arrived (goal.at.returns-then-from-bound c).After-advance-reached) _ c.in_ok-posting.was
+    (sym c.from.ensures ∙ c.if-from-bound.true ∙ c.bound_of-bound.ensures)
 
 pub returns : goal.returns
 returns c =
-    let e = ap (λ (q : Posting). q.bits) c.new-sought.ensures in
-    found-not c.args.volume.now c.requires.accepted c.args.list c.requires.list_bound _ c.list_cursor-first.ensures c.args.doc c.args.pos c.advance-reached.result c.requires.pos_bound (arrived (goal.at.returns c).After-advance-reached) (λ q. c.if-reached-sought.false (q ∙ sym e))
+    let a = c.args in
+    let r = c.requires in
+    found-not a.volume.now r.accepted a.list r.list_bound _ c.list_cursor-first.ensures a.doc a.pos _ r.pos_bound (arrived (goal.at.returns c).After-advance-reached) _ c.in_ok-posting.was (λ q. c.if-from-bound.false (c.from.ensures ∙ q ∙ sym c.bound_of-bound.ensures))

@@ -8,6 +8,7 @@ use lib.Seq.{length-take-le}
 use Rattle.volume.specs.Layout.{lists_of}
 use Rattle.plan.specs.Accepted.{pattern_at}
 use Rattle.fulltext.specs.Inner.Bounds.{HeldMatch}
+use Rattle.matcher.proofs.Laws.Cursors.{length-ends}
 use Rattle.matcher.proofs.Laws.Testing.{posed-given, few-vars, at-posed, front-take, front-standing, held-match, match-not}
 use Rattle.matcher.proofs.testing.is_match.Goals as goal
 use Rattle.matcher.proofs.testing.is_match.Goals.{After-put_row}
@@ -20,7 +21,6 @@ pub stand_at-requires : goal.stand_at-requires
 stand_at-requires c = let q = few-vars c.requires in record {
   asked = c.requires;
   positions_in_bounds = omega arith;
-  positions_in_bounds_2 = omega arith;
 }
 
 pub returns-then-not-stand_at : goal.returns-then-not-stand_at
@@ -53,17 +53,16 @@ match_from-requires c =
     let n = s.number in
     let m = s.outlines.vars_are in
     let q = few-vars s in
-    let ends = stood.ensures.ends_len_unchanged in
-    let here = stood.ensures.here_len_unchanged in
+    let cursors = stood.ensures.cursors_len_unchanged in
+    let e = length-ends stood.new.cursors in
     let put = c.put_row.auto.out in
     let f = pattern_at a.plan.now a.outline.pattern in record {
       posed = at-posed s _ (omega arith) (stood.ensures.stood_at.ends_are yes) _ c.starts_of-starts.ensures;
       order = rw m c.rarest_first.ensures.rarest_first.each;
-      vars_in_bounds = omega arith;
-      vars_in_bounds_2 = omega arith;
+      positions_in_bounds = omega arith;
       standing = front-standing a.volume.now a.doc f _ a.positions.now _ n (front (goal.at.match_from-requires c).After-put_row) (stood.ensures.stood_at.standing yes);
       held_le_vars = omega arith;
-      vars_in_bounds_3 = omega arith;
+      paras_in_bounds = omega arith;
     }
 
 pub returns : goal.returns

@@ -3,8 +3,9 @@ use native.Mathlib.Omega.{arith}
 use mathlib.Core.Path.{refl, ◌∙◌}
 use lib.ListN.{length-set}
 use Rattle.volume.specs.Layout.{list_count}
+use Rattle.matcher.specs.Inner.Cursors.{ats_of, ends_of}
 use Rattle.matcher.proofs.Laws.Placed.{voiced-list}
-use Rattle.matcher.proofs.Laws.Testing.{posed-given, vars-order, voice-of, voice-few, few-vars, at_next, at-not, at_all}
+use Rattle.matcher.proofs.Laws.Testing.{posed-given, vars-order, voice-of, voice-few, at_next, at-not, at_all}
 use Rattle.matcher.proofs.testing.stand_at.Goals as goal
 use Rattle.matcher.proofs.testing.stand_at.Goals.{After-list_at-list}
 
@@ -15,7 +16,10 @@ there c =
     rw (voiced-list w c.list_at-list.result c.list_at-list.ensures) w.there
 
 pub loop-x-init : goal.loop-x-init
-loop-x-init c = (record { at_are = λ y h. absurd (let z : ⊥ = omega arith in z); ends_are = λ y h. absurd (let z : ⊥ = omega arith in z) }, (omega arith, (refl, refl)))
+loop-x-init c = record {
+  brought = record { at_are = λ y h. absurd (let z : ⊥ = omega arith in z); ends_are = λ y h. absurd (let z : ⊥ = omega arith in z) };
+  same_length = refl;
+}
 
 pub overflow_sub-row : goal.overflow_sub-row
 overflow_sub-row c = vars-order c.requires.asked
@@ -32,63 +36,36 @@ list_at-list-requires c =
       by_index = (_, w.kind-is);
     }
 
-pub cursor_at-cursor-requires : goal.cursor_at-cursor-requires
-cursor_at-cursor-requires c =
+pub cursor_at-requires : goal.cursor_at-requires
+cursor_at-requires c =
     let s = c.requires.asked in
     record {
       accepted = (posed-given s).volume-accepted;
-      list_bound = there (goal.at.cursor_at-cursor-requires c).After-list_at-list;
-      doc_bound = s.doc-small;
+      list_bound = there (goal.at.cursor_at-requires c).After-list_at-list;
       pos_bound = s.small c.loop-x.x c.loop-x-test.true;
     }
 
-pub shape_of-ends-then-cursor : goal.shape_of-ends-then-cursor
-shape_of-ends-then-cursor c = c.loop-x.invariant.1.1.0
-
-pub shape_of-here-then-cursor : goal.shape_of-here-then-cursor
-shape_of-here-then-cursor c = c.loop-x.invariant.1.1.1
-
-pub returns-then-cursor : goal.returns-then-cursor
-returns-then-cursor c =
+pub returns-in_default : goal.returns-in_default
+returns-in_default c =
     let l = c.loop-x in record {
-      stood_at = at-not c.requires.asked l.x c.loop-x-test.true _ c.list_at-list.ensures _ c.cursor_at-cursor.ensures c.if-cursor.true l.ends l.here;
-      ends_len_unchanged = l.invariant.1.1.0;
-      here_len_unchanged = l.invariant.1.1.1;
+      stood_at = at-not c.requires.asked l.x c.loop-x-test.true _ c.list_at-list.ensures (rw c.in_default.is at c.cursor_at.ensures) (ends_of l.cursors) (ats_of l.cursors);
+      cursors_len_unchanged = l.invariant.same_length;
     }
 
-pub offset_bounds-here-x : goal.offset_bounds-here-x
-offset_bounds-here-x c = let q = few-vars c.requires.asked in omega arith
-
-pub bounds-here-x : goal.bounds-here-x
-bounds-here-x c = let l = c.loop-x.invariant.1.1.1 in let p = c.requires.positions_in_bounds_2 in omega arith
-
-pub offset_bounds-ends-x : goal.offset_bounds-ends-x
-offset_bounds-ends-x c = let q = few-vars c.requires.asked in omega arith
-
-pub bounds-ends-x : goal.bounds-ends-x
-bounds-ends-x c = let l = c.loop-x.invariant.1.1.0 in let p = c.requires.positions_in_bounds in omega arith
+pub bounds-cursors-x : goal.bounds-cursors-x
+bounds-cursors-x c = let e = c.loop-x.invariant.same_length in let p = c.requires.positions_in_bounds in omega arith
 
 pub loop-x-preserved : goal.loop-x-preserved
 loop-x-preserved c =
     let l = c.loop-x in
-    let s = c.requires in
-    let e = l.invariant.1.1.0 in
-    let h = l.invariant.1.1.1 in
-    let p = s.positions_in_bounds in
-    let q = s.positions_in_bounds_2 in (
-      at_next s.asked l.x c.loop-x-test.true _ c.list_at-list.ensures _ c.cursor_at-cursor.ensures l.ends l.here l.invariant.0 (omega arith) (omega arith) c.if-cursor.false,
-      (omega arith, (length-set l.ends l.x _ ∙ e, length-set l.here l.x _ ∙ h)),
-    )
-
-pub shape_of-ends : goal.shape_of-ends
-shape_of-ends c = c.loop-x.invariant.1.1.0
-
-pub shape_of-here : goal.shape_of-here
-shape_of-here c = c.loop-x.invariant.1.1.1
+    let e = l.invariant.same_length in
+    let p = c.requires.positions_in_bounds in record {
+      brought = at_next c.requires.asked l.x c.loop-x-test.true _ c.list_at-list.ensures (rw c.in-Some.is at c.cursor_at.ensures) l.cursors l.invariant.brought (omega arith);
+      same_length = length-set l.cursors l.x _ ∙ e;
+    }
 
 pub returns : goal.returns
 returns c = let l = c.loop-x in record {
-  stood_at = at_all c.requires.asked l.x l.ends l.here c.loop-x-test.false l.invariant.0;
-  ends_len_unchanged = l.invariant.1.1.0;
-  here_len_unchanged = l.invariant.1.1.1;
+  stood_at = at_all c.requires.asked l.x (ends_of l.cursors) (ats_of l.cursors) c.loop-x-test.false l.invariant.brought;
+  cursors_len_unchanged = l.invariant.same_length;
 }

@@ -1,16 +1,17 @@
 -- `testing::test_pattern` meets its contract: the tests of refusal 17 in order, then the match. Assumes nothing.
 use Prim.Native.Nat.{ℕ}
 use native.Mathlib.Omega.{arith}
-use mathlib.Core.Path.{sym, ap, ◌∙◌}
+use mathlib.Core.Path.{refl, sym, ap, ◌∙◌}
 use Rattle.volume.specs.Layout.{lists_of}
 use Rattle.plan.specs.Check.{sizes}
 use Rattle.plan.specs.Accepted.{pattern_at}
+use Rattle.plan.specs.Inner.Outline.{outline_at}
 use Rattle.plan.proofs.Laws.Accepted.{given}
 use Rattle.plan.proofs.Laws.Outline.{Outlined, outlined}
 use Rattle.fulltext.specs.Matches.{matches_at}
 use Rattle.matcher.proofs.Laws.Testing.{small_decides, test-number, test_doc, test-small, test-answer}
 use Rattle.matcher.proofs.testing.test_pattern.Goals as goal
-use Rattle.matcher.proofs.testing.test_pattern.Goals.{After-outline_at-outline}
+use Rattle.matcher.proofs.testing.test_pattern.Goals.{After-lay_out, then-positions-outline-via-then-positions-outline, then-positions-outline-via-else-positions-outline+then-doc-gt-LAST_DOC, then-positions-outline-via-else-positions-outline+else-doc-gt-LAST_DOC+then-not-in_document}
 
 pub lay_out-requires : goal.lay_out-requires
 lay_out-requires c =
@@ -21,40 +22,34 @@ lay_out-requires c =
       patterns_in_bounds = omega arith;
     }
 
-pub outline_at-outline-requires : goal.outline_at-outline-requires
-outline_at-outline-requires c =
+pub bounds-table-pattern : goal.bounds-table-pattern
+bounds-table-pattern c =
     let m = (given _ _ c.requires.accepted).most-patterns in
     let l = c.lay_out.auto.table in
     omega arith
 
--- it is that of the pattern
-outline : (c : After-outline_at-outline) → let a = c.args in Outlined a.plan.now a.pattern c.outline_at-outline.result
-outline c =
-    let l = c.lay_out in
-    outlined l.new.table l.ensures c.args.pattern (let p = c.requires in omega arith) c.outline_at-outline.ensures
+-- the outline that is read is that of the pattern
+outline : (c : After-lay_out) → let a = c.args in Outlined a.plan.now a.pattern (outline_at c.lay_out.new.table a.pattern)
+outline c = let p = c.requires in outlined c.lay_out.new.table c.lay_out.ensures c.args.pattern (omega arith) refl
 
-pub returns-then-positions-vars : goal.returns-then-positions-vars
-returns-then-positions-vars c =
-    let o = outline (goal.at.returns-then-positions-vars c).After-outline_at-outline in
+pub returns-then-positions-outline : goal.returns-then-positions-outline
+returns-then-positions-outline c =
+    let o = outline (goal.at.returns-then-positions-outline c).After-lay_out in
     let a = c.args in
-    sym (test-number a.volume.now a.plan.now a.pattern a.doc a.positions.now (sizes a.plan.now) c.requires.accepted (omega arith) (λ e. c.if-positions-vars.true (omega arith)))
+    let p = c.requires in
+    sym (elim c.then-positions-outline.branch [
+      | then-positions-outline-via-then-positions-outline w ↦
+          test-number a.volume.now a.plan.now a.pattern a.doc a.positions.now (sizes a.plan.now) p.accepted (omega arith) (λ e. w.if-positions-outline.true (omega arith))
+      | then-positions-outline-via-else-positions-outline+then-doc-gt-LAST_DOC w ↦
+          test_doc a.volume.now a.plan.now a.pattern a.doc a.positions.now (sizes a.plan.now) p.accepted (omega arith) (omega arith) w.if-doc-gt-LAST_DOC.true
+      | then-positions-outline-via-else-positions-outline+else-doc-gt-LAST_DOC+then-not-in_document w ↦
+          test-small a.volume.now a.plan.now a.pattern a.doc a.positions.now (sizes a.plan.now) p.accepted (omega arith) (omega arith) w.if-doc-gt-LAST_DOC.false
+          (sym w.in_document.ensures ∙ w.if-not-in_document.true)
+    ])
 
-pub returns-then-doc-gt-LAST_DOC : goal.returns-then-doc-gt-LAST_DOC
-returns-then-doc-gt-LAST_DOC c =
-    let o = outline (goal.at.returns-then-doc-gt-LAST_DOC c).After-outline_at-outline in
-    let a = c.args in
-    sym (test_doc a.volume.now a.plan.now a.pattern a.doc a.positions.now (sizes a.plan.now) c.requires.accepted (omega arith) (omega arith) c.if-doc-gt-LAST_DOC.true)
-
-pub returns-then-not-in_document : goal.returns-then-not-in_document
-returns-then-not-in_document c =
-    let o = outline (goal.at.returns-then-not-in_document c).After-outline_at-outline in
-    let a = c.args in
-    sym (test-small a.volume.now a.plan.now a.pattern a.doc a.positions.now (sizes a.plan.now) c.requires.accepted (omega arith) (omega arith) (omega arith)
-    (sym c.in_document.ensures ∙ c.if-not-in_document.true))
-
-pub is_match-matched-requires : goal.is_match-matched-requires
-is_match-matched-requires c =
-    let o = outline (goal.at.is_match-matched-requires c).After-outline_at-outline in
+pub is_match-requires : goal.is_match-requires
+is_match-requires c =
+    let o = outline (goal.at.is_match-requires c).After-lay_out in
     let v = o.entry.outlines.vars_are in
     let k = o.pattern-is in
     record {
@@ -68,8 +63,8 @@ is_match-matched-requires c =
 
 pub returns : goal.returns
 returns c =
-    let o = outline (goal.at.returns c).After-outline_at-outline in
+    let o = outline (goal.at.returns c).After-lay_out in
     let a = c.args in
     sym (test-answer a.volume.now a.plan.now a.pattern a.doc a.positions.now (sizes a.plan.now) c.requires.accepted (omega arith) (omega arith) (omega arith)
     (sym c.in_document.ensures ∙ c.if-not-in_document.false) _
-    (c.is_match-matched.ensures ∙ ap (λ (k : ℕ). matches_at (lists_of a.volume.now) a.doc (pattern_at a.plan.now k) a.positions.now) o.pattern-is))
+    (c.is_match.ensures ∙ ap (λ (k : ℕ). matches_at (lists_of a.volume.now) a.doc (pattern_at a.plan.now k) a.positions.now) o.pattern-is))

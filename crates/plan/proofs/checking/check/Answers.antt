@@ -1,17 +1,15 @@
 -- `checking::check` meets its contract: the volume, then the plan over its lists. Assumes nothing.
-use mathlib.Core.Path.{sym, ap, ◌∙◌}
-use Rattle.volume.specs.Answers as volumeAnswers
+use mathlib.Core.Path.{ap, ◌∙◌}
+use Rattle.std.proofs.lemmas.Result.{err_from_is_err_and}
 use Rattle.plan.specs.Check.{verdict_by, verdict}
 use Rattle.plan.proofs.checking.check.Goals as goal
 
-pub returns-in-Refused : goal.returns-in-Refused
+pub returns-in_err-sizes : goal.returns-in_err-sizes
 unfolding verdict
-returns-in-Refused c =
-    let a = c.args in
-    ap (λ s. verdict_by s a.plan.now) (sym (ap volumeAnswers.said_checked c.in-Refused.is) ∙ c.check-checked.ensures)
+returns-in_err-sizes c =
+    let p = err_from_is_err_and c.from_residual.result c.from_residual.ensures.1 in
+    rw (p.1, p.2) (ap (λ s. verdict_by s c.args.plan.now) c.in_err-sizes.ensures)
 
-pub returns-in-Accepted : goal.returns-in-Accepted
+pub returns : goal.returns
 unfolding verdict
-returns-in-Accepted c =
-    let a = c.args in
-    c.check_plan.ensures ∙ ap (λ s. verdict_by s a.plan.now) (sym (ap volumeAnswers.said_checked c.in-Accepted.is) ∙ c.check-checked.ensures)
+returns c = c.check_plan.ensures ∙ ap (λ s. verdict_by s c.args.plan.now) c.in_ok-sizes.ensures

@@ -1,25 +1,17 @@
 -- `checking::check_plan` meets its contract: the length, then the rows. Assumes nothing.
 use native.Mathlib.Omega.{arith}
 use mathlib.Core.Path.{sym, ◌∙◌}
-use Rattle.plan.proofs.Laws.Check.{plan-zero, plan-cut, plan-long, plan-rows}
+use mathlib.Core.Logic.{inl, inr}
+use Rattle.plan.proofs.Laws.Check.{plan-length, plan-rows}
 use Rattle.plan.proofs.checking.check_plan.Goals as goal
+use Rattle.plan.proofs.checking.check_plan.Goals.{then-plan-eq0-via-then-plan-eq0, then-plan-eq0-via-else-plan-eq0+then-plan-ne0, then-plan-eq0-via-else-plan-eq0+else-plan-ne0+then-plan-gt-MOST_WORDS}
 
 pub returns-then-plan-eq0 : goal.returns-then-plan-eq0
-returns-then-plan-eq0 c =
-    let a = c.args in
-    sym (plan-zero a.lists a.plan.now c.if-plan-eq0.true)
-
-pub returns-then-plan-ne0 : goal.returns-then-plan-ne0
-returns-then-plan-ne0 c =
-    let a = c.args in
-    sym (plan-cut a.lists a.plan.now c.if-plan-eq0.false c.if-plan-ne0.true)
-
-pub returns-then-plan-gt-MOST_WORDS : goal.returns-then-plan-gt-MOST_WORDS
-returns-then-plan-gt-MOST_WORDS c =
-    let a = c.args in
-    sym (plan-long a.lists a.plan.now c.if-plan-eq0.false c.if-plan-ne0.false (omega arith))
+returns-then-plan-eq0 c = sym (plan-length _ _ (elim c.then-plan-eq0.branch [
+  | then-plan-eq0-via-then-plan-eq0 w ↦ inl w.if-plan-eq0.true
+  | then-plan-eq0-via-else-plan-eq0+then-plan-ne0 w ↦ inr (inl w.if-plan-ne0.true)
+  | then-plan-eq0-via-else-plan-eq0+else-plan-ne0+then-plan-gt-MOST_WORDS w ↦ inr (inr (omega arith))
+]))
 
 pub returns : goal.returns
-returns c =
-    let a = c.args in
-    c.check_rows.ensures ∙ sym (plan-rows a.lists a.plan.now c.if-plan-eq0.false c.if-plan-ne0.false (omega arith))
+returns c = c.check_rows.ensures ∙ sym (plan-rows _ _ c.if-plan-eq0.false c.if-plan-ne0.false (omega arith))

@@ -1,19 +1,20 @@
 use native.Mathlib.Omega.{arith}
 use Prim.Native.Nat.{ℕ, ◌-◌}
 use mathlib.Core.Path.{◌≡◌, sym, ap, ◌∙◌}
+use mathlib.Core.Logic.{inl, inr, ⊎_elim, ◌≢◌}
 use mathlib.Core.List.{List}
+use Rattle.std.specs.Prelude.{Ok, Err}
 use Rattle.seq.specs.Numbers.{first_from}
 use Rattle.seq.specs.Refusals.{answered}
 use Rattle.seq.proofs.Laws.Numbers.{first_hit, first_miss, first-end}
+use Rattle.plan.specs.declared.answers.Sizes.{Sizes}
 use Rattle.plan.specs.declared.state.State.{State}
-use Rattle.plan.specs.declared.state.Step.TheVariants.{Stands, Faulty}
-use Rattle.plan.specs.Answers.{Sizes}
 use Rattle.plan.specs.Limits.{most_rows}
 use Rattle.plan.specs.Rows.{row_count}
 use Rattle.plan.specs.State.{state_at, step}
 use Rattle.plan.specs.Check.{row_wrong, bad_row}
 use Rattle.plan.proofs.Laws.State.{state_at-first, state_at-next, state_at-most, most-le, step_right}
-use Rattle.plan.proofs.Laws.Check.{row-stands, row-faulty, rows_fault, rows_open, rows-count, rows-answer}
+use Rattle.plan.proofs.Laws.Check.{row-stands, row-faulty, rows_fault, rows-unfinished, rows-answer}
 use Rattle.plan.proofs.Laws.Given.{sizes_are}
 use Rattle.plan.proofs.checking.check_rows.Goals as goal
 use Rattle.plan.proofs.checking.check_rows.Goals.{After-loop-i}
@@ -28,7 +29,7 @@ at-end c =
     let a = c.args in
     let p = a.plan.now in
     let e : l.i ≡ row_count p = omega arith in
-    (l.invariant.0 ∙ ap (state_at p) e, sym l.invariant.2 ∙ first-end (row_wrong a.lists p) l.i (row_count p) c.loop-i-test.false ∙ e)
+    (l.invariant.0 ∙ ap (state_at p) e, sym l.invariant.1 ∙ first-end (row_wrong a.lists p) l.i (row_count p) c.loop-i-test.false ∙ e)
 
 -- what a state counts
 abbrev sized : State → Sizes
@@ -39,49 +40,37 @@ loop-i-init c =
     let a = c.args in
     let p = a.plan.now in
     let e : row_count p - 0 ≡ row_count p = omega arith in
-    (sym (state_at-first p), omega arith, ap (first_from (row_wrong a.lists p) 0) e)
+    (sym (state_at-first p), ap (first_from (row_wrong a.lists p) 0) e)
 
-pub row_step-stepped-requires : goal.row_step-stepped-requires
-row_step-stepped-requires c =
+pub row_step-requires-clause-at_most : goal.row_step-requires-clause-at_most
+row_step-requires-clause-at_most c =
     let l = c.loop-i in
     let p = c.args.plan.now in
-    record {
-      i_bound = omega arith;
-      at_most = rw l.invariant.0 (most-le l.i most_rows (state_at p l.i) (omega arith) (state_at-most p l.i));
-    }
+    rw l.invariant.0 (most-le l.i most_rows (state_at p l.i) (omega arith) (state_at-most p l.i))
 
-pub returns-in-Faulty : goal.returns-in-Faulty
-returns-in-Faulty c =
+pub returns-in-Err : goal.returns-in-Err
+returns-in-Err c =
     let a = c.args in
     let l = c.loop-i in
     let p = a.plan.now in
-    let e : step a.lists (state_at p l.i) p l.i ≡ Faulty _ = ap (λ (s : State). step a.lists s p l.i) (sym l.invariant.0) ∙ sym c.row_step-stepped.ensures ∙ c.in-Faulty.is in
-    sym (rows_fault a.lists p l.i _ c.loop-i-test.true (sym l.invariant.2 ∙ first_hit (row_wrong a.lists p) l.i (row_count p) c.loop-i-test.true (row-faulty a.lists p l.i _ e).0) e)
+    let e : step a.lists (state_at p l.i) p l.i ≡ Err _ = ap (λ (s : State). step a.lists s p l.i) (sym l.invariant.0) ∙ sym c.row_step.ensures ∙ c.in-Err.is in
+    sym (rows_fault a.lists p l.i _ c.loop-i-test.true (sym l.invariant.1 ∙ first_hit (row_wrong a.lists p) l.i (row_count p) c.loop-i-test.true (row-faulty a.lists p l.i _ e).0) e)
 
 pub loop-i-preserved : goal.loop-i-preserved
 loop-i-preserved c =
     let a = c.args in
     let l = c.loop-i in
     let p = a.plan.now in
-    let e : step a.lists (state_at p l.i) p l.i ≡ Stands _ = ap (λ (s : State). step a.lists s p l.i) (sym l.invariant.0) ∙ sym c.row_step-stepped.ensures ∙ c.in-Stands.is in (
+    let e : step a.lists (state_at p l.i) p l.i ≡ Ok _ = ap (λ (s : State). step a.lists s p l.i) (sym l.invariant.0) ∙ sym c.row_step.ensures ∙ c.in-Ok.is in (
       (step_right a.lists (state_at p l.i) p l.i _ e).4 ∙ sym (state_at-next p l.i),
-      omega arith,
-      sym (first_miss (row_wrong a.lists p) l.i (row_count p) c.loop-i-test.true (row-stands a.lists p l.i _ e)) ∙ l.invariant.2,
+      sym (first_miss (row_wrong a.lists p) l.i (row_count p) c.loop-i-test.true (row-stands a.lists p l.i _ e)) ∙ l.invariant.1,
     )
 
 pub returns-then-s-ne0 : goal.returns-then-s-ne0
 returns-then-s-ne0 c =
-    let a = c.args in
-    let p = a.plan.now in
     let e = at-end (goal.at.returns-then-s-ne0 c).After-loop-i in
-    sym (rows_open a.lists p e.1 (λ h. c.if-s-ne0.true (ap (λ (s : State). s.vars) e.0 ∙ h)))
-
-pub returns-then-s-ne1 : goal.returns-then-s-ne1
-returns-then-s-ne1 c =
-    let a = c.args in
-    let p = a.plan.now in
-    let e = at-end (goal.at.returns-then-s-ne1 c).After-loop-i in
-    sym (rows-count a.lists p e.1 (sym (ap (λ (s : State). s.vars) e.0) ∙ c.if-s-ne0.false) (λ h. c.if-s-ne1.true (ap (λ (s : State). s.answers) e.0 ∙ h)))
+    let s = state_at c.args.plan.now (row_count c.args.plan.now) in
+    sym (rows-unfinished _ _ e.1 (⊎_elim (λ (h : s.vars ≢ 0). inl h) (λ h. inr h.1) (rw e.0 at c.then-s-ne0.either)))
 
 pub returns : goal.returns
 returns c =

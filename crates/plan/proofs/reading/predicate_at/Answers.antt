@@ -1,18 +1,10 @@
--- A row that is a condition has its predicate; no other kind is met.
+-- A row that is a condition has its predicate; no other kind is met. Assumes nothing.
 use mathlib.Core.Path.{sym, ap, ◌∙◌}
-use mathlib.Core.Bool.{true≢false}
 use Rattle.plan.specs.declared.row.Row.{Row}
-use Rattle.plan.specs.Rows.{is_condition}
 use Rattle.plan.proofs.reading.predicate_at.Goals as goal
 
-pub returns-in-Condition : goal.returns-in-Condition
-returns-in-Condition c = sym (ap (λ (r : Row). r.kind) c.row_at-row.ensures) ∙ c.in-Condition.is
+pub returns : goal.returns
+returns c = sym (ap (λ (r : Row). r.kind) c.row_at.ensures) ∙ c.in-Condition.is
 
-pub returns-in-Voice : goal.returns-in-Voice
-returns-in-Voice c = absurd (true≢false (ap is_condition (sym c.requires.row_value_2.1 ∙ sym (ap (λ (r : Row). r.kind) c.row_at-row.ensures) ∙ c.in-Voice.is)))
-
-pub returns-in-End : goal.returns-in-End
-returns-in-End c = absurd (true≢false (ap is_condition (sym c.requires.row_value_2.1 ∙ sym (ap (λ (r : Row). r.kind) c.row_at-row.ensures) ∙ c.in-End.is)))
-
-pub returns-in-Operator : goal.returns-in-Operator
-returns-in-Operator c = absurd (true≢false (ap is_condition (sym c.requires.row_value_2.1 ∙ sym (ap (λ (r : Row). r.kind) c.row_at-row.ensures) ∙ c.in-Operator.is)))
+pub unreachable-requires : goal.unreachable-requires
+unreachable-requires c = c.in_default.not-Condition _ (ap (λ (r : Row). r.kind) c.row_at.ensures ∙ c.requires.row_value_2.1)

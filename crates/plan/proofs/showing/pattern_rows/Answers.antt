@@ -2,26 +2,25 @@
 use native.Mathlib.Omega.{arith}
 use Prim.Native.Nat.{ℕ, ◌+◌, ◌-◌, ◌≤◌}
 use mathlib.Core.Path.{◌≡◌, ap, ◌∙◌}
+use mathlib.Core.List.{List}
 use lib.ListN.{length, take, drop}
-use Rattle.plan.specs.Parts.{part_of, part_at}
+use Rattle.plan.specs.declared.showing.Span.{Span}
+use Rattle.plan.specs.Parts.{span_of, part_of, part_at}
 use Rattle.plan.proofs.Laws.Shown.{span-inside}
 use Rattle.plan.proofs.showing.pattern_rows.Goals as goal
-use Rattle.plan.proofs.showing.pattern_rows.Goals.{After-struct_known-1}
 
 -- the span lies in the plan
-inside : (c : After-struct_known-1) → c.pattern_span-span.result.start + c.pattern_span-span.result.len ≤ length c.args.plan.now
-inside c =
-    let a = c.args in
-    rw c.pattern_span-span.ensures (span-inside a.volume.now a.plan.now a.pattern).0
+inside : (v p : List ℕ) (k : ℕ) {s : Span} → s ≡ span_of v p k → s.start + s.len ≤ length p
+inside v p k e = rw e (span-inside v p k).0
 
-pub overflow_add-end : goal.overflow_add-end
-overflow_add-end c = omega (arith, inside c)
+pub overflow_add-result : goal.overflow_add-result
+overflow_add-result c = omega (arith, inside _ _ _ c.pattern_span-span.ensures)
 
-pub offset_bounds-plan-start : goal.offset_bounds-plan-start
-offset_bounds-plan-start c = omega (arith, inside c)
+pub offset_bounds-plan-span : goal.offset_bounds-plan-span
+offset_bounds-plan-span c = omega (arith, inside _ _ _ c.pattern_span-span.ensures)
 
 pub slice_bounds-result-end : goal.slice_bounds-result-end
-slice_bounds-result-end c = omega (arith, inside c)
+slice_bounds-result-end c = omega (arith, inside _ _ _ c.pattern_span-span.ensures)
 
 pub returns : goal.returns
 unfolding part_of

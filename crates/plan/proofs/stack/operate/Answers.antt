@@ -1,21 +1,21 @@
 -- `stack::operate` meets its contract: its bits are those of the operator on the answers. Assumes nothing.
-use native.Mathlib.Nat.{add-zero, one-mul}
+use native.Mathlib.Nat.{one-mul}
 use native.Mathlib.Omega.{arith}
 use Prim.Native.Nat.{ℕ, ◌+◌, ◌-◌, ◌*◌, ◌^◌, ◌/◌, ◌%◌, ◌<◌, ◌≤◌}
-use mathlib.Core.Path.{◌≡◌, sym, ap, subst, ◌∙◌}
-use mathlib.Core.Bool.{Bool}
-use mathlib.Core.List.{List}
-use lib.ListN.{length}
+use mathlib.Core.Path.{◌≡◌, refl, sym, ap, subst, ◌∙◌}
+use mathlib.Core.Bool.{Bool, true, false}
 use lib.Dec.{lit<}
 use lib.Pow.{pow_pos, pow_mono, shl_exact, shr_lt}
 use lib.Bits.{bit_and, and_mask}
+use mir.Val.{bool_byte}
+use Rattle.plan.specs.declared.row.Operator.{Operator}
+use Rattle.plan.specs.declared.row.Kind.TheVariants as kind
+use Rattle.plan.specs.Rows.{InRange}
 use Rattle.plan.specs.State.{takes}
-use Rattle.plan.specs.Patterns.{operate}
-use Rattle.plan.specs.Inner.Stack.{flag_of, bits_of, joins}
+use Rattle.plan.specs.Inner.Stack.{flag_of, joins}
 use Rattle.plan.proofs.Laws.State.{takes-some, takes-few}
 use Rattle.plan.proofs.Laws.Stack.{operated, operated_bits}
 use Rattle.plan.proofs.stack.operate.Goals as goal
-use Rattle.plan.proofs.stack.operate.Goals.{After-joins, After-takes-count}
 
 -- the mask of the answers that are taken
 mask : (n k : ℕ) → k ≤ 8 → bit_and n ((1 * 2 ^ k) % 4294967296 - 1) ≡ n % 2 ^ k
@@ -30,59 +30,45 @@ rest_lt n k h l m =
     omega arith
 
 -- an operator takes two answers to eight
-few : (c : After-takes-count) → c.takes-count.result ≤ 8
-few c = rw c.takes-count.ensures (takes-few c.args.operator c.requires)
+few : (o : Operator) (n : ℕ) → n ≡ takes o → InRange (kind.Operator o) → n ≤ 8
+few o n e h = rw e (takes-few o h)
 
-some : (c : After-takes-count) → 2 ≤ c.takes-count.result
-some c = rw c.takes-count.ensures (takes-some c.args.operator c.requires)
+-- the answers below are few enough for one more
+small : (o : Operator) (n stack : ℕ) → n ≡ takes o → InRange (kind.Operator o) → stack < 4294967296 → stack / 2 ^ n < 1073741824
+small o n stack e h l = rest_lt stack n l (rw e (takes-some o h)) (few o n e h)
+
+byte-flag : (t : Bool) → bool_byte t ≡ flag_of t
+byte-flag true = refl
+byte-flag false = refl
+
+byte-le : (t : Bool) → bool_byte t ≤ 1
+byte-le true = omega arith
+byte-le false = omega arith
 
 pub overflow_shl-taken : goal.overflow_shl-taken
-overflow_shl-taken c = omega (arith, few c)
+overflow_shl-taken c = omega (arith, few _ _ c.takes-count.ensures c.requires)
 
 pub overflow_sub-taken : goal.overflow_sub-taken
 overflow_sub-taken c =
     let k = c.takes-count.result in
-    rw (shl_exact 1 k 32 (lit< tt) (omega (arith, few c)) ∙ one-mul (2 ^ k)) (pow_pos k)
+    rw (shl_exact 1 k 32 (lit< tt) (omega (arith, few _ _ c.takes-count.ensures c.requires)) ∙ one-mul (2 ^ k)) (pow_pos k)
 
-pub overflow_shr-rest : goal.overflow_shr-rest
-overflow_shr-rest c = omega (arith, few c)
+pub overflow_shr-result : goal.overflow_shr-result
+overflow_shr-result c = omega (arith, few _ _ c.takes-count.ensures c.requires)
 
--- the answers below are few enough for one more
-small : (c : After-takes-count) → c.args.stack / 2 ^ c.takes-count.result < 1073741824
-small c = rest_lt c.args.stack c.takes-count.result (omega arith) (some c) (few c)
-
-pub overflow_mul-rest : goal.overflow_mul-rest
-overflow_mul-rest c = omega (arith, small c)
+pub overflow_mul-result : goal.overflow_mul-result
+overflow_mul-result c = omega (arith, small _ _ c.args.stack c.takes-count.ensures c.requires (omega arith))
 
 pub overflow_add-result : goal.overflow_add-result
-overflow_add-result c = omega (arith, small (goal.at.overflow_add-result c).After-takes-count)
+overflow_add-result c = rw c.from.ensures (omega (arith, small _ _ c.args.stack c.takes-count.ensures c.requires (omega arith), byte-le c.joins.result))
 
-few' : (c : After-joins) → c.takes-count.result ≤ 8
-few' c = rw c.takes-count.ensures (takes-few c.args.operator c.requires)
-
--- the answer of the operator on the bits
-answered : (c : After-joins) (ts : List Bool) → let a = c.args in
-    takes a.operator ≤ length ts → a.stack ≡ bits_of ts
-    → a.stack / 2 ^ c.takes-count.result * 2 + flag_of c.joins.result ≡ bits_of (operate a.operator ts)
-answered c ts h e =
+pub returns : goal.returns
+returns c = λ ts h e.
     let a = c.args in
     let k = c.takes-count.result in
-    ap (λ (b : Bool). a.stack / 2 ^ k * 2 + flag_of b) (c.joins.ensures ∙ ap (joins a.operator) (mask a.stack k (few' c)))
+    let rest = a.stack / 2 ^ k * 2 in
+    ap (λ (n : ℕ). rest + n) (c.from.ensures ∙ byte-flag c.joins.result)
+    ∙ ap (λ (b : Bool). rest + flag_of b) (c.joins.ensures ∙ ap (joins a.operator) (mask a.stack k (few _ _ c.takes-count.ensures c.requires)))
     ∙ ap (λ (j : ℕ). a.stack / 2 ^ j * 2 + flag_of (joins a.operator (a.stack % 2 ^ j))) c.takes-count.ensures
     ∙ ap (operated a.operator) e
     ∙ operated_bits a.operator ts h
-
-pub returns-then-joins : goal.returns-then-joins
-returns-then-joins c =
-    let a = c.args in
-    let k = c.takes-count.result in
-    λ ts h e. ap (λ (b : Bool). a.stack / 2 ^ k * 2 + flag_of b) (sym c.if-joins.true) ∙ answered (goal.at.returns-then-joins c).After-joins ts h e
-
-pub returns : goal.returns
-returns c =
-    let a = c.args in
-    let k = c.takes-count.result in
-    λ ts h e.
-    sym (add-zero (a.stack / 2 ^ k * 2))
-    ∙ ap (λ (b : Bool). a.stack / 2 ^ k * 2 + flag_of b) (sym c.if-joins.false)
-    ∙ answered (goal.at.returns c).After-joins ts h e

@@ -7,8 +7,8 @@ use Rattle.printer.proofs.Laws.Patterns.{open-some, open-condition, open-room, o
 use Rattle.printer.proofs.Laws.Patterns.{open-no-end, open-no_operator}
 use Rattle.printer.proofs.patterns.+put_open.Goals as goal
 
-pub put_condition-at-requires : goal.put_condition-at-requires
-put_condition-at-requires t c =
+pub put_condition-requires : goal.put_condition-requires
+put_condition-requires t c =
     let e = ap (λ (r : Row). r.kind) (sym c.row_at.ensures) ∙ c.in-Condition.is in
     open-condition e c.requires
 
@@ -21,7 +21,7 @@ pub put_open-requires : goal.put_open-requires
 put_open-requires t c =
     let e = ap (λ (r : Row). r.kind) (sym c.row_at.ensures) ∙ c.in-Condition.is in
     let s = open-some e c.requires in
-    (omega (arith, c.decreases), open-room e c.put_condition-at.ensures c.requires)
+    (omega (arith, c.decreases), open-room e c.put_condition.ensures.put c.requires)
 
 pub put_lists-requires : goal.put_lists-requires
 put_lists-requires t c =
@@ -31,12 +31,15 @@ put_lists-requires t c =
 pub returns-in-Condition : goal.returns-in-Condition
 returns-in-Condition t c =
     let e = ap (λ (r : Row). r.kind) (sym c.row_at.ensures) ∙ c.in-Condition.is in
-    open_next e c.put_condition-at.ensures c.put_open.ensures
+    let condition = c.put_condition.ensures in
+    let rest = c.put_open.ensures in
+    record { put = open_next e condition.put rest.put; same = rest.same ∙ condition.same }
 
 pub returns-in-Voice : goal.returns-in-Voice
 returns-in-Voice t c =
     let e = ap (λ (r : Row). r.kind) (sym c.row_at.ensures) ∙ c.in-Voice.is in
-    open-first e c.put_lists.ensures
+    let lists = c.put_lists.ensures in
+    record { put = open-first e lists.put; same = lists.same }
 
 pub unreachable-requires : goal.unreachable-requires
 unreachable-requires t c =

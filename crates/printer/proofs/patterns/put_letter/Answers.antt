@@ -1,4 +1,5 @@
 -- `patterns::put_letter` meets its contract. Assumes nothing.
+use mathlib.Core.Path.{◌∙◌}
 use mathlib.Core.List.{[], ◌∷◌}
 use Rattle.grammar.specs.Text.{lead}
 use Rattle.printer.specs.Inner.Writing.{begun}
@@ -8,4 +9,6 @@ use Rattle.printer.proofs.patterns.put_letter.Goals as goal
 pub returns : goal.returns
 unfolding begun lead
 returns c =
-    put_then (59 ∷ []) (c.args.letter ∷ []) c.put_byte-at.ensures c.put_byte.ensures
+    let letter = c.put_byte.ensures in
+    let mark = c.put_byte-2.ensures in
+    record { put = put_then (59 ∷ []) (c.args.letter ∷ []) letter.put mark.put; same = mark.same ∙ letter.same }

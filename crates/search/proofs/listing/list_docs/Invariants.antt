@@ -9,13 +9,13 @@ use Rattle.plan.specs.Inner.Stack.{most_found_sets, Remembers}
 use Rattle.search.proofs.Laws.Visits.{Visiting}
 use Rattle.search.proofs.listing.list_docs.Given as goal
 
-abbrev pub invariant-loop-starts : goal.invariant-loop-starts
-invariant-loop-starts l = Visiting l.volume l.plan l.ends l.start l.initial.out l.ats l.positions (take l.patterns l.docs) l.out l.from l.rows l.starts
+abbrev pub invariant-loop-seen : goal.invariant-loop-seen
+invariant-loop-seen l = Visiting l.volume l.plan l.ends l.start l.initial.out l.ats l.positions (take l.patterns l.docs) l.out l.from l.rows l.starts
     × ((length l.docs ≡ most_patterns)
     × ((length l.ats ≡ length l.initial.ats)
     × ((length l.known ≡ most_found_sets)
     × (Remembers l.plan l.known
     × ((length l.positions ≡ length l.initial.positions) × ((length l.paras ≡ most_vars) × (126 * l.block ≤ stream_length l.volume)))))))
 
-abbrev pub decreases-loop-starts : goal.decreases-loop-starts
-decreases-loop-starts l = 65537 - l.from
+abbrev pub decreases-loop-seen : goal.decreases-loop-seen
+decreases-loop-seen l = 65537 - l.from

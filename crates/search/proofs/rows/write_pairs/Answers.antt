@@ -23,13 +23,11 @@ block_within v document ok placed target block e =
     omega arith
 
 -- the buffer reaches the pair of position x
-reach : (c : In-loop-x) → let l = c.loop-x in l.at + 1 < length l.out
+reach : (c : In-loop-x) → c.args.to + 2 * c.loop-x.x + 1 < length c.loop-x.out
 reach c =
     let words = c.requires.positions_in_bounds in
-    let i = c.loop-x.invariant.0 in
     let t = c.loop-x-test.true in
-    let w = i.stored.same_length in
-    let a = i.at-is in
+    let w = c.loop-x.invariant.0.stored.same_length in
     omega arith
 
 pub loop-x-init : goal.loop-x-init
@@ -54,39 +52,24 @@ para_near-para-requires c =
       block_bound = c.loop-x.invariant.1;
     }
 
-pub offset_bounds-out-at : goal.offset_bounds-out-at
-offset_bounds-out-at c = let r = reach (goal.at.offset_bounds-out-at c).In-loop-x in omega arith
+pub bounds-out-to : goal.bounds-out-to
+bounds-out-to c = let r = reach (goal.at.bounds-out-to c).In-loop-x in omega arith
 
-pub bounds-out-at : goal.bounds-out-at
-bounds-out-at c = let r = reach (goal.at.bounds-out-at c).In-loop-x in omega arith
+pub overflow_mul-out : goal.overflow_mul-out
+overflow_mul-out c = let r = reach (goal.at.overflow_mul-out c).In-loop-x in omega arith
 
-pub overflow_add-out : goal.overflow_add-out
-overflow_add-out c = let r = reach (goal.at.overflow_add-out c).In-loop-x in omega arith
-
-pub offset_bounds-out-at-in-loop-x : goal.offset_bounds-out-at-in-loop-x
-offset_bounds-out-at-in-loop-x c = let r = reach (goal.at.offset_bounds-out-at-in-loop-x c).In-loop-x in omega arith
-
-pub bounds-out-at-in-loop-x : goal.bounds-out-at-in-loop-x
-bounds-out-at-in-loop-x c =
-    let r = reach (goal.at.bounds-out-at-in-loop-x c).In-loop-x in
-    let n = length-set c.loop-x.out c.loop-x.at (get_or c.args.positions.now c.loop-x.x 0) in
+pub bounds-out-to-in-loop-x : goal.bounds-out-to-in-loop-x
+bounds-out-to-in-loop-x c =
+    let r = reach (goal.at.bounds-out-to-in-loop-x c).In-loop-x in
+    let n = length-set c.loop-x.out (c.args.to + 2 * c.loop-x.x) (get_or c.args.positions.now c.loop-x.x 0) in
     omega arith
-
-pub overflow_add-at : goal.overflow_add-at
-overflow_add-at c = let r = reach (goal.at.overflow_add-at c).In-loop-x in omega arith
-
-pub overflow_add-x : goal.overflow_add-x
-overflow_add-x c = let r = reach (goal.at.overflow_add-x c).In-loop-x in omega arith
-
-pub loop-x-smaller : goal.loop-x-smaller
-loop-x-smaller c = let t = c.loop-x-test.true in omega arith
 
 pub loop-x-preserved : goal.loop-x-preserved
 loop-x-preserved c =
     let l = c.loop-x in
     let p = c.requires in
     let n = c.para_near-para in (
-      pairing-next _ _ _ _ l.out l.at l.x l.invariant.0 c.loop-x-test.true p.positions_in_bounds n.result.start
+      pairing-next _ _ _ _ l.out l.x l.invariant.0 c.loop-x-test.true p.positions_in_bounds n.result.start
           n.ensures.start_value,
       block_within _ _ p.accepted p.at_document _ n.result.block n.ensures.block_value,
     )
@@ -98,6 +81,6 @@ pub returns : goal.returns
 returns c =
     let l = c.loop-x in
     record {
-      out_after = pairing-done _ _ _ _ l.out l.at l.x l.invariant.0 c.loop-x-test.false;
+      out_after = pairing-done _ _ _ _ l.out l.x l.invariant.0 c.loop-x-test.false;
       result_bound = l.invariant.1;
     }

@@ -1,14 +1,12 @@
--- `rows::write_row` meets its contract. The invariant of its loop: the row is written up to pattern k (`Writing`), and the block in
--- which the last start was found begins within the stream. The measure is what is left of the patterns. Assumes nothing.
-use Prim.Native.Nat.{◌-◌, ◌*◌, ◌≤◌}
+-- `rows::write_row` meets its contract. The invariant of its loop: the row is written up to that pattern (`Writing`), and the block in
+-- which the last start was found begins within the stream. Assumes nothing.
+use Prim.Native.Nat.{◌*◌, ◌≤◌}
+use lib.ListN.{length}
 use Rattle.volume.specs.Layout.{stream_length, lists_of}
 use Rattle.fulltext.specs.Matches.{starts_in}
 use Rattle.search.proofs.Laws.Rows.{Writing}
 use Rattle.search.proofs.rows.write_row.Given as goal
 
-abbrev pub invariant-loop-k : goal.invariant-loop-k
-invariant-loop-k l = Writing (starts_in (lists_of l.volume) l.document.doc) l.table l.document.doc l.found l.positions l.initial.out l.from l.patterns l.out l.to l.left l.k
+abbrev pub invariant-loop-outline : goal.invariant-loop-outline
+invariant-loop-outline l = Writing (starts_in (lists_of l.volume) l.document.doc) l.table l.document.doc l.found l.positions l.initial.out l.from (length l.table) l.out l.to l.left l.outline-index
     × (126 * l.near ≤ stream_length l.volume)
-
-abbrev pub decreases-loop-k : goal.decreases-loop-k
-decreases-loop-k l = l.patterns - l.k

@@ -1,77 +1,36 @@
-use Prim.Native.Nat.{ℕ, ◌+◌, ◌-◌}
+use Prim.Native.Nat.{◌+◌, ◌-◌, ◌<◌}
 use native.Mathlib.Omega.{arith}
-use mathlib.Core.Path.{◌≡◌, ap, ◌∙◌}
-use lib.ListN.{get_or}
-use Rattle.plan.specs.Accepted.{pattern_at}
+use mathlib.Core.Path.{◌≡◌, ap, ◌∙◌, refl}
 use Rattle.plan.specs.Check.{sizes}
-use Rattle.plan.specs.Inner.Outline.{vars_before}
+use Rattle.plan.specs.Inner.Outline.{vars_before, outline_at}
 use Rattle.plan.proofs.Laws.Accepted.{given}
-use Rattle.plan.proofs.Laws.Outline.{vars_before-first, vars_before-next, vars_before-end, Outlined, outlined}
+use Rattle.plan.proofs.Laws.Outline.{vars_before-first, vars_before-next, vars_before-end, outlined}
 use Rattle.matcher.specs.Inner.Tables.{var_at}
-use Rattle.matcher.proofs.Laws.Placed.{Voiced, voiced, voiced-list, var-is}
-use Rattle.search.proofs.Laws.Setup.{used-first, used-more, used-kept}
+use Rattle.matcher.proofs.Laws.Placed.{Voiced, voiced-list}
+use Rattle.search.proofs.Laws.Setup.{used-first, used-next, voice-at}
 use Rattle.search.proofs.setup.lists_used.Goals as goal
-use Rattle.search.proofs.setup.lists_used.Goals.{After-list_at-list, After-outline_at-outline, In-loop-i, else-used-list, then-used-list}
-
--- the outline of pattern k, as a turn reads it
-outline : (c : After-outline_at-outline) →
-    Outlined c.args.plan.now c.loop-k.k c.outline_at-outline.result
-outline c =
-    outlined c.args.table.now c.requires.tabled c.loop-k.k (omega arith) c.outline_at-outline.ensures
-
-outline' : (c : In-loop-i) →
-    Outlined c.args.plan.now c.loop-k.k c.outline_at-outline.result
-outline' c =
-    outlined c.args.table.now c.requires.tabled c.loop-k.k (omega arith) c.outline_at-outline.ensures
+use Rattle.search.proofs.setup.lists_used.Goals.{In-loop-i}
 
 -- the VOICE row of a variable, which an inner turn reads
 turn : (c : In-loop-i)
-    →
-    Voiced c.requires.by_index.0 c.args.plan.now
-    (c.outline_at-outline.result.condition - c.outline_at-outline.result.vars + c.loop-i.i)
-    (get_or (pattern_at c.args.plan.now c.outline_at-outline.result.pattern).vars c.loop-i.i 0)
+    → let o = outline_at c.args.table.now c.loop-outline.outline-index in
+    Voiced c.requires.by_index.0 c.args.plan.now ((o.condition - o.vars) + c.loop-i.i)
+    (var_at c.args.plan.now (vars_before c.args.plan.now c.loop-outline.outline-index + c.loop-i.i))
 turn c =
-    let o = outline' c in
-    voiced c.requires.by_index.0 c.args.plan.now c.requires.by_index.1 c.outline_at-outline.result o.there o.entry.outlines
-    c.loop-i.i (omega arith)
+    voice-at c.requires.by_index.0 c.args.plan.now c.requires.by_index.1 c.args.table.now c.requires.tabled c.loop-outline.outline-index
+    c.loop-i.i (omega arith) c.loop-i-test.true
 
-outline'' : (c : After-list_at-list) →
-    Outlined c.args.plan.now c.loop-k.k c.outline_at-outline.result
-outline'' c =
-    outlined c.args.table.now c.requires.tabled c.loop-k.k (omega arith) c.outline_at-outline.ensures
-
-turn' : (c : After-list_at-list)
-    →
-    Voiced c.requires.by_index.0 c.args.plan.now
-    (c.outline_at-outline.result.condition - c.outline_at-outline.result.vars + c.loop-i.i)
-    (get_or (pattern_at c.args.plan.now c.outline_at-outline.result.pattern).vars c.loop-i.i 0)
-turn' c =
-    let o = outline'' c in
-    voiced c.requires.by_index.0 c.args.plan.now c.requires.by_index.1 c.outline_at-outline.result o.there o.entry.outlines
-    c.loop-i.i (omega arith)
-
--- the list that it reads, that of the variable among those of the plan
-read : (c : After-list_at-list)
-    → let p = c.args.plan.now in
-    c.list_at-list.result ≡ var_at p (vars_before p c.loop-k.k + c.loop-i.i)
-read c =
-    let p = c.args.plan.now in
-    let o = outline'' c in
-    voiced-list (turn' c) c.list_at-list.result c.list_at-list.ensures
-    ∙ var-is c.requires.by_index.0 p c.requires.by_index.1 c.outline_at-outline.result o.there o.entry c.loop-i.i (omega arith)
-    ∙ ap (λ (x : ℕ). var_at p (x + c.loop-i.i)) o.first-is
-
-pub loop-k-init : goal.loop-k-init
-loop-k-init c = let p = c.args.plan.now in (omega arith, rw (vars_before-first p) (used-first p))
+pub loop-outline-init : goal.loop-outline-init
+loop-outline-init c = let p = c.args.plan.now in rw (vars_before-first p) (used-first p)
 
 pub overflow_sub-row : goal.overflow_sub-row
-overflow_sub-row c = let o = (outline (goal.at.overflow_sub-row c).After-outline_at-outline).room in omega arith
+overflow_sub-row c = let o = (outlined c.args.table.now c.requires.tabled c.loop-outline.outline-index (omega arith) refl).room in omega arith
 
 pub loop-i-init : goal.loop-i-init
 loop-i-init c =
     let p = c.args.plan.now in
-    let e : vars_before p c.loop-k.k ≡ vars_before p c.loop-k.k + 0 = omega arith in
-    (omega arith, rw e at c.loop-k.invariant.1)
+    let e : vars_before p c.loop-outline.outline-index ≡ vars_before p c.loop-outline.outline-index + 0 = omega arith in
+    rw e at c.loop-outline.invariant
 
 pub overflow_add-row : goal.overflow_add-row
 overflow_add-row c =
@@ -90,24 +49,24 @@ pub loop-i-preserved : goal.loop-i-preserved
 loop-i-preserved c =
     let l = c.loop-i in
     let p = c.args.plan.now in
-    let x = vars_before p c.loop-k.k + l.i in
-    let e : x + 1 ≡ vars_before p c.loop-k.k + (l.i + 1) = omega arith in
-    let r = read (goal.at.loop-i-preserved c).After-list_at-list in (
-      omega arith,
-      elim c.if-used-list.branch [ then-used-list w ↦ rw w.used-is (rw e at (used-more p x l.used _ l.invariant.1 r w.if-used-list.true)) | else-used-list w ↦ rw w.used-is (rw e at (used-kept p x l.used _ l.invariant.1 r w.if-used-list.false)) ],
-    )
+    let x = vars_before p c.loop-outline.outline-index + l.i in
+    let e : x + 1 ≡ vars_before p c.loop-outline.outline-index + (l.i + 1) = omega arith in
+    let t = turn (goal.at.loop-i-preserved c).In-loop-i in
+    rw (← e, c.max-used.ensures) (used-next p x l.used _ l.invariant (voiced-list t c.list_at-list.result c.list_at-list.ensures))
 
-pub loop-k-preserved : goal.loop-k-preserved
-loop-k-preserved c =
+pub loop-outline-preserved : goal.loop-outline-preserved
+loop-outline-preserved c =
     let p = c.args.plan.now in
-    let m = (outline (goal.at.loop-k-preserved c).After-outline_at-outline).vars_are in
-    let next = vars_before-next p c.loop-k.k (omega arith) in
-    let e : vars_before p c.loop-k.k + c.loop-i.i ≡ vars_before p (c.loop-k.k + 1) = omega arith in
-    (omega arith, rw e at c.loop-i.invariant.1)
+    let k = c.loop-outline.outline-index in
+    let h : k < (sizes p).patterns = omega arith in
+    let m = (outlined c.args.table.now c.requires.tabled k h refl).vars_are in
+    let next = vars_before-next p k h in
+    let e : vars_before p k + c.loop-i.i ≡ vars_before p (k + 1) = omega arith in
+    rw e at c.loop-i.invariant
 
 pub returns : goal.returns
 returns c =
-    let l = c.loop-k in
+    let l = c.loop-outline in
     let p = c.args.plan.now in
-    let e : l.k ≡ (sizes p).patterns = omega arith in
-    rw (ap (vars_before p) e ∙ vars_before-end p) at l.invariant.1
+    let e : l.outline-index ≡ (sizes p).patterns = omega arith in
+    rw (ap (vars_before p) e ∙ vars_before-end p) at l.invariant

@@ -1,20 +1,13 @@
--- `setup::set_cursors` meets its contract. The invariants: of the outer loop, the variables of the first k patterns have their cursors; of
--- the inner loop, so have the first i of pattern k. The measures are what is left of the patterns, and of the pattern's variables. Assumes
--- nothing.
-use Prim.Native.Nat.{◌+◌, ◌-◌, ◌≤◌}
+-- `setup::set_cursors` meets its contract. The invariants: of the outer loop, the variables of the patterns in front have their cursors; of
+-- the inner loop, so have the first i of the pattern. Assumes nothing.
+use Prim.Native.Nat.{◌+◌}
 use lib.ListN.{length}
 use Rattle.plan.specs.Inner.Outline.{vars_before}
 use Rattle.matcher.proofs.Laws.Placed.{Placing}
 use Rattle.search.proofs.setup.set_cursors.Given as goal
 
 abbrev pub invariant-loop-i : goal.invariant-loop-i
-invariant-loop-i l = (l.i ≤ l.count) × Placing l.volume l.plan l.start (length l.initial.ats) (length l.initial.ends) l.ats l.ends (l.first + l.i)
+invariant-loop-i l = Placing l.volume l.plan l.start (length l.initial.ats) (length l.initial.ends) l.ats l.ends (vars_before l.plan l.outline-index + l.i)
 
-abbrev pub decreases-loop-i : goal.decreases-loop-i
-decreases-loop-i l = l.count - l.i
-
-abbrev pub invariant-loop-k : goal.invariant-loop-k
-invariant-loop-k l = (l.k ≤ l.patterns) × Placing l.volume l.plan l.start (length l.initial.ats) (length l.initial.ends) l.ats l.ends (vars_before l.plan l.k)
-
-abbrev pub decreases-loop-k : goal.decreases-loop-k
-decreases-loop-k l = l.patterns - l.k
+abbrev pub invariant-loop-outline : goal.invariant-loop-outline
+invariant-loop-outline l = Placing l.volume l.plan l.start (length l.initial.ats) (length l.initial.ends) l.ats l.ends (vars_before l.plan l.outline-index)

@@ -3,15 +3,16 @@ use native.Mathlib.Omega.{arith}
 use mathlib.Core.Path.{refl, ◌∙◌}
 use Rattle.plan.specs.Check.{sizes}
 use Rattle.plan.proofs.Laws.Accepted.{given}
+use Rattle.plan.proofs.Laws.Outline.{outlined}
 use Rattle.search.proofs.Laws.Settling.{settling-first, settling-small, settling-away, settling-ready}
 use Rattle.search.proofs.Laws.Settling.{settling-yes, settling-no, settling-done}
 use Rattle.search.proofs.walk.settle_all.Goals as goal
-use Rattle.search.proofs.walk.settle_all.Goals.{then-docs-k+then-settle, then-docs-k+else-settle, else-docs-k}
+use Rattle.search.proofs.walk.settle_all.Goals.{then-docs-k+then-settle, else-docs-k, else-docs-k-via-then-docs-k+else-settle, else-docs-k-via-else-docs-k}
 use Rattle.search.proofs.walk.settle_all.Goals.{In-loop-k}
 
 -- pattern k is one of the plan's, and its bit fits the bits
 inside : (c : In-loop-k) → c.loop-k.k < (sizes c.args.plan.now).patterns
-inside c = let e = c.requires.docs_len in let t = c.loop-k-test.true in omega arith
+inside c = let e = c.requires.walks.table-length in let t = c.loop-k-test.true in omega arith
 
 small : (c : In-loop-k) → (c.loop-k.weight ≤ 256) × (c.loop-k.bits < 256)
 small c =
@@ -24,13 +25,7 @@ loop-k-init c =
     (settling-first _ _ _ _ _ _ _ c.requires.by_index, refl)
 
 pub bounds-docs-k : goal.bounds-docs-k
-bounds-docs-k c = let t = c.loop-k-test.true in omega arith
-
-pub outline_at-outline-requires : goal.outline_at-outline-requires
-outline_at-outline-requires c =
-    let r = c.requires.walks.table-room in
-    let i = inside (goal.at.outline_at-outline-requires c).In-loop-k in
-    omega arith
+bounds-docs-k c = let i = inside (goal.at.bounds-docs-k c).In-loop-k in let e = c.requires.docs_len in omega arith
 
 pub settle-requires : goal.settle-requires
 settle-requires c =
@@ -38,7 +33,7 @@ settle-requires c =
     let p = c.requires in
     let r = p.plan_in_bounds_3 in
     let e = l.invariant.1 in record {
-      ready = rw c.outline_at-outline.ensures
+      ready =
           (settling-ready _ _ _ _ _ _ _ l.ats l.positions l.bits l.weight l.k l.invariant.0 (inside (goal.at.settle-requires c).In-loop-k) c.if-docs-k.true
           _ _ p.walks c.args.document refl p.at_document p.plan_in_bounds p.plan_in_bounds_2);
       plan_in_bounds = omega arith;
@@ -52,12 +47,6 @@ overflow_add-bits c =
 pub overflow_mul-weight : goal.overflow_mul-weight
 overflow_mul-weight c = let s = small (goal.at.overflow_mul-weight c).In-loop-k in omega arith
 
-pub overflow_add-k : goal.overflow_add-k
-overflow_add-k c = let t = c.loop-k-test.true in omega arith
-
-pub loop-k-smaller : goal.loop-k-smaller
-loop-k-smaller c = let t = c.loop-k-test.true in omega arith
-
 pub loop-k-preserved : goal.loop-k-preserved
 loop-k-preserved c =
     let l = c.loop-k in
@@ -66,16 +55,19 @@ loop-k-preserved c =
     elim c.if-docs-k.branch [
       | then-docs-k+then-settle w ↦ rw (w.ats-is, w.positions-is, w.paras-is, w.bits-is) (
         settling-yes _ _ _ _ _ _ _ l.ats l.positions l.bits l.weight l.k l.invariant.0 i w.if-docs-k.true room w.settle.result
-            w.settle.new.ats w.settle.new.positions (rw w.outline_at-outline.ensures at w.settle.ensures.settled) w.if-settle.true,
-        w.settle.ensures.paras_len_unchanged ∙ l.invariant.1,
-      )
-      | then-docs-k+else-settle w ↦ rw (w.ats-is, w.positions-is, w.paras-is, w.bits-is) (
-        settling-no _ _ _ _ _ _ _ l.ats l.positions l.bits l.weight l.k l.invariant.0 i w.if-docs-k.true room w.settle.result
-            w.settle.new.ats w.settle.new.positions (rw w.outline_at-outline.ensures at w.settle.ensures.settled) w.if-settle.false,
+            w.settle.new.ats w.settle.new.positions (rw (outlined c.args.table.now c.requires.walks.tabled l.k i refl).pattern-is at w.settle.ensures.settled) w.if-settle.true,
         w.settle.ensures.paras_len_unchanged ∙ l.invariant.1,
       )
       | else-docs-k w ↦ rw (w.ats-is, w.positions-is, w.paras-is, w.bits-is)
-          (settling-away _ _ _ _ _ _ _ l.ats l.positions l.bits l.weight l.k l.invariant.0 i w.if-docs-k.false, l.invariant.1)
+          (elim w.else-docs-k.branch [
+            | else-docs-k-via-then-docs-k+else-settle z ↦ rw (z.ats-is, z.positions-is, z.paras-is) (
+              settling-no _ _ _ _ _ _ _ l.ats l.positions l.bits l.weight l.k l.invariant.0 i z.if-docs-k.true room z.settle.result
+                  z.settle.new.ats z.settle.new.positions (rw (outlined c.args.table.now c.requires.walks.tabled l.k i refl).pattern-is at z.settle.ensures.settled) z.if-settle.false,
+              z.settle.ensures.paras_len_unchanged ∙ l.invariant.1,
+            )
+            | else-docs-k-via-else-docs-k z ↦ rw (z.ats-is, z.positions-is, z.paras-is)
+                (settling-away _ _ _ _ _ _ _ l.ats l.positions l.bits l.weight l.k l.invariant.0 i z.if-docs-k.false, l.invariant.1)
+          ])
     ]
 
 pub shape_of-ats : goal.shape_of-ats
@@ -90,7 +82,7 @@ shape_of-paras c = c.loop-k.invariant.1
 pub returns : goal.returns
 returns c =
     let l = c.loop-k in
-    let e = c.requires.docs_len in
+    let e = c.requires.walks.table-length in
     let t = c.loop-k-test.false in
     record {
       settled_all = settling-done _ _ _ _ _ _ _ l.ats l.positions l.bits l.weight l.k l.invariant.0 (omega arith);

@@ -7,30 +7,21 @@ use Rattle.plan.specs.Check.{sizes}
 use Rattle.matcher.specs.Inner.Cursors.{AtDocument}
 use Rattle.search.proofs.Laws.Seen.{at-document, seen-from, seen_here, seen-out, seen_in}
 use Rattle.search.proofs.walk.visit.Goals as goal
-use Rattle.search.proofs.walk.visit.Goals.{After-least_of-doc, After-next_docs, After-starts-1, Else-doc-eq-DOCS}
-
--- it is not in front of the document that was reached
-from_doc : (c : After-least_of-doc) → c.args.walk.from ≤ c.least_of-doc.result
-from_doc c =
-    seen-from _ _ _ _ _ c.requires.walks _ _ _ _ _ _ _ _ c.next_docs.ensures c.least_of-doc.ensures c.requires.walking.docs-length
+use Rattle.search.proofs.walk.visit.Goals.{After-next_docs, After-starts-1, Else-doc-eq-DOCS}
 
 -- it is a document
 inside : (c : Else-doc-eq-DOCS) → c.least_of-doc.result < 65536
 inside c = let l = c.least_of-doc.ensures.most in let n = c.if-doc-eq-DOCS.false in omega arith
-
-from_doc' : (c : After-starts-1) → c.args.walk.from ≤ c.least_of-doc.result
-from_doc' c =
-    seen-from _ _ _ _ _ c.requires.walks _ _ _ _ _ _ _ _ c.next_docs.ensures c.least_of-doc.ensures c.requires.walking.docs-length
-
-inside' : (c : After-starts-1) → c.least_of-doc.result < 65536
-inside' c = let l = c.least_of-doc.ensures.most in let n = c.if-doc-eq-DOCS.false in omega arith
 
 -- the walk's cursor on list 0 has not passed it
 document : (c : After-starts-1) → let walk = c.args.walk in
     AtDocument c.args.volume.now (record { doc = c.least_of-doc.result; starts = walk.starts })
 document c =
     let w = c.requires.walking in
-    at-document _ _ _ _ (from_doc' c) (inside' c) w.starts-at w.starts-end
+    at-document _ _ _ _
+    (seen-from _ _ _ _ _ c.requires.walks _ _ _ _ _ _ _ _ c.next_docs.ensures c.least_of-doc.ensures w.docs-length)
+    (let l = c.least_of-doc.ensures.most in let n = c.if-doc-eq-DOCS.false in omega arith)
+    w.starts-at w.starts-end
 
 -- the patterns' documents are as many as the patterns
 size : (c : After-next_docs)
@@ -66,6 +57,7 @@ returns-then-doc-eq-DOCS c =
     record {
       visited = seen-out _ _ _ _ _ c.requires.walks _ _ _ _ _ _ _ _ c.next_docs.ensures c.least_of-doc.ensures
           c.requires.walking.docs-length _ c.if-doc-eq-DOCS.true;
+      document = tt;
       paras_len_unchanged = refl;
     }
 
@@ -88,5 +80,6 @@ returns c =
     record {
       visited = seen_in _ _ _ _ _ c.requires.walks _ _ _ _ _ _ _ _ c.next_docs.ensures c.least_of-doc.ensures
           c.requires.walking.docs-length _ _ _ _ c.settle_all-found.ensures.settled_all (document (goal.at.returns c).After-starts-1) (room (goal.at.returns c).After-next_docs) (reach (goal.at.returns c).After-next_docs);
+      document = inside (goal.at.returns c).Else-doc-eq-DOCS;
       paras_len_unchanged = c.settle_all-found.ensures.paras_len_unchanged;
     }

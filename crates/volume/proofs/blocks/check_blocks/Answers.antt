@@ -1,68 +1,51 @@
 use native.Mathlib.Omega.{arith}
 use Prim.Native.Nat.{◌+◌, ◌*◌, ◌/◌}
 use native.Mathlib.Nat.{sub-zero}
-use mathlib.Core.Path.{◌≡◌, refl, sym, ap, ap₂, ◌∙◌}
-use mathlib.Core.Bool.{Bool, true, false, ◌||◌}
+use mathlib.Core.Path.{◌≡◌, refl, sym, ap, ◌∙◌}
+use mathlib.Core.Bool.{false}
 use lib.ListN.{length}
+use Rattle.std.specs.Prelude.{Ok}
+use Rattle.std.proofs.lemmas.Result.{err_from_is_err_and}
 use Rattle.seq.specs.Numbers.{first_from, sum_to}
 use Rattle.seq.proofs.Laws.Numbers.{first_hit, first_miss, first-end, sum_step}
 use Rattle.volume.specs.Layout.{word}
-use Rattle.volume.specs.Check.{checksum_wrong, block_wrong}
+use Rattle.volume.specs.Check.{block_wrong, bad_block}
 use Rattle.volume.specs.Inner.Falls.{fall, falls_before}
+use Rattle.volume.proofs.Laws.Check.{blocks_wrong-true, blocks_wrong-false}
+use Rattle.volume.proofs.Laws.Pass.{block-right, block-refused, pass_refused, pass_done}
 use Rattle.volume.proofs.blocks.check_blocks.Goals as goal
 
 pub loop-k-init : goal.loop-k-init
 unfolding sum_to
-loop-k-init c = (refl, omega arith, omega arith, refl, ap (first_from (block_wrong _) 0) (sub-zero _))
-
-pub returns-then-number_wrong : goal.returns-then-number_wrong
-unfolding block_wrong
-returns-then-number_wrong c =
-    let l = c.loop-k in
-    let v = c.args.volume.now in
-    let wrong : block_wrong v l.k ≡ true = ap (λ (t : Bool). t || checksum_wrong v l.k) (sym c.number_wrong.ensures ∙ c.if-number_wrong.true) in
-    record {
-      bad_value = sym (first_hit (block_wrong v) l.k (length v / 512) c.loop-k-test.true wrong) ∙ l.invariant.4;
-      falls_value = l.invariant.3;
-      bad_bound = omega arith;
-    }
-
-pub returns-then-checksum_wrong : goal.returns-then-checksum_wrong
-unfolding block_wrong
-returns-then-checksum_wrong c =
-    let l = c.loop-k in
-    let v = c.args.volume.now in
-    let wrong : block_wrong v l.k ≡ true = ap₂ (λ (s t : Bool). s || t) (sym c.number_wrong.ensures ∙ c.if-number_wrong.false) (sym c.checksum_wrong.ensures ∙ c.if-checksum_wrong.true) in
-    record {
-      bad_value = sym (first_hit (block_wrong v) l.k (length v / 512) c.loop-k-test.true wrong) ∙ l.invariant.4;
-      falls_value = l.invariant.3;
-      bad_bound = omega arith;
-    }
+loop-k-init c = record { few = omega arith; counted = refl; search = ap (first_from (block_wrong _) 0) (sub-zero _) }
 
 pub loop-k-preserved : goal.loop-k-preserved
-unfolding block_wrong
 loop-k-preserved c =
     let l = c.loop-k in
     let v = c.args.volume.now in
-    let right : block_wrong v l.k ≡ false =
-    ap₂ (λ (s t : Bool). s || t) (sym c.number_wrong.ensures ∙ c.if-number_wrong.false) (sym c.checksum_wrong.ensures ∙ c.if-checksum_wrong.false) in
+    let right : block_wrong v l.k ≡ false = block-right v l.k _ c.in_ok-check_block.ensures in
     let inside : falls_before v (126 * l.k) + c.falls_in.result ≡ falls_before v (126 * l.k + 125) = c.falls_in.ensures.result_value in
     let last : falls_before v (126 * l.k + 125 + 1) ≡ falls_before v (126 * l.k + 125) + fall (word v) (126 * l.k + 125) = sum_step (fall (word v)) (126 * l.k + 125) in
-    let next : 126 * (l.k + 1) ≡ 126 * l.k + 125 + 1 = omega arith in (
-      l.invariant.0,
-      omega arith,
-      omega arith,
-      rw next (omega arith),
-      sym (first_miss (block_wrong v) l.k (length v / 512) c.loop-k-test.true right) ∙ l.invariant.4,
-    )
+    let next : 126 * (l.k + 1) ≡ 126 * l.k + 125 + 1 = omega arith in
+    record {
+      few = omega arith;
+      counted = rw next (omega arith);
+      search = sym (first_miss (block_wrong v) l.k (length v / 512) c.loop-k-test.true right) ∙ l.invariant.search;
+    }
+
+pub returns-in_err-check_block : goal.returns-in_err-check_block
+returns-in_err-check_block c =
+    let l = c.loop-k in
+    let v = c.args.volume.now in
+    let p = err_from_is_err_and c.from_residual.result c.from_residual.ensures.1 in
+    let w = block-refused v l.k _ c.in_err-check_block.ensures in
+    let bad : bad_block v ≡ l.k = sym l.invariant.search ∙ first_hit (block_wrong v) l.k (length v / 512) c.loop-k-test.true w.0 in
+    rw (p.1, p.2, w.1, ← bad) (sym (pass_refused v (blocks_wrong-true v (omega arith))))
 
 pub returns : goal.returns
 returns c =
     let l = c.loop-k in
     let v = c.args.volume.now in
+    let bad = sym l.invariant.search ∙ first-end (block_wrong v) l.k (length v / 512) c.loop-k-test.false in
     let e : l.k ≡ length v / 512 = omega arith in
-    record {
-      bad_value = sym e ∙ sym (first-end (block_wrong v) l.k (length v / 512) c.loop-k-test.false) ∙ l.invariant.4;
-      falls_value = rw e at l.invariant.3;
-      bad_bound = omega arith;
-    }
+    rw (pass_done v (blocks_wrong-false v (omega arith))) (ap Ok (rw e at l.invariant.counted))

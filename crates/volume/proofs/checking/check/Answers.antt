@@ -1,54 +1,37 @@
 -- `checking::check` meets its contract: the length, the blocks, and then the stream. Assumes nothing.
-use native.Mathlib.Omega.{arith}
-use Prim.Native.Nat.{◌/◌}
-use mathlib.Core.Path.{◌≡◌, sym, ap, ◌∙◌}
+use mathlib.Core.Path.{◌≡◌, sym, ◌∙◌}
 use mathlib.Core.Bool.{false}
-use mathlib.Core.Logic.{inl, inr, ⊎_elim}
-use lib.ListN.{length}
-use Rattle.seq.specs.Refusals.{refused}
+use Rattle.std.proofs.lemmas.Result.{err_from_is_err_and}
 use Rattle.volume.specs.Check.{length_wrong}
-use Rattle.seq.proofs.Laws.Decides.{holds, fails}
-use Rattle.volume.proofs.Laws.Check.{length_wrong_decides, blocks_wrong-true, blocks_wrong-false, verdict-length, verdict-number, verdict_checksum, verdict_stream}
+use Rattle.volume.proofs.Laws.Check.{length_right, verdict-length, verdict_stream}
+use Rattle.volume.proofs.Laws.Pass.{pass-falls, pass-verdict}
 use Rattle.volume.proofs.checking.check.Goals as goal
-use Rattle.volume.proofs.checking.check.Goals.{Else-volume-gt-MAX_BLOCKS}
+use Rattle.volume.proofs.checking.check.Goals.{After-check_blocks}
 
 -- the length is in order
-length-is : (c : Else-volume-gt-MAX_BLOCKS) → length_wrong c.args.volume.now ≡ false
-length-is c = fails (length_wrong_decides _) (⊎_elim c.if-volume-eq0.false (⊎_elim (λ n. n c.if-volume-ne0.false) (λ h. omega arith)))
+length-is : (c : After-check_blocks) → length_wrong c.args.volume.now ≡ false
+length-is c = sym c.length_wrong.ensures ∙ c.if-length_wrong.false
 
-pub returns-then-volume-eq0 : goal.returns-then-volume-eq0
-returns-then-volume-eq0 c = sym (verdict-length _ (holds (length_wrong_decides _) (inl c.if-volume-eq0.true)))
+pub returns-then-length_wrong : goal.returns-then-length_wrong
+returns-then-length_wrong c = sym (verdict-length _ (sym c.length_wrong.ensures ∙ c.if-length_wrong.true))
 
-pub returns-then-volume-ne0 : goal.returns-then-volume-ne0
-returns-then-volume-ne0 c = sym (verdict-length _ (holds (length_wrong_decides _) (inr (inl c.if-volume-ne0.true))))
+pub check_blocks-requires : goal.check_blocks-requires
+check_blocks-requires c =
+    let w = length_right _ (sym c.length_wrong.ensures ∙ c.if-length_wrong.false) in
+    record { whole = w.whole; volume_bound = w.most }
 
-pub returns-then-volume-gt-MAX_BLOCKS : goal.returns-then-volume-gt-MAX_BLOCKS
-returns-then-volume-gt-MAX_BLOCKS c = sym (verdict-length _ (holds (length_wrong_decides _) (inr (inr (omega arith)))))
-
-pub returns-then-number_wrong : goal.returns-then-number_wrong
-returns-then-number_wrong c =
-    let bad = c.check_blocks-found.ensures.bad_value in
-    let v = c.args.volume.now in
-    ap (refused 2) bad ∙ sym (verdict-number v (length-is (goal.at.returns-then-number_wrong c).Else-volume-gt-MAX_BLOCKS) (blocks_wrong-true v (omega arith)) (rw bad at (sym c.number_wrong.ensures ∙ c.if-number_wrong.true)))
-
-pub returns-then-bad-volume : goal.returns-then-bad-volume
-returns-then-bad-volume c =
-    let bad = c.check_blocks-found.ensures.bad_value in
-    let v = c.args.volume.now in
-    ap (refused 3) bad ∙ sym (verdict_checksum v (length-is (goal.at.returns-then-bad-volume c).Else-volume-gt-MAX_BLOCKS) (blocks_wrong-true v (omega arith)) (rw bad at (sym c.number_wrong.ensures ∙ c.if-number_wrong.false)))
+pub returns-in_err-falls : goal.returns-in_err-falls
+returns-in_err-falls c =
+    let p = err_from_is_err_and c.from_residual.result c.from_residual.ensures.1 in
+    rw (p.1, p.2) (pass-verdict _ _ (length-is (goal.at.returns-in_err-falls c).After-check_blocks) c.in_err-falls.ensures)
 
 pub check_stream-requires : goal.check_stream-requires
 check_stream-requires c =
-    let all_blocks : c.check_blocks-found.result.bad ≡ length c.args.volume.now / 512 = omega arith in
-    record {
-      whole = omega arith;
-      bound = omega arith;
-      volume_bound = omega arith;
-      all_value = rw all_blocks at c.check_blocks-found.ensures.falls_value;
-    }
+    let w = length_right _ (length-is (goal.at.check_stream-requires c).After-check_blocks) in
+    let falls = pass-falls c.args.volume.now _ c.in_ok-falls.ensures in
+    record { whole = w.whole; bound = w.some; volume_bound = w.most; all_value = falls.1 }
 
 pub returns : goal.returns
 returns c =
-    let bad = c.check_blocks-found.ensures.bad_value in
-    let v = c.args.volume.now in
-    c.check_stream.ensures ∙ sym (verdict_stream v (length-is (goal.at.returns c).Else-volume-gt-MAX_BLOCKS) (blocks_wrong-false v (omega arith)))
+    let w = pass-falls c.args.volume.now _ c.in_ok-falls.ensures in
+    c.check_stream.ensures ∙ sym (verdict_stream _ (length-is (goal.at.returns c).After-check_blocks) w.0)

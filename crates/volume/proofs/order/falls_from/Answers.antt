@@ -18,6 +18,6 @@ returns c =
     let l = c.loop-i in
     let e : l.i ≡ c.args.end = omega arith in
     record {
-      result_value = rw e at l.invariant.3;
+      result_value = rw e at l.invariant.1;
       upper_bound = omega arith;
     }

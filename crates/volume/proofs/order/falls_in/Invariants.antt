@@ -1,12 +1,8 @@
--- `order::falls_in` meets its contract. The loop's invariant: n is the number of falls at the first i words of the block.
--- The measure is what is left of 125. Assumes nothing.
-use Prim.Native.Nat.{◌+◌, ◌*◌, ◌-◌, ◌≤◌}
+-- `order::falls_in` meets its contract. The loop's invariant: n is the number of falls at the first i words of the block. Assumes nothing.
+use Prim.Native.Nat.{◌+◌, ◌*◌, ◌≤◌}
 use mathlib.Core.Path.{◌≡◌}
 use Rattle.volume.specs.Inner.Falls.{falls_before}
 use Rattle.volume.proofs.order.falls_in.Given as goal
 
 abbrev pub invariant-loop-i : goal.invariant-loop-i
-invariant-loop-i l = (l.i ≤ 125) × (l.n ≤ l.i) × (l.from ≡ 512 * l.k + 4) × (falls_before l.volume (126 * l.k) + l.n ≡ falls_before l.volume (126 * l.k + l.i))
-
-abbrev pub decreases-loop-i : goal.decreases-loop-i
-decreases-loop-i l = 125 - l.i
+invariant-loop-i l = (l.n ≤ l.i) × (falls_before l.volume (126 * l.k) + l.n ≡ falls_before l.volume (126 * l.k + l.i))

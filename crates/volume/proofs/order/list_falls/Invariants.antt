@@ -1,6 +1,5 @@
--- `order::list_falls` meets its contract. The loop's invariant: n falls at the last postings of the first i lists, which end in front of `end`.
--- The measure is what is left of the lists. Assumes nothing.
-use Prim.Native.Nat.{◌-◌}
+-- `order::list_falls` meets its contract. The loop's invariant: n falls at the last postings of the first i lists, which end in front of
+-- `end`. Assumes nothing.
 use mathlib.Core.Path.{◌≡◌}
 use Rattle.volume.specs.Layout.{list_count}
 use Rattle.volume.proofs.Laws.Falls.{ListsSoFar}
@@ -8,6 +7,3 @@ use Rattle.volume.proofs.order.list_falls.Given as goal
 
 abbrev pub invariant-loop-i : goal.invariant-loop-i
 invariant-loop-i l = (l.lists ≡ list_count l.volume) × ListsSoFar l.volume l.n l.end l.i
-
-abbrev pub decreases-loop-i : goal.decreases-loop-i
-decreases-loop-i l = l.lists - l.i

@@ -1,58 +1,28 @@
 use native.Mathlib.Omega.{arith}
-use Prim.Native.Nat.{ℕ, ◌+◌, ◌-◌, ◌<◌, ◌≤◌}
-use mathlib.Core.Path.{◌≡◌, refl, sym, ap, ◌∙◌}
-use Rattle.seq.specs.Lists.{above, rises}
-use Rattle.seq.specs.Numbers.{run}
-use Rattle.seq.proofs.Laws.Rising.{rises-none, rises-start, above-next, above_stop, above-done}
-use Rattle.volume.specs.declared.posting.Posting.{Posting}
-use Rattle.volume.specs.Layout.{word}
+use Prim.Native.Nat.{◌+◌, ◌-◌, ◌<◌}
+use mathlib.Core.Path.{◌≡◌, sym, ◌∙◌}
+use Rattle.volume.proofs.Laws.Falls.{falls_again, falls-done}
 use Rattle.volume.proofs.order.rising.Goals as goal
 
--- equal postings have equal bits
-bits_are : {x y : Posting} → x ≡ y → x.bits ≡ y.bits
-bits_are e = ap (λ (p : Posting). p.bits) e
-
-pub returns-then-n-eq0 : goal.returns-then-n-eq0
-returns-then-n-eq0 c =
-    let a = c.args in
-    let w = word a.volume.now in
-    sym (ap (λ (m : ℕ). rises (run w a.from m)) c.if-n-eq0.true ∙ rises-none w a.from)
-
 pub loop-i-init : goal.loop-i-init
-loop-i-init c =
-    let a = c.args in
-    let w = word a.volume.now in
-    let some_words : 0 < a.n = omega arith in (
-      omega arith,
-      omega arith,
-      refl,
-      ap (λ (x : ℕ). above x (run w (a.from + 1) (a.from + a.n - (a.from + 1)))) (bits_are c.posting_at-last.ensures) ∙ sym (rises-start w a.from a.n some_words),
-    )
-
-pub returns-then-next-last : goal.returns-then-next-last
-returns-then-next-last c =
-    let l = c.loop-i in
-    let a = c.args in
-    let w = word a.volume.now in
-    let next = bits_are c.posting_at-next.ensures in
-    let low : w l.i ≤ l.last = omega arith in
-    sym (above_stop w l.last l.i (a.from + a.n) c.loop-i-test.true low) ∙ l.invariant.3
+loop-i-init g c =
+    let e : c.args.from + 1 - 1 ≡ c.args.from = omega arith in
+    (omega arith, λ f value. rw e)
 
 pub loop-i-preserved : goal.loop-i-preserved
-loop-i-preserved c =
+loop-i-preserved g c =
     let l = c.loop-i in
-    let a = c.args in
-    let w = word a.volume.now in
-    let next = bits_are c.posting_at-next.ensures in
-    let up : l.last < w l.i = omega arith in (
+    let here : l.i - 1 + 1 ≡ l.i = omega arith in
+    let next : l.i + 1 - 1 ≡ l.i = omega arith in
+    let before : l.i - 1 < c.args.end = omega arith in (
       omega arith,
-      omega arith,
-      l.invariant.2,
-      ap (λ (x : ℕ). above x (run w (l.i + 1) (a.from + a.n - (l.i + 1)))) next ∙ sym (above-next w l.last l.i (a.from + a.n) c.loop-i-test.true up) ∙ l.invariant.3,
+      λ f value.
+          let again = falls_again f l.falls (l.i - 1) c.args.end (omega arith) in
+          rw (next, c.fall_of-falls.ensures.value, value _ _ before c.word.ensures, value _ _ c.loop-i-test.true c.word-in-loop-i.ensures)
+          (sym (rw here at again) ∙ l.invariant.1 f value),
     )
 
 pub returns : goal.returns
-returns c =
+returns g c =
     let l = c.loop-i in
-    let a = c.args in
-    sym (above-done (word a.volume.now) l.last l.i (a.from + a.n) c.loop-i-test.false) ∙ l.invariant.3
+    λ f value. sym (falls-done f l.falls (l.i - 1) _ (omega arith)) ∙ l.invariant.1 f value

@@ -21,13 +21,12 @@ loop-i-init c =
     let here = c.lead-at.ensures ∙ ap (λ (n : ℕ). lead n) c.word_at-lists.ensures ∙ sym (start_first v) in (
       started-next v a.starts.now 0 _ (λ j h. absurd (let z : ⊥ = omega arith in z)) (omega arith) here,
       here,
-      omega arith,
       refl,
     )
 
 -- the buffer keeps its length
 same : (l : At-loop-i) → length l.loop-i.starts ≡ length l.args.starts.now
-same l = l.loop-i.invariant.3 ∙ length-set l.args.starts.now 0 _
+same l = l.loop-i.invariant.2 ∙ length-set l.args.starts.now 0 _
 
 pub count_at-requires : goal.count_at-requires
 count_at-requires c = let g = accepted (goal.at.count_at-requires c).Start in omega arith
@@ -57,8 +56,7 @@ loop-i-preserved c =
     let e = same (goal.at.loop-i-preserved c).At-loop-i in (
       started-next v l.starts (l.i + 1) _ (λ j h. l.invariant.0.each j (omega arith)) (omega arith) (next c),
       next c,
-      omega arith,
-      length-set l.starts (l.i + 1) _ ∙ l.invariant.3,
+      length-set l.starts (l.i + 1) _ ∙ l.invariant.2,
     )
 
 pub shape_of-starts : goal.shape_of-starts

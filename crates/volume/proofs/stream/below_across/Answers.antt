@@ -6,6 +6,8 @@ use Rattle.seq.specs.Numbers.{sum_to}
 use Rattle.seq.proofs.Laws.Numbers.{sum_step}
 use Rattle.volume.specs.Layout.{word}
 use Rattle.volume.specs.Inner.Below.{below_of, below_count}
+use lib.Dec.{ltb}
+use Rattle.volume.proofs.Laws.Truth.{as_number, at_most_one}
 use Rattle.volume.proofs.stream.below_across.Goals as goal
 
 pub loop-j-preserved : goal.loop-j-preserved
@@ -13,7 +15,9 @@ loop-j-preserved c =
     let l = c.loop-j in
     let a = c.args in
     let v = a.volume.now in
-    let one = c.below-n.ensures.value ∙ ap (λ (x : ℕ). below_of x a.target) c.word_at.ensures in
+    let small = at_most_one (ltb c.from.result a.target) in
+    let n = c.from-n.ensures in
+    let one = n ∙ as_number _ ∙ ap (λ (x : ℕ). below_of x a.target) (c.from.ensures ∙ c.word_at.ensures) in
     let step = sum_step (λ (j : ℕ). below_of (word v (a.i + j)) a.target) (l.j - 1) in
     let e : l.j - 1 + 1 ≡ l.j = omega arith in
     let whole = rw e at step in

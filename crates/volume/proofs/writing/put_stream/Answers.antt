@@ -2,13 +2,14 @@
 -- Assumes nothing.
 use Prim.Native.Nat.{◌-◌}
 use native.Mathlib.Omega.{arith}
+use Rattle.std.proofs.Common.{rules}
+use Rattle.seq.specs.Lists.{at}
 use Rattle.volume.proofs.Laws.Write.{word_bytes-postings}
 use Rattle.volume.proofs.writing.put_stream.Goals as goal
 
-pub returns-then-from-postings : goal.returns-then-from-postings
-returns-then-from-postings c =
+pub returns-then-first-front : goal.returns-then-first-front
+returns-then-first-front c =
     let a = c.args in
-    rw (← word_bytes-postings a.counts.now a.postings.now a.first (a.first - c.lead-front.result) 126 (omega arith)) c.put_postings.ensures
-
-pub returns : goal.returns
-returns c = c.put_words.ensures
+    let front = c.lead-front.result in
+    let stored = c.put_words.ensures (at a.postings.now) (a.first - front) (λ j x h e. search rules) in
+    rw (← word_bytes-postings a.counts.now a.postings.now a.first (a.first - front) 126 (omega arith)) stored

@@ -6,22 +6,25 @@ use Rattle.seq.proofs.Laws.Numbers.{sum_more}
 use Rattle.seq.specs.Lists.{at}
 use Rattle.volume.proofs.writing.sum_of.Goals as goal
 
-pub loop-i-init : goal.loop-i-init
+pub loop-count-init : goal.loop-count-init
 unfolding sum_to
-loop-i-init c = (omega arith, refl, omega arith)
-
-pub overflow_cast-sum : goal.overflow_cast-sum
-overflow_cast-sum c = omega (arith, c.shared_slice_known-1.given c.loop-i.i)
+loop-count-init c = (refl, omega arith)
 
 pub overflow_add-sum : goal.overflow_add-sum
-overflow_add-sum c = omega (arith, c.shared_slice_known-1.given c.loop-i.i)
+overflow_add-sum c =
+    let small = c.type_inv.counts c.loop-count.count-index in
+    let e = c.from-sum.ensures in
+    omega arith
 
-pub loop-i-preserved : goal.loop-i-preserved
-loop-i-preserved c =
-    (omega arith, sum_more _ _ _ _ c.loop-i.invariant.1 refl, omega (arith, c.shared_slice_known-1.given c.loop-i.i))
+pub loop-count-preserved : goal.loop-count-preserved
+loop-count-preserved c =
+    let l = c.loop-count in
+    let small = c.type_inv.counts l.count-index in
+    let e = c.from-sum.ensures in
+    (sum_more (at c.args.counts.now) l.count-index l.sum _ l.invariant.0 e, omega arith)
 
 pub returns : goal.returns
 returns c =
-    let l = c.loop-i in
-    let e : l.i ≡ length c.args.counts.now = omega arith in
-    l.invariant.1 ∙ ap (sum_to (at c.args.counts.now)) e
+    let l = c.loop-count in
+    let e : l.count-index ≡ length c.args.counts.now = omega arith in
+    l.invariant.0 ∙ ap (sum_to (at c.args.counts.now)) e

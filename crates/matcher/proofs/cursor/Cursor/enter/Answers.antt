@@ -1,7 +1,11 @@
+-- `Cursor::enter` meets its contract: the bound is that of the document's first position. Assumes nothing.
+use native.Mathlib.Omega.{arith}
+use mathlib.Core.Path.{◌≡◌}
+use Prim.Native.Nat.{◌*◌}
 use Rattle.matcher.proofs.cursor.Cursor.enter.Goals as goal
 
-pub gallop-requires : goal.gallop-requires
-gallop-requires c = c.requires
+pub advance-requires : goal.advance-requires
+advance-requires c = c.requires
 
 pub returns : goal.returns
-returns c = c.gallop.ensures
+returns c = let e : c.bound_of.result ≡ c.args.doc * 65536 = omega arith in rw e at c.advance.ensures
