@@ -6,19 +6,14 @@
 // by all rows so far, so that row r counts n - 1 - r times in near + 8 * far. What is left, 8 - c,
 // tilts the sum of all rows. No lane passes 63,240.
 ghost use Rattle.std.specs.Prelude.{◌≡◌, ◌+◌, ◌*◌, ◌≤◌, length};
-ghost use Rattle.block.specs.Inner.Sums.{row_at, four_at, zeros, plus, tilted, columns, AtMost, Room, Rows, Eights};
+ghost use Rattle.block.specs.Inner.Sums.{row_at, four_at, plus, tilted, columns, AtMost, Room, Rows, Eights};
 
 // A row of eight columns.
 #[derive(Clone, Copy)]
-pub struct Row {
-    pub a: u16,
-    pub b: u16,
-    pub c: u16,
-    pub d: u16,
-    pub e: u16,
-    pub f: u16,
-    pub g: u16,
-    pub h: u16,
+pub struct Row([u16; 8]);
+
+impl Row {
+    const ZEROS: Row = Row([0; 8]);
 }
 
 // The sum of some rows, and `near` behind them.
@@ -36,55 +31,17 @@ pub struct RowSums {
     pub far: Row,
 }
 
-// Zeros.
-fn zeros() -> Row
-    ensures { result ≡ zeros }
-{
-    Row {
-        a: 0,
-        b: 0,
-        c: 0,
-        d: 0,
-        e: 0,
-        f: 0,
-        g: 0,
-        h: 0,
-    }
-}
-
-// Eight bytes as a row.
-fn lanes(a: u8, b: u8, c: u8, d: u8, e: u8, f: u8, g: u8, h: u8) -> Row
-    ensures value { result ≡ record { a = a; b = b; c = c; d = d; e = e; f = f; g = g; h = h } }
-    ensures at_most { AtMost 255 result }
-{
-    Row {
-        a: u16::from(a),
-        b: u16::from(b),
-        c: u16::from(c),
-        d: u16::from(d),
-        e: u16::from(e),
-        f: u16::from(f),
-        g: u16::from(g),
-        h: u16::from(h),
-    }
-}
-
 // The eight bytes at `at`.
 fn row_at(s: &[u8], at: usize) -> Row
     requires { at + 8 ≤ length s.now }
     ensures value { result ≡ row_at s.now at }
     ensures at_most { AtMost 255 result }
 {
-    lanes(
-        s[at],
-        s[at + 1],
-        s[at + 2],
-        s[at + 3],
-        s[at + 4],
-        s[at + 5],
-        s[at + 6],
-        s[at + 7],
-    )
+    let mut row = [0; 8];
+    for c in 0..8 {
+        row[c] = u16::from(s[at + c]);
+    }
+    Row(row)
 }
 
 // The four bytes at `at`, behind four zeros.
@@ -93,7 +50,11 @@ pub fn four_at(s: &[u8], at: usize) -> Row
     ensures value { result ≡ four_at s.now at }
     ensures at_most { AtMost 255 result }
 {
-    lanes(0, 0, 0, 0, s[at], s[at + 1], s[at + 2], s[at + 3])
+    let mut row = [0; 8];
+    for c in 0..4 {
+        row[4 + c] = u16::from(s[at + c]);
+    }
+    Row(row)
 }
 
 // Two rows, column by column.
@@ -101,24 +62,11 @@ fn plus(x: Row, y: Row) -> Row
     requires { Room x y }
     ensures { result ≡ plus x y }
 {
-    let a = x.a + y.a;
-    let b = x.b + y.b;
-    let c = x.c + y.c;
-    let d = x.d + y.d;
-    let e = x.e + y.e;
-    let f = x.f + y.f;
-    let g = x.g + y.g;
-    let h = x.h + y.h;
-    Row {
-        a,
-        b,
-        c,
-        d,
-        e,
-        f,
-        g,
-        h,
+    let mut row = [0; 8];
+    for c in 0..8 {
+        row[c] = x.0[c] + y.0[c];
     }
+    Row(row)
 }
 
 // Each column as often as there are columns from it on.
@@ -126,24 +74,11 @@ pub fn tilted(x: Row) -> Row
     requires { AtMost 8191 x }
     ensures { result ≡ tilted x }
 {
-    let a = 8 * x.a;
-    let b = 7 * x.b;
-    let c = 6 * x.c;
-    let d = 5 * x.d;
-    let e = 4 * x.e;
-    let f = 3 * x.f;
-    let g = 2 * x.g;
-    let h = x.h;
-    Row {
-        a,
-        b,
-        c,
-        d,
-        e,
-        f,
-        g,
-        h,
+    let mut row = [0; 8];
+    for c in 0..8 {
+        row[c] = (8 - c) as u16 * x.0[c];
     }
+    Row(row)
 }
 
 // The columns, added up.
@@ -151,14 +86,11 @@ pub fn columns(x: Row) -> u32
     ensures value { result ≡ columns x }
     ensures upper_bound { result ≤ 524280 }
 {
-    u32::from(x.a)
-        + u32::from(x.b)
-        + u32::from(x.c)
-        + u32::from(x.d)
-        + u32::from(x.e)
-        + u32::from(x.f)
-        + u32::from(x.g)
-        + u32::from(x.h)
+    let mut sum = 0;
+    for column in x.0 {
+        sum += u32::from(column);
+    }
+    sum
 }
 
 // n rows from `at` on, with `near` from `first` on.
@@ -168,7 +100,7 @@ fn rows_at(s: &[u8], at: usize, n: usize, first: Row) -> Stretch
     requires at_most { AtMost 58140 first }
     ensures { Rows s.now at first n result.more result.near }
 {
-    let mut more = zeros();
+    let mut more = Row::ZEROS;
     let mut near = first;
     for j in 0..n {
         near = plus(near, more);
@@ -183,10 +115,10 @@ pub fn half_rows(s: &[u8]) -> RowSums
     requires { 252 ≤ length s.now }
     ensures { Eights s.now 4 3 result }
 {
-    let seven = rows_at(s, 4, 7, zeros());
+    let seven = rows_at(s, 4, 7, Row::ZEROS);
     let mut all = seven.more;
     let mut near = seven.near;
-    let mut far = zeros();
+    let mut far = Row::ZEROS;
     for i in 0..3 {
         far = plus(far, all);
         let from = 60 + 64 * i;

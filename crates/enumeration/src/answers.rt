@@ -18,8 +18,8 @@ pub struct Matches {
 pub enum MatchError {
     // The volume or the plan is refused.
     Refused(Refusal),
-    // The plan has no pattern of this number, the pattern has not as many variables as positions are
-    // given, or the document or a position is over 65,535.
+    // The plan has no pattern of this number, the pattern has not as many variables as positions
+    // are given, or the document or a position is over 65,535.
     OutOfRange,
     // The buffer is shorter than a match.
     Short,

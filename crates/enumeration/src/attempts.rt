@@ -1,104 +1,92 @@
 // One attempt: the least match at bounds or behind whose first variables are at them.
-ghost use Rattle.std.specs.Prelude.{◌≡◌, true, ℕ, ◌<◌, ◌≤◌, length, get_or, take};
+ghost use Rattle.std.specs.Prelude.{◌≡◌, true, ◌<◌, length, take};
 ghost use Rattle.volume.specs.Layout.{lists_of};
-ghost use Rattle.plan.specs.Accepted.{pattern_at};
 ghost use Rattle.fulltext.specs.Inner.Bounds.{HeldMatch};
-ghost use Rattle.matcher.specs.Inner.Cursors.{Stretch};
-ghost use Rattle.matcher.specs.Inner.Settling.{Standing, Posed};
-ghost use Rattle.matcher.specs.Inner.Order.{Order};
+ghost use Rattle.matcher.specs.Inner.Cursors.{ats_of, ends_of};
+ghost use Rattle.matcher.specs.Inner.Settling.{Standing};
 ghost use Rattle.enumeration.specs.Inner.Attempts.{StoodFrom, Marked};
+ghost use Rattle.enumeration.specs.Inner.Walking.{SoughtIn, form_of, Walking};
 
-use matcher::{Document, jump, match_from};
-use plan::Outline;
+use super::walk::{PatternInDocument, Walk};
+use matcher::{Cursor, jump, match_from};
+use plan::MOST_PATTERN_VARS;
 
-// Brings n variables from `marks` to their first positions in a document that are not below `lows`,
-// in the order given. Whether each has one.
+// Brings a pattern's variables from their marks to their first positions in the document that are
+// not below their bounds. Whether each has one.
 fn stand_from(
-    volume: &[u8],
-    doc: u32,
-    n: usize,
-    order: &[usize],
-    ends: &[usize],
-    lows: &[u32],
-    marks: &[usize],
-    here: &mut [usize],
-    positions: &mut [u32],
+    pattern: &PatternInDocument,
+    lows: &[u32; MOST_PATTERN_VARS],
+    marks: &[Cursor; MOST_PATTERN_VARS],
+    here: &mut [Cursor; MOST_PATTERN_VARS],
+    positions: &mut [u32; MOST_PATTERN_VARS],
 ) -> bool
-    requires n_in_bounds { n ≤ length ends.now }
-    requires n_in_bounds_2 { n ≤ length lows.now }
-    requires n_in_bounds_3 { n ≤ length marks.now }
-    requires n_in_bounds_4 { n ≤ length here.old }
-    requires n_in_bounds_5 { n ≤ length positions.old }
-    requires by_index { (x : ℕ) → x < n → Stretch volume.now (get_or marks.now x 0) (get_or ends.now x 0) }
-    requires order { Order n order.now }
-    ensures stood_from { StoodFrom volume.now doc n ends.now lows.now marks.now result here.new
-        positions.new }
-    ensures here_len_unchanged { length here.new ≡ length here.old }
+    requires sought { SoughtIn pattern.now }
+    requires marked { let s = pattern.now in
+        Marked s.query.volume.bytes.now s.document.doc (form_of s) lows.now (ats_of marks.now) }
+    requires marks_end { ends_of marks.now ≡ ends_of pattern.now.firsts }
+    requires here_end { ends_of here.old ≡ ends_of pattern.now.firsts }
+    ensures stood_from { let s = pattern.now in
+        StoodFrom s.query.volume.bytes.now s.document.doc s.outline.vars (ends_of s.firsts) lows.now
+        (ats_of marks.now) result (ats_of here.new) positions.new }
+    ensures ends_unchanged { ends_of here.new ≡ ends_of here.old }
     ensures positions_len_unchanged { length positions.new ≡ length positions.old }
 {
-    for &x in &order[..n] {
+    for &x in &pattern.order[..pattern.outline.vars] {
         here[x] = marks[x];
-        if !jump(volume, doc, ends[x], x, lows[x], here, positions) {
+        if !jump(
+            pattern.query.volume.bytes,
+            pattern.document.doc,
+            x,
+            lows[x],
+            here,
+            positions,
+        ) {
             return false;
         }
     }
     true
 }
 
-// The least match of a pattern in a document that is in no variable below `lows` and has the first
-// `held` variables at `lows`. The variables are brought there from `marks`, in the order given, and
-// their cursors are left at the match. Whether there is one. As soon as a variable that is held
-// would have to move, there is none. `paras` has for each variable where the start of its paragraph
-// was found last.
-pub fn match_held(
-    volume: &[u8],
-    plan: &[u32],
-    outline: Outline,
-    document: Document,
-    order: &[usize],
-    ends: &[usize],
-    lows: &[u32],
-    marks: &[usize],
-    held: usize,
-    here: &mut [usize],
-    positions: &mut [u32],
-    paras: &mut [usize],
-) -> bool
-    requires posed { Posed volume.now plan.now outline document ends.now }
-    requires vars_in_bounds { outline.vars ≤ length lows.now }
-    requires vars_in_bounds_2 { outline.vars ≤ length marks.now }
-    requires vars_in_bounds_3 { outline.vars ≤ length here.old }
-    requires vars_in_bounds_4 { outline.vars ≤ length positions.old }
-    requires marked { Marked volume.now document.doc (pattern_at plan.now outline.pattern) lows.now marks.now }
-    requires held_lt_vars { held < outline.vars }
-    requires vars_in_bounds_5 { outline.vars ≤ length paras.old }
-    requires order { Order outline.vars order.now }
-    ensures held_match { HeldMatch (lists_of volume.now) document.doc (pattern_at plan.now outline.pattern)
-        (take outline.vars lows.now) held result (take outline.vars positions.new) }
-    ensures here_len_unchanged { length here.new ≡ length here.old }
-    ensures positions_len_unchanged { length positions.new ≡ length positions.old }
-    ensures standing { result ≡ true
-        → Standing volume.now document.doc (pattern_at plan.now outline.pattern) here.new
-        positions.new }
-    ensures paras_len_unchanged { length paras.new ≡ length paras.old }
+// The least match of a pattern in a document that is in no variable below its bound and has the
+// first `held` variables at theirs. The variables are brought there from their marks, in the order
+// given, and their cursors are left at the match. Whether there is one. As soon as a variable that
+// is held would have to move, there is none.
+pub fn match_held(pattern: &PatternInDocument, held: usize, walk: &mut Walk) -> bool
+    requires sought { SoughtIn pattern.now }
+    requires walking { Walking pattern.now walk.old }
+    requires held_lt_vars { held < pattern.now.outline.vars }
+    ensures held_match { let s = pattern.now in let n = s.outline.vars in
+        HeldMatch (lists_of s.query.volume.bytes.now) s.document.doc (form_of s)
+        (take n walk.old.lows) held result (take n walk.new.positions) }
+    ensures standing { let s = pattern.now in result ≡ true
+        → Standing s.query.volume.bytes.now s.document.doc (form_of s) (ats_of walk.new.here)
+        walk.new.positions }
+    ensures lows_unchanged { walk.new.lows ≡ walk.old.lows }
+    ensures marks_unchanged { walk.new.marks ≡ walk.old.marks }
+    ensures ends_unchanged { ends_of walk.new.here ≡ ends_of walk.old.here }
+    ensures positions_len_unchanged { length walk.new.positions ≡ length walk.old.positions }
 {
     if !stand_from(
-        volume,
-        document.doc,
-        outline.vars,
-        order,
-        ends,
-        lows,
-        marks,
-        here,
-        positions,
+        pattern,
+        &walk.lows,
+        &walk.marks,
+        &mut walk.here,
+        &mut walk.positions,
     ) {
         return false;
     }
-    if positions[..held] != lows[..held] {
+    if walk.positions[..held] != walk.lows[..held] {
         return false;
     }
     match_from(
-        volume, plan, outline, document, held, order, ends, here, positions, paras,
+        pattern.query.volume.bytes,
+        pattern.query.plan,
+        pattern.outline,
+        pattern.document,
+        held,
+        &pattern.order,
+        &mut walk.here,
+        &mut walk.positions,
+        &mut walk.paras,
     )
 }

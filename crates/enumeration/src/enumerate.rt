@@ -1,58 +1,48 @@
 // The call that writes the matches of a pattern in a document.
 ghost use Rattle.std.specs.Prelude.{◌≡◌, ℕ, ◌<◌, ◌≤◌, length, get_or};
-ghost use Rattle.plan.specs.Check.{Accepted, sizes};
 ghost use Rattle.plan.specs.Accepted.{pattern_at};
 ghost use Rattle.plan.specs.Inner.Outline.{Outlines};
 ghost use Rattle.matcher.specs.Inner.Shortfall.{InDocument};
+ghost use Rattle.matcher.specs.Inner.Cursors.{no_cursor};
 ghost use Rattle.matcher.specs.Inner.Tables.{cursor_on};
 ghost use Rattle.enumeration.specs.Answers.{said_matched};
 ghost use Rattle.enumeration.specs.Enumeration.{Kept};
-ghost use Rattle.enumeration.specs.Inner.Attempts.{Stepped, Sought};
+ghost use Rattle.enumeration.specs.Inner.Attempts.{Stepped};
+ghost use Rattle.enumeration.specs.Inner.Walking.{SoughtIn};
 
 use super::answers::{MatchError, Matches};
 use super::next::next_match;
+use super::walk::{PatternInDocument, Walk};
 use matcher::{Cursor, Document, in_document, rarest_first, starts_of};
-use plan::{MOST_PATTERN_VARS, MOST_PATTERNS, Outline, lay_out, list_at};
+use plan::{MOST_PATTERN_VARS, MOST_PATTERNS, Outline, Query, lay_out, list_at};
 use volume::{MAX_LISTS, Posting};
 
 // A cursor for each variable of a pattern, at its list's first posting in document `doc` or a later
 // one. One pass over the counts gives the starts of all lists.
-fn set_cursors(
-    volume: &[u8],
-    plan: &[u32],
-    outline: Outline,
-    doc: u32,
-    firsts: &mut [usize],
-    ends: &mut [usize],
-)
-    requires accepted { Accepted volume.now plan.now }
-    requires pattern_bound { outline.pattern < (sizes plan.now).patterns }
-    requires outlines { Outlines plan.now outline }
-    requires vars_in_bounds { outline.vars ≤ length firsts.old }
-    requires vars_in_bounds_2 { outline.vars ≤ length ends.old }
-    ensures firsts_len_unchanged { length firsts.new ≡ length firsts.old }
-    ensures ends_len_unchanged { length ends.new ≡ length ends.old }
-    ensures by_index { (x : ℕ) → x < outline.vars
-        → record { at = get_or firsts.new x 0; end = get_or ends.new x 0 }
-        ≡ cursor_on volume.now (get_or (pattern_at plan.now outline.pattern).vars x 0) doc }
+fn set_cursors(query: &Query, outline: Outline, doc: u32, cursors: &mut [Cursor])
+    requires pattern_bound { outline.pattern < query.now.sizes.patterns }
+    requires outlines { Outlines query.now.plan.now outline }
+    requires vars_in_bounds { outline.vars ≤ length cursors.old }
+    ensures { let q = query.now in let form = pattern_at q.plan.now outline.pattern in
+        (x : ℕ) → x < outline.vars
+        → get_or cursors.new x no_cursor ≡ cursor_on q.volume.bytes.now (get_or form.vars x 0) doc }
 {
+    let volume = query.volume.bytes;
     let mut starts: [usize; MAX_LISTS + 1] = [0; MAX_LISTS + 1];
     let lists = volume::word_at(volume, 1) as usize;
-    volume::list_starts(volume, lists, &mut starts);
+    query.volume.list_starts(lists, &mut starts);
     let row = outline.condition - outline.vars;
     for x in 0..outline.vars {
-        let list = list_at(plan, row + x) as usize;
+        let list = list_at(query.plan, row + x) as usize;
         let first = Cursor {
             at: starts[list],
             end: starts[list + 1],
         };
-        let cursor = first.seek(volume, doc);
-        firsts[x] = cursor.at;
-        ends[x] = cursor.end;
+        cursors[x] = first.seek(volume, doc);
     }
 }
 
-// The tuple behind a match: one on at its last variable.
+// The bounds behind a match: its positions, and one on at its last variable.
 fn step_past(positions: &[u32], n: usize, lows: &mut [u32])
     requires le_n { 1 ≤ n }
     requires n_in_bounds { n ≤ length positions.now }
@@ -65,59 +55,41 @@ fn step_past(positions: &[u32], n: usize, lows: &mut [u32])
 }
 
 // Writes the matches of a pattern in a document from `from` on to the front of out, as many as fit.
-fn write_matches(
-    volume: &[u8],
-    plan: &[u32],
-    outline: Outline,
-    document: Document,
-    order: &[usize],
-    firsts: [usize; MOST_PATTERN_VARS],
-    ends: &[usize],
-    from: &[u32],
-    out: &mut [u32],
-) -> Matches
-    requires sought { Sought volume.now plan.now outline document order.now firsts ends.now }
-    requires from_len { length from.now ≡ outline.vars }
+fn write_matches(pattern: &PatternInDocument, from: &[u32], out: &mut [u32]) -> Matches
+    requires sought { SoughtIn pattern.now }
+    requires from_len { length from.now ≡ pattern.now.outline.vars }
     requires in_document { InDocument from.now }
-    requires vars_in_bounds { outline.vars ≤ length out.old }
-    ensures { Kept volume.now plan.now outline.pattern document.doc from.now
+    requires vars_in_bounds { pattern.now.outline.vars ≤ length out.old }
+    ensures { let s = pattern.now in
+        Kept s.query.volume.bytes.now s.query.plan.now s.outline.pattern s.document.doc from.now
         (record { lent = out.old; says = said_matched (Ok result); back = out.new }) }
 {
-    let n = outline.vars;
+    let n = pattern.outline.vars;
     let room = out.len() / n;
-    let mut lows: [u32; MOST_PATTERN_VARS] = [0; MOST_PATTERN_VARS];
+    let mut lows = [0; MOST_PATTERN_VARS];
     lows[..n].copy_from_slice(from);
-    let mut marks = firsts;
-    let mut here: [usize; MOST_PATTERN_VARS] = [0; MOST_PATTERN_VARS];
-    let mut positions: [u32; MOST_PATTERN_VARS] = [0; MOST_PATTERN_VARS];
-    let mut paras: [usize; MOST_PATTERN_VARS] = [0; MOST_PATTERN_VARS];
+    let mut walk = Walk {
+        lows,
+        marks: pattern.firsts,
+        here: pattern.firsts,
+        positions: [0; MOST_PATTERN_VARS],
+        paras: [0; MOST_PATTERN_VARS],
+    };
     let mut count: usize = 0;
-    while next_match(
-        volume,
-        plan,
-        outline,
-        document,
-        order,
-        &firsts,
-        ends,
-        &mut lows,
-        &mut marks,
-        &mut here,
-        &mut positions,
-        &mut paras,
-    ) {
+    while next_match(pattern, &mut walk) {
         if count == room {
-            let mut next: [u32; MOST_PATTERN_VARS] = [0; MOST_PATTERN_VARS];
-            next[..n].copy_from_slice(&positions[..n]);
+            let mut next = [0; MOST_PATTERN_VARS];
+            next[..n].copy_from_slice(&walk.positions[..n]);
             return Matches {
                 count: count as u64,
                 next: Some(next),
             };
         }
-        out[count * n..count * n + n].copy_from_slice(&positions[..n]);
+        out[count * n..count * n + n].copy_from_slice(&walk.positions[..n]);
         count += 1;
-        step_past(&positions, n, &mut lows);
-        marks = here;
+        step_past(&walk.positions, n, &mut walk.lows);
+        let here = walk.here;
+        walk.marks = here;
     }
     Matches {
         count: count as u64,
@@ -125,25 +97,23 @@ fn write_matches(
     }
 }
 
-// The same for any document and tuple, where the volume and the plan are accepted and the pattern is
-// there.
+// The same for any document and tuple, where the volume and the plan are accepted and the pattern
+// is there.
 fn matches_of(
-    volume: &[u8],
-    plan: &[u32],
-    patterns: usize,
+    query: &Query,
     pattern: usize,
     doc: u32,
     from: &[u32],
     out: &mut [u32],
 ) -> Result<Matches, MatchError>
-    requires accepted { Accepted volume.now plan.now }
-    requires patterns_value { patterns ≡ (sizes plan.now).patterns }
-    requires pattern_lt_patterns { pattern < patterns }
-    ensures { Kept volume.now plan.now pattern doc from.now
+    requires { pattern < query.now.sizes.patterns }
+    ensures { let q = query.now in Kept q.volume.bytes.now q.plan.now pattern doc from.now
         (record { lent = out.old; says = said_matched result; back = out.new }) }
 {
+    let volume = query.volume.bytes;
+    let plan = query.plan;
     let mut table = [Outline::NONE; MOST_PATTERNS];
-    lay_out(plan, patterns, &mut table);
+    lay_out(plan, query.sizes.patterns as usize, &mut table);
     let outline = table[pattern];
     if from.len() != outline.vars || Posting::LAST_DOC < doc || !in_document(from) {
         return Err(MatchError::OutOfRange);
@@ -151,21 +121,25 @@ fn matches_of(
     if out.len() < outline.vars {
         return Err(MatchError::Short);
     }
-    let mut firsts: [usize; MOST_PATTERN_VARS] = [0; MOST_PATTERN_VARS];
-    let mut ends: [usize; MOST_PATTERN_VARS] = [0; MOST_PATTERN_VARS];
-    set_cursors(volume, plan, outline, doc, &mut firsts, &mut ends);
+    let mut firsts = [Cursor::NONE; MOST_PATTERN_VARS];
+    set_cursors(query, outline, doc, &mut firsts);
     let list = starts_of(volume);
     let starts = list.seek(volume, doc);
     let document = Document { doc, starts };
-    let mut order: [usize; MOST_PATTERN_VARS] = [0; MOST_PATTERN_VARS];
+    let mut order = [0; MOST_PATTERN_VARS];
     rarest_first(volume, plan, outline, &mut order);
-    Ok(write_matches(
-        volume, plan, outline, document, &order, firsts, &ends, from, out,
-    ))
+    let found = PatternInDocument {
+        query: *query,
+        outline,
+        document,
+        order,
+        firsts,
+    };
+    Ok(write_matches(&found, from, out))
 }
 
-// Writes the matches of a pattern in a document from a tuple on to the front of out, as many as fit:
-// smaller first variable first, then second, and so on.
+// Writes the matches of a pattern in a document from a tuple on to the front of out, as many as
+// fit: smaller first variable first, then second, and so on.
 pub fn matches(
     volume: &[u8],
     plan: &[u32],
@@ -177,17 +151,9 @@ pub fn matches(
     ensures { Kept volume.now plan.now pattern doc from.now
         (record { lent = out.old; says = said_matched result; back = out.new }) }
 {
-    let sizes = plan::check(volume, plan)?;
-    if sizes.patterns <= pattern {
+    let query = Query::open(volume, plan)?;
+    if query.sizes.patterns <= pattern {
         return Err(MatchError::OutOfRange);
     }
-    matches_of(
-        volume,
-        plan,
-        sizes.patterns as usize,
-        pattern as usize,
-        doc,
-        from,
-        out,
-    )
+    matches_of(&query, pattern as usize, doc, from, out)
 }

@@ -58,8 +58,8 @@ pub fn doc_range(volume: &[u8], lists: usize) -> Option<DocRange>
     range
 }
 
-// Whether a document of the second, raised, passes 65,535 or is not above all of the first. The sums
-// are of 64 bits.
+// Whether a document of the second, raised, passes 65,535 or is not above all of the first. The
+// sums are of 64 bits.
 pub fn docs_clash(first: Option<DocRange>, second: Option<DocRange>, raise: u32) -> bool
     ensures { result ≡ clash raise first second }
 {

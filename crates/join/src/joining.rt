@@ -11,7 +11,8 @@ ghost use Rattle.join.specs.Inner.Joining.{rest_out};
 
 use super::answers::JoinError;
 use super::docs::{doc_range, docs_clash};
-use super::reading::{front, next_block};
+use super::reading::front;
+use super::sources::Sources;
 use volume::{BLOCK_BYTES, BLOCK_WORDS, MAX_WORDS, Posting, Sizes, check, extent_of, put_made};
 
 // What is added to a posting that is raised by so many documents; 0 where no posting can be.
@@ -26,27 +27,16 @@ fn lift_of(raise: u32) -> u32
 }
 
 // Stores the n blocks of the joined volume.
-fn put_joined(
-    first: &[u8],
-    second: &[u8],
-    lift: u32,
-    lists: usize,
-    all: usize,
-    n: usize,
-    out: &mut [u8],
-)
-    requires joinable { Joinable first.now second.now }
-    requires lists_value { lists ≡ list_count first.now }
-    requires all_value { all ≡ extent first.now + extent second.now }
-    requires n_value { n ≡ blocks_for (extent_of_both first.now second.now) }
+fn put_joined(sources: &Sources, n: usize, out: &mut [u8])
+    requires n_value { n ≡ blocks_for (extent_of_both sources.now.first.now sources.now.second.now) }
     requires n_in_bounds { 512 * n ≤ length out.old }
-    requires lifts { Lifts lift second.now }
-    ensures { out.new ≡ stored_first (joined_word lift first.now second.now) n out.old }
+    ensures { out.new
+        ≡ stored_first (joined_word sources.now.lift sources.now.first.now sources.now.second.now) n out.old }
 {
     let mut words: [u32; BLOCK_WORDS] = [0; BLOCK_WORDS];
-    let mut merge = front(lists);
+    let mut merge = front(sources.lists);
     for k in 0..n {
-        merge = next_block(first, second, lift, lists, all, k, merge, &mut words);
+        merge = sources.next_block(k, merge, &mut words);
         let start = BLOCK_BYTES * k;
         put_made(&words, k, &mut out[start..start + BLOCK_BYTES]);
     }
@@ -85,8 +75,14 @@ fn join_checked(
     if out.len() < BLOCK_BYTES * n {
         return Err(JoinError::Short);
     }
-    let all = extent_of(lists, postings) + extent_of(lists, more);
-    put_joined(first, second, lift_of(raise), lists, all, n, out);
+    let sources = Sources {
+        first,
+        second,
+        lists,
+        lift: lift_of(raise),
+        all: extent_of(lists, postings) + extent_of(lists, more),
+    };
+    put_joined(&sources, n, out);
     Ok(n as u32)
 }
 

@@ -14,7 +14,7 @@ use Rattle.block.specs.Bytes.{bytes32}
 use Rattle.block.specs.Checksum.{check_a, check_b}
 use Rattle.volume.specs.Write.{volume_of}
 use Rattle.volume.specs.Demands.{sample_lists}
-use Rattle.plan.specs.Answers.{Sizes}
+use Rattle.plan.specs.declared.answers.Sizes.{Sizes}
 use Rattle.plan.specs.Check.{verdict}
 use Rattle.search.specs.Answers.{Next, done, more, Page}
 use Rattle.search.specs.Listing.{list_answer, list_out}

@@ -4,7 +4,7 @@ use Rattle.seq.specs.Lists.{joined}
 use Rattle.seq.specs.Numbers.{run}
 use Rattle.seq.specs.Refusals.{Said, refused, answered}
 use Rattle.block.specs.Bytes.{le32}
-use Rattle.plan.specs.Answers.{Sizes}
+use Rattle.plan.specs.declared.answers.Sizes.{Sizes}
 use Rattle.plan.specs.Limits.{most_words}
 use Rattle.plan.specs.Check.{verdict}
 use Rattle.fulltext.specs.Positions.{limit}

@@ -1,53 +1,28 @@
 // The two files: their bytes, and the words of a plan file.
-ghost use Rattle.std.specs.Prelude.{◌≤◌, length};
+ghost use Rattle.std.specs.Prelude.{◌≤◌, length, IfOk};
 ghost use Rattle.plan.specs.Limits.{most_words};
 ghost use Rattle.lister.specs.Printed.{plan_words};
 ghost use Rattle.lister.specs.Inner.Stored.{Stored};
-ghost use Rattle.lister.specs.Inner.Files.{Within, IsPrefixLen};
+ghost use Rattle.lister.specs.Inner.Files.{IsPrefixLen};
 
 use std::fs::OpenOptions;
+use std::io;
 use std::io::Read;
 use std::rt::Files;
 
-// What a read gives: bytes at the front of the buffer, the end of the file, or a failure.
-#[derive(Clone, Copy)]
-pub enum Got {
-    Bytes(usize),
-    End,
-    Failed,
-}
-
-fn read_some(file: &mut impl Read, buf: &mut [u8]) -> Got
-    ensures { Within (length buf.old) result }
+// Reads until the file ends or buf is full, and answers how many bytes it put at the front of buf.
+fn read_to_end(file: &mut impl Read, buf: &mut [u8]) -> io::Result<usize>
+    ensures { IfOk result (λ n. IsPrefixLen n buf.new) }
 {
-    match file.read(buf) {
-        Ok(0) => Got::End,
-        Ok(n) => Got::Bytes(n),
-        Err(_) => Got::Failed,
-    }
-}
-
-// Reads until the file ends or buf is full, and answers how many bytes it put at the front of buf;
-// 0 where a read fails.
-fn read_to_end(file: &mut impl Read, buf: &mut [u8]) -> usize
-    ensures { IsPrefixLen result buf.new }
-{
-    let mut n: usize = 0;
+    let mut n = 0;
     while n < buf.len() {
-        let got = read_some(file, &mut buf[n..]);
-        match got {
-            Got::Bytes(more) => {
-                n += more;
-            }
-            Got::End => {
-                return n;
-            }
-            Got::Failed => {
-                return 0;
-            }
+        let more = file.read(&mut buf[n..])?;
+        if more == 0 {
+            break;
         }
+        n += more;
     }
-    n
+    Ok(n)
 }
 
 // The bytes of a file, as many as fit, at the front of buf: how many there are. A file that cannot
@@ -60,10 +35,10 @@ pub fn read_file(rt: &HostRuntime, path: &[u8], buf: &mut [u8]) -> usize
     let Ok(name) = str::from_utf8(path) else {
         return 0;
     };
-    match rt.open_file(OpenOptions::new().read(true), name) {
-        Ok(mut file) => read_to_end(&mut file, buf),
-        Err(_) => 0,
-    }
+    let Ok(mut file) = rt.open_file(OpenOptions::new().read(true), name) else {
+        return 0;
+    };
+    read_to_end(&mut file, buf).unwrap_or(0)
 }
 
 // The bytes of a plan's row, and the most bytes of a plan file.
@@ -77,20 +52,12 @@ pub fn plan_words(file: &[u8], words: &mut [u32]) -> usize
     requires { most_words ≤ length words.old }
     ensures { Stored words.old 0 (plan_words file.now) words.new result }
 {
-    if file.len() == 0 {
-        return 0;
-    }
-    if PLAN_BYTES < file.len() {
-        return 0;
-    }
-    if file.len() % ROW_BYTES != 0 {
+    if file.is_empty() || PLAN_BYTES < file.len() || file.len() % ROW_BYTES != 0 {
         return 0;
     }
     let n = file.len() / 4;
-    let mut i: usize = 0;
-    while i < n {
+    for i in 0..n {
         words[i] = block::read32(file, 4 * i);
-        i += 1;
     }
     n
 }

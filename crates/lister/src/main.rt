@@ -12,20 +12,18 @@ mod pages;
 mod text;
 
 use files::{PLAN_BYTES, read_file};
-use pages::{Paged, TEXT, VOLUME, turn_text};
+use pages::{Start, TEXT, VOLUME, turn_text};
 use std::io;
 
-// Writes the text of the turn that starts at document `from` with the sum `tally`; no other text may
-// be handed to it.
+// Writes the text of the turn that starts there; no other text may be handed to it.
 fn write_turn(
     rt: &impl Print,
     volume: &[u8],
     file: &[u8],
-    from: u32,
-    tally: u64,
+    start: Start,
     text: &[u8],
 ) -> io::Result<()>
-    requires { Due volume.now file.now from tally text.now }
+    requires { Due volume.now file.now start.doc start.tally text.now }
 {
     rt.write_all(text)
 }
@@ -33,20 +31,14 @@ fn write_turn(
 // Writes the text of each turn, until nothing is left or a write fails.
 fn print(rt: &impl Print, volume: &[u8], file: &[u8]) -> io::Result<()> {
     let mut text = [0u8; TEXT];
-    let mut from: u32 = 0;
-    let mut tally: u64 = 0;
+    let mut start = Start { doc: 0, tally: 0 };
     loop {
-        let turn = turn_text(volume, file, from, tally, &mut text);
-        match turn {
-            Paged::Last(n) => {
-                return write_turn(rt, volume, file, from, tally, &text[..n]);
-            }
-            Paged::More(n, next, sum) => {
-                write_turn(rt, volume, file, from, tally, &text[..n])?;
-                from = next;
-                tally = sum;
-            }
-        }
+        let turn = turn_text(volume, file, start, &mut text);
+        write_turn(rt, volume, file, start, &text[..turn.bytes])?;
+        let Some(next) = turn.next else {
+            return Ok(());
+        };
+        start = next;
     }
 }
 

@@ -1,16 +1,17 @@
 // The turns of the program: each has a listing call into a page, and gives the text to print.
-ghost use Rattle.std.specs.Prelude.{◌≡◌, ◌∷◌, [], ◌+◌, ◌*◌, ◌≤◌, length};
+ghost use Rattle.std.specs.Prelude.{◌≡◌, ◌∷◌, [], ◌+◌, ◌*◌, ◌≤◌, length, Err};
+ghost use Rattle.seq.specs.Refusals.{refused};
 ghost use Rattle.search.specs.Answers.{said_listed};
 ghost use Rattle.fulltext.specs.Documents.{work};
 ghost use Rattle.lister.specs.Text.{line, refused_word};
 ghost use Rattle.lister.specs.Turns.{list_turn, turn_at};
 ghost use Rattle.lister.specs.Inner.Stored.{Stored};
-ghost use Rattle.lister.specs.Inner.Pages.{page_turn, rows_in, Told, Adds, Ready, Ahead};
+ghost use Rattle.lister.specs.Inner.Pages.{page_turn, rows_in, last, Told, Adds, Ready, Ahead};
 
 use super::files::plan_words;
-use super::text::{put_bytes, put_done, put_line, put_rows, wide};
-use plan::Checked;
-use search::Listed;
+use super::text::Text;
+use search::{ListError, Listing};
+use volume::Code;
 
 // The most bytes of a volume file that is listed.
 pub const VOLUME: usize = 65536;
@@ -22,25 +23,59 @@ const PAGE: usize = 16384;
 // line that is not a row's.
 pub const TEXT: usize = 17 * PAGE + 30;
 
-// What a turn gives: how many bytes are to be printed, and nothing behind them, or the document and
-// the sum of the tallies that the next turn starts with.
-#[derive(Clone, Copy)]
-pub enum Paged {
-    Last(usize),
-    More(usize, u32, u64),
+// Where a turn starts: at this document, behind pages whose tallies add up to this.
+#[derive(Clone, Copy, Debug, PartialEq, Eq)]
+pub struct Start {
+    pub doc: u32,
+    pub tally: u64,
+}
+
+// What a turn gives: how many bytes are to be printed, and where the next turn starts, if there is
+// one.
+#[derive(Clone, Copy, Debug, PartialEq, Eq)]
+pub struct Turn {
+    pub bytes: usize,
+    pub next: Option<Start>,
+}
+
+impl Turn {
+    // A turn with none behind it.
+    fn last(bytes: usize) -> Turn
+        ensures { result ≡ last bytes }
+    {
+        Turn { bytes, next: None }
+    }
 }
 
 // The line of a refusal.
-fn put_refusal(number: u32, at: u32, out: &mut [u8]) -> usize
+fn put_refusal(code: Code, out: &mut [u8]) -> usize
     requires { 30 ≤ length out.old }
-    ensures { Stored out.old 0 (line refused_word (number ∷ at ∷ [])) out.new result }
+    ensures { Stored out.old 0 (line refused_word (code.number ∷ code.at ∷ [])) out.new result }
 {
-    let numbers = [number, at];
-    put_line(b"refused", &numbers, 0, out)
+    let mut text = Text { out, end: 0 };
+    text.put_line(b"refused", &[code.number, code.at]);
+    text.end
+}
+
+// The number and the place of a listing call's error.
+fn code_of(error: ListError) -> Code
+    ensures { said_listed (Err error) ≡ refused result.number result.at }
+{
+    match error {
+        ListError::Refused(why) => plan::code_of(why),
+        ListError::Start => Code { number: 15, at: 0 },
+        ListError::Short => Code { number: 16, at: 0 },
+    }
 }
 
 // The text of a listing call's answer, whose rows stand at the front of the page.
-fn answer_text(listed: Listed, page: &[u32], width: usize, tally: u64, out: &mut [u8]) -> Paged
+fn answer_text(
+    listed: Result<Listing, ListError>,
+    page: &[u32],
+    width: usize,
+    tally: u64,
+    out: &mut [u8],
+) -> Turn
     requires width_in_bounds { rows_in (said_listed listed) * width ≤ length page.now }
     requires tally_bound { tally + 4294967295 ≤ 18446744073709551615 }
     requires width_in_bounds_2 { rows_in (said_listed listed) * (6 + 11 * width) + 30 ≤ length out.old }
@@ -48,81 +83,64 @@ fn answer_text(listed: Listed, page: &[u32], width: usize, tally: u64, out: &mut
     ensures adds { Adds tally (length out.old) result }
 {
     match listed {
-        Listed::Done(rows, sum) => {
-            let end = put_rows(page, rows as usize, width, 0, out);
-            let last = put_done(tally + wide(sum), end, out);
-            Paged::Last(last)
+        Ok(listing) => {
+            let mut text = Text { out, end: 0 };
+            text.put_rows(page, listing.rows as usize, width);
+            let tally = tally + u64::from(listing.tally);
+            match listing.next {
+                Some(doc) => Turn {
+                    bytes: text.end,
+                    next: Some(Start { doc, tally }),
+                },
+                None => {
+                    text.put_done(tally);
+                    Turn::last(text.end)
+                }
+            }
         }
-        Listed::More(next, rows, sum) => {
-            let end = put_rows(page, rows as usize, width, 0, out);
-            Paged::More(end, next, tally + wide(sum))
-        }
-        Listed::Refused(why) => {
-            let code = plan::code_of(why);
-            let end = put_refusal(code.number, code.at, out);
-            Paged::Last(end)
-        }
-        Listed::Start => {
-            let end = put_refusal(15, 0, out);
-            Paged::Last(end)
-        }
-        Listed::Short => {
-            let end = put_refusal(16, 0, out);
-            Paged::Last(end)
-        }
+        Err(error) => Turn::last(put_refusal(code_of(error), out)),
     }
 }
 
 // The turn over a volume and a plan whose rows are so many words wide.
-fn page_text(
-    volume: &[u8],
-    plan: &[u32],
-    width: usize,
-    from: u32,
-    tally: u64,
-    out: &mut [u8],
-) -> Paged
+fn page_text(volume: &[u8], plan: &[u32], width: usize, start: Start, out: &mut [u8]) -> Turn
     requires width_value { width ≡ (work volume.now plan.now).width }
-    requires ready { Ready from tally (length out.old) }
-    ensures told { Told (list_turn volume.now plan.now from tally) out.old out.new result }
-    ensures ahead { Ahead from (length out.old) result }
+    requires ready { Ready start.doc start.tally (length out.old) }
+    ensures told { Told (list_turn volume.now plan.now start.doc start.tally) out.old out.new result }
+    ensures ahead { Ahead start.doc (length out.old) result }
 {
     let mut page = [0u32; PAGE];
-    let listed = search::list(volume, plan, from, &mut page);
-    answer_text(listed, &page, width, tally, out)
+    let listed = search::list(volume, plan, start.doc, &mut page);
+    answer_text(listed, &page, width, start.tally, out)
 }
 
 // The turn over a volume and a plan.
-fn list_text(volume: &[u8], plan: &[u32], from: u32, tally: u64, out: &mut [u8]) -> Paged
-    requires { Ready from tally (length out.old) }
-    ensures told { Told (list_turn volume.now plan.now from tally) out.old out.new result }
-    ensures ahead { Ahead from (length out.old) result }
+fn list_text(volume: &[u8], plan: &[u32], start: Start, out: &mut [u8]) -> Turn
+    requires { Ready start.doc start.tally (length out.old) }
+    ensures told { Told (list_turn volume.now plan.now start.doc start.tally) out.old out.new result }
+    ensures ahead { Ahead start.doc (length out.old) result }
 {
-    let checked = plan::check(volume, plan);
-    match checked {
-        Checked::Refused(why) => {
-            let code = plan::code_of(why);
-            let end = put_refusal(code.number, code.at, out);
-            Paged::Last(end)
+    match plan::check(volume, plan) {
+        Ok(sizes) => {
+            let width = plan::row_words(sizes.patterns, sizes.vars);
+            page_text(volume, plan, width, start, out)
         }
-        Checked::Accepted(patterns, vars) => {
-            let width = plan::row_words(patterns, vars);
-            page_text(volume, plan, width, from, tally, out)
-        }
+        Err(why) => Turn::last(put_refusal(plan::code_of(why), out)),
     }
 }
 
 // The turn over a volume file and a plan file.
-pub fn turn_text(volume: &[u8], file: &[u8], from: u32, tally: u64, out: &mut [u8]) -> Paged
-    requires { Ready from tally (length out.old) }
-    ensures told { Told (turn_at volume.now file.now from tally) out.old out.new result }
-    ensures ahead { Ahead from (length out.old) result }
+pub fn turn_text(volume: &[u8], file: &[u8], start: Start, out: &mut [u8]) -> Turn
+    requires { Ready start.doc start.tally (length out.old) }
+    ensures told { Told (turn_at volume.now file.now start.doc start.tally) out.old out.new result }
+    ensures ahead { Ahead start.doc (length out.old) result }
 {
     if VOLUME < volume.len() {
-        let end = put_bytes(b"file too long\n", 0, out);
-        return Paged::Last(end);
+        let mut text = Text { out, end: 0 };
+        text.put_bytes(b"file too long\n");
+        return Turn::last(text.end);
     }
     let mut words = [0u32; plan::MOST_WORDS];
     let n = plan_words(file, &mut words);
-    list_text(volume, &words[..n], from, tally, out)
+    list_text(volume, &words[..n], start, out)
 }

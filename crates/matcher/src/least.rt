@@ -89,15 +89,13 @@ pub fn match_from(
 {
     let n = outline.vars;
     let count = outline.last - outline.condition;
-    let mut largest = largest_of(positions, n);
+    let mut largest = largest_of(&positions[..n]);
     let mut turn: usize = 0;
     let mut left = count;
     while 0 < left {
         let predicate = predicate_at(plan, outline.condition + turn);
-        let told = falls_short(
-            volume, document, predicate, order, positions, n, largest, paras,
-        );
-        match told {
+        let tuple = &positions[..n];
+        match falls_short(volume, document, predicate, order, tuple, largest, paras) {
             None => {
                 left -= 1;
                 turn = next_turn(turn, count);

@@ -149,20 +149,19 @@ fn proximity(positions: &[u32], a: usize, b: usize, least: u16, most: u16) -> Op
     None
 }
 
-// The largest of the first n positions.
-pub fn largest_of(positions: &[u32], n: usize) -> u32
-    requires le_n { 1 ≤ n }
-    requires n_in_bounds { n ≤ length positions.now }
-    ensures { Largest positions.now n result }
+// The largest of some positions.
+pub fn largest_of(positions: &[u32]) -> u32
+    requires { 1 ≤ length positions.now }
+    ensures { Largest positions.now (length positions.now) result }
 {
     let mut largest = positions[0];
-    for x in 1..n {
-        largest = largest.max(positions[x]);
+    for &p in &positions[1..] {
+        largest = largest.max(p);
     }
     largest
 }
 
-// The variable that a predicate leaves short of the first n positions, of which `largest` is the
+// The variable that a predicate leaves short of a pattern's positions, of which `largest` is the
 // largest; none where it holds. Where it looks at each variable, it does so in the order. `paras`
 // has for each variable where the start of its paragraph was found last.
 pub fn falls_short(
@@ -171,33 +170,29 @@ pub fn falls_short(
     predicate: Predicate,
     order: &[usize],
     positions: &[u32],
-    n: usize,
     largest: u32,
     paras: &mut [usize],
 ) -> Option<Shortfall>
     requires accepted { Accepted volume.now }
     requires at_document { AtDocument volume.now document }
-    requires le_n { 1 ≤ n }
-    requires n_in_bounds { n ≤ length positions.now }
-    requires by_index { (x : ℕ) → x < n → get_or positions.now x 0 ≤ 65535 }
-    requires predicate_value { names_below n predicate ≡ true }
+    requires in_document { InDocument positions.now }
+    requires predicate_value { names_below (length positions.now) predicate ≡ true }
     requires in_range { InRange (kind.Condition predicate) }
-    requires order { Order n order.now }
-    requires largest { Largest positions.now n largest }
-    requires n_in_bounds_2 { n ≤ length paras.old }
-    ensures told { Told (starts_in (lists_of volume.now) document.doc) predicate (take n positions.now) result }
+    requires order { Order (length positions.now) order.now }
+    requires largest { Largest positions.now (length positions.now) largest }
+    requires paras_in_bounds { length positions.now ≤ length paras.old }
+    ensures told { Told (starts_in (lists_of volume.now) document.doc) predicate positions.now result }
     ensures paras_len_unchanged { length paras.new ≡ length paras.old }
 {
-    let tuple = &positions[..n];
     match predicate {
-        Predicate::Distance { a, b, limit } => distance(tuple, a as usize, b as usize, limit),
-        Predicate::Ordered { a, b } => ordered(tuple, a as usize, b as usize),
+        Predicate::Distance { a, b, limit } => distance(positions, a as usize, b as usize, limit),
+        Predicate::Ordered { a, b } => ordered(positions, a as usize, b as usize),
         Predicate::Samepara { a, b } => {
-            samepara(volume, document, tuple, a as usize, b as usize, paras)
+            samepara(volume, document, positions, a as usize, b as usize, paras)
         }
-        Predicate::Window { limit } => window(tuple, order, largest, limit),
+        Predicate::Window { limit } => window(positions, order, largest, limit),
         Predicate::Proximity { a, b, least, most } => {
-            proximity(tuple, a as usize, b as usize, least, most)
+            proximity(positions, a as usize, b as usize, least, most)
         }
     }
 }

@@ -34,7 +34,7 @@ fn check_rows(plan: &[u32], lists: u32) -> Result<Sizes, Refusal>
 fn check_plan(plan: &[u32], lists: u32) -> Result<Sizes, Refusal>
     ensures { said_checked result ≡ plan_verdict lists plan.now }
 {
-    if plan.len() == 0 || plan.len() % 4 != 0 || MOST_WORDS < plan.len() {
+    if plan.is_empty() || plan.len() % 4 != 0 || MOST_WORDS < plan.len() {
         return Err(Refusal::Length);
     }
     check_rows(plan, lists)

@@ -109,6 +109,7 @@ fn pair_wrong(kind: Kind) -> bool
 pub fn form_wrong(kind: u32, a: u32, b: u32, c: u32) -> bool
     ensures { result ≡ form_wrong kind a b c }
 {
+    // Behind this test the kind is known, which `used_by` and `row_of` require.
     if kind < 1 || LAST_KIND < kind {
         return true;
     }

@@ -1,11 +1,11 @@
 // Query plans: rows of four words over the lists of a volume. `check` gives the number of a plan's
-// patterns and variables or says why it is refused, `pattern_rows` gives a pattern's own rows, and
-// `code_of` gives the number and the place of a refusal.
+// patterns and variables or says why it is refused, `Query::open` keeps a volume and a plan that are
+// accepted, `pattern_rows` gives a pattern's own rows, and `code_of` gives the number and the place
+// of a refusal.
 //
-// None of the three has a `requires`, nor has `pattern_span`. What each one answers is an equation
-// with a definition of `specs/`. `row_at`, `list_at`, `predicate_at`, `lay_out` and
-// `answer_of` serve the crates above, on a plan that they have checked, and so does `is_voice`, on
-// any row.
+// None of them has a `requires`, nor has `pattern_span`. What each function answers is an equation
+// with a definition of `specs/`. `row_at`, `list_at`, `predicate_at`, `lay_out` and `answer_of` serve
+// the crates above, on a plan that they have checked, and so does `is_voice`, on any row.
 #![tactic(auto)]
 
 mod answers;

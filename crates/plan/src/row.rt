@@ -63,7 +63,8 @@ pub struct Row {
     pub kind: Kind,
 }
 
-// The row of four words, of a kind that there is. The numbers are the words of a plan (01: rows).
+// The row of four words, of a kind that there is. Document 01 numbers the kinds (`kind_of` of
+// `specs/Rows.antt`). A `TryFrom` would test the form of each row again where it is known.
 pub fn row_of(kind: u32, a: u32, b: u32, c: u32) -> Row
     requires le_kind { 1 ≤ kind }
     requires kind_le_last_kind { kind ≤ last_kind }

@@ -5,9 +5,9 @@
 // None of the four has a `requires`. What each one answers, and what it leaves in a lent buffer, is
 // an equation with a definition of `specs/`. `word_at`, `word_behind`, `word_in_block`,
 // `posting_at`, `below_in_window`, `below_across`, `count_at`, `list_span` and `list_starts` serve
-// the crates above, on a volume that they have checked; `entry`, `lead` and `extent_of` say where
-// its parts stand. `put_made` stores a block of a volume whose words are made
-// on the way.
+// the crates above, on a volume that they have checked, and `Volume` is the bytes of one; `entry`,
+// `lead` and `extent_of` say where its parts stand. `put_made` stores a block of a volume whose words
+// are made on the way.
 #![tactic(auto)]
 
 mod accepted;

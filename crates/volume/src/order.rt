@@ -48,9 +48,10 @@ pub fn fall_at(volume: &[u8], i: usize) -> u32
 {
     let next = i + 1;
     if next == BLOCK_WORDS * (volume.len() / BLOCK_BYTES) {
-        return 1;
+        1
+    } else {
+        fall_of(word_at(volume, i), word_at(volume, next))
     }
-    fall_of(word_at(volume, i), word_at(volume, next))
 }
 
 // The falls from stream index `from` up to `end`.
@@ -104,7 +105,8 @@ pub fn rising<F: Fn(usize) -> u32>(word: F, from: usize, end: usize) -> bool
     falls == 0
 }
 
-// The lowest list that does not rise.
+// The lowest list that does not rise. Kept beside `bad_given` of the writer: one function for both
+// would take two closures and, for the bound of its sums, a ghost function of the lists' sizes.
 fn walk_lists(volume: &[u8], lists: usize) -> Option<usize>
     requires lists_value { lists ≡ list_count volume.now }
     requires lists_bound { lists ≤ 1024 }
@@ -136,7 +138,8 @@ pub fn bad_list(volume: &[u8], lists: usize, used: usize, all: usize) -> Option<
     let head = falls_from(volume, 0, lead(lists));
     let tail = falls_from(volume, used, end);
     if head + list_falls(volume, lists) + tail == all {
-        return None;
+        None
+    } else {
+        walk_lists(volume, lists)
     }
-    walk_lists(volume, lists)
 }

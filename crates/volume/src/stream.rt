@@ -27,7 +27,8 @@ pub fn posting_at(volume: &[u8], i: usize) -> Posting
     }
 }
 
-// The word k behind stream word i, of the same block.
+// The word k behind stream word i, of the same block. Kept beside `word_at`: its place follows from
+// that of word i, with no division of its own.
 pub fn word_behind(volume: &[u8], i: usize, k: usize) -> u32
     requires k_bound { i % 126 + k < 126 }
     requires k_bound_2 { i + k < stream_length volume.now }
@@ -36,7 +37,7 @@ pub fn word_behind(volume: &[u8], i: usize, k: usize) -> u32
     read32(volume, 4 * i + 8 * (i / BLOCK_WORDS) + 4 + 4 * k)
 }
 
-// Word k of the words of a block.
+// Word k of the words of a block. Kept beside `word_at`: its place needs no division.
 pub fn word_in_block(volume: &[u8], block: usize, k: usize) -> u32
     requires k_bound { k < 126 }
     requires k_bound_2 { 126 * block + k < stream_length volume.now }
@@ -68,10 +69,8 @@ pub fn below_across(volume: &[u8], i: usize, target: u64) -> usize
     ensures upper_bound { result ≤ 7 }
 {
     let mut n: usize = 0;
-    let mut j: usize = 7;
-    while 0 < j {
-        j -= 1;
-        n += usize::from(u64::from(word_at(volume, i + j)) < target);
+    for behind in 0..7 {
+        n += usize::from(u64::from(word_at(volume, i + 6 - behind)) < target);
     }
     n
 }
@@ -84,7 +83,8 @@ pub fn count_at(volume: &[u8], i: usize) -> u32
     word_at(volume, entry(i))
 }
 
-// The sum of the first n counts.
+// The sum of the first n counts. Kept beside `sum_of` of the writer, a chain over a slice: these
+// counts are read word by word.
 pub fn count_sum(volume: &[u8], n: usize) -> u64
     requires n_bound { n ≤ 1024 }
     requires n_bound_2 { entry n ≤ stream_length volume.now }

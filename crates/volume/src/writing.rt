@@ -21,11 +21,7 @@ fn sum_of(counts: &[u32]) -> u64
     requires { length counts.now ≤ 1024 }
     ensures { result ≡ sum_to (at counts.now) (length counts.now) }
 {
-    let mut sum: u64 = 0;
-    for &count in counts {
-        sum += u64::from(count);
-    }
-    sum
+    counts.iter().map(|&count| u64::from(count)).sum()
 }
 
 // The lowest given list that does not rise.
@@ -49,23 +45,18 @@ fn stream_word(counts: &[u32], postings: &[u32], i: usize) -> u32
     requires { length counts.now ≤ 1024 }
     ensures { result ≡ given counts.now postings.now i }
 {
-    let lists = counts.len();
+    let front = lead(counts.len());
     if i == 0 {
-        return 1;
+        1
+    } else if i == 1 {
+        counts.len() as u32
+    } else if i < front {
+        counts[i - entry(0)]
+    } else if i - front < postings.len() {
+        postings[i - front]
+    } else {
+        0
     }
-    if i == 1 {
-        return lists as u32;
-    }
-    let front = lead(lists);
-    if i < front {
-        let list = i - entry(0);
-        return counts[list];
-    }
-    let j = i - front;
-    if j < postings.len() {
-        return postings[j];
-    }
-    0
 }
 
 // Stores what `word` gives as the words of a block. The first six are stored by themselves: what is
@@ -95,7 +86,8 @@ fn put_stream(counts: &[u32], postings: &[u32], first: usize, out: &mut [u8])
 {
     let front = lead(counts.len());
     if front <= first && first - front + BLOCK_WORDS <= postings.len() {
-        put_words(|j| postings[first - front + j], out);
+        let from = first - front;
+        put_words(|j| postings[from + j], out);
     } else {
         put_words(|j| stream_word(counts, postings, first + j), out);
     }

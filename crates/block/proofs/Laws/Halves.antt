@@ -9,6 +9,7 @@ use mathlib.Core.Path.{◌≡◌, ap, ap₂, ◌∙◌}
 use mathlib.Core.List.{List, [], ◌∷◌}
 use lib.ListN.{length, get_or, take, drop, length-drop, drop_of_length-le}
 use lib.Seq.{drop-drop}
+use Rattle.seq.specs.Numbers.{run, sum_to}
 use Rattle.seq.specs.Lists.{total}
 use Rattle.seq.proofs.Laws.Slices.{length_slice, take_slice}
 use Rattle.block.specs.declared.rows.Row.{Row}
@@ -38,11 +39,11 @@ module _ (s : List ℕ) (o : ℕ) {row : Row} (row_is : row ≡ four_at s o) (l 
       rw e at (drop-four s o (omega arith))
 
   last-tot : tot (drop o s) ≡ columns row
-  unfolding columns total
+  unfolding columns total run sum_to
   last-tot = rw (last-four, row_is) (omega arith)
 
   last-weigh : weigh (drop o s) ≡ slope row
-  unfolding columns tilted weigh
+  unfolding columns tilted weigh run sum_to
   last-weigh = rw (last-four, row_is) (omega arith)
 
 -- four bytes and the 31 rows behind them, as `half_sums` adds them up
@@ -50,16 +51,16 @@ module _ {s : List ℕ} {row : Row} {t : RowSums} {p w : ℕ}
     (row_is : row ≡ four_at s 0) (d : Eights s 4 3 t)
     (p-is : p ≡ plain_of row t) (w-is : w ≡ weighted_of row t) where
   front-tot : 252 ≤ length s → tot s ≡ p + tot (drop 252 s)
-  unfolding columns total
+  unfolding columns total run sum_to
   front-tot h = omega (arith, rw row_is at p-is, ap tot (drop-four s 0 (omega arith)), d.tot-is)
 
   front-weigh : length s ≡ 252 → weigh s ≡ w + weigh (drop 252 s)
-  unfolding columns tilted weigh
+  unfolding columns tilted weigh run sum_to
   front-weigh l = omega (arith, rw row_is at w-is, rw (length-drop 4 s, l) at (ap weigh (drop-four s 0 (omega arith))), rw l at d.weigh-is)
 
   -- with four bytes behind them
   front-weigh-four : length s ≡ 256 → weigh s ≡ w + 4 * p + weigh (drop 252 s)
-  unfolding columns tilted weigh
+  unfolding columns tilted weigh run sum_to
   front-weigh-four l = omega (arith, rw row_is at p-is, rw row_is at w-is, rw (length-drop 4 s, l) at (ap weigh (drop-four s 0 (omega arith))), rw l at d.weigh-is)
 
   -- the first half of a block: its last four bytes stand behind them

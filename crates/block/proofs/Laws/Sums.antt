@@ -1,75 +1,92 @@
 -- The laws of `specs/Inner/Sums.antt`. No contract cites this file.
 --     columns-plus, slope-plus, at_most-plus, at_most-up, room_of     two rows added: their sums, bounds and room
 --     at_most-zeros                                                   the columns of zeros
+--     row_is, four_is                                                 a row, by its columns
 --     tot-row, weigh-row                                              eight bytes of a list, as a row, in front of the rest
 --     rows-first, rows_again                                          `Rows` with no row, and with one more
 --     rows-room-more, rows-room-near                                  the two additions of that row have room
 --     eights-first, eights_again                                      `Eights` with seven rows, and with eight more
 --     eights-near, eights-room-far, eights-room-all                   these eight start small enough, and their additions have room
 -- Assumes nothing.
-use Prim.Native.Nat.{ℕ, suc, ◌+◌, ◌*◌, ◌-◌, ◌<◌, ◌≤◌}
-use native.Mathlib.Nat.{add-suc, suc-mul}
-use native.Mathlib.Numerals.{add-one}
+use Prim.Native.Nat.{ℕ, ◌+◌, ◌*◌, ◌-◌, ◌<◌, ◌≤◌}
+use native.Mathlib.Nat.{zero-add, add-zero, suc-mul}
 use native.Mathlib.Omega.{arith}
-use mathlib.Core.Path.{◌≡◌, refl}
-use mathlib.Core.List.{List, ◌∷◌}
-use lib.ListN.{length, get_or, drop, length-drop}
-use lib.Seq.{drop-cons}
-use Rattle.seq.specs.Numbers.{sum_to}
-use Rattle.seq.proofs.Laws.Numbers.{sum_step, sum_mono}
+use mathlib.Core.Path.{◌≡◌, refl, sym, ap, ap₂, ◌∙◌}
+use mathlib.Core.List.{List, ◌++◌}
+use lib.ListN.{length, drop, length-drop, take-append-drop}
+use lib.Seq.{drop-drop}
+use Rattle.seq.specs.Numbers.{run, sum_to}
+use Rattle.seq.proofs.Laws.Runs.{run-get_or}
+use Rattle.seq.proofs.Laws.Slices.{slice-run}
+use Rattle.std.proofs.lemmas.List.{get_or-replicate}
+use Rattle.seq.proofs.Laws.Numbers.{run_ext, get_or-run, sum_step, sum_mono}
+use Rattle.seq.specs.Lists.{at, total}
 use Rattle.block.specs.declared.rows.Row.{Row}
-use Rattle.seq.specs.Lists.{total}
-use Rattle.block.specs.Inner.Sums.{tot, weigh, row_at, zeros, plus, tilted, columns, slope, AtMost, Room, tri, Rows, Eights}
+use Rattle.block.specs.Inner.Sums.{tot, weigh, row_of, column, row_at, four_at, zeros, plus, tilted, columns, slope, AtMost, Room, tri, Rows, Eights}
 
 columns-zeros : columns zeros ≡ 0
-unfolding columns
+unfolding columns sum_to
 columns-zeros = refl
 
 slope-zeros : slope zeros ≡ 0
-unfolding columns tilted
+unfolding columns tilted run sum_to
 slope-zeros = refl
+
+-- a row, by its columns
+pub row_is : (f : ℕ → ℕ) (xs : List ℕ) → length xs ≡ 8 → ((c : ℕ) → c < 8 → at xs c ≡ f c) → record { 0 = xs } ≡ row_of f
+row_is f xs l e =
+    ap (λ (ys : List ℕ). record { 0 = ys })
+    (sym (rw l at (run-get_or 0 xs)) ∙ run_ext (at xs) f 0 0 8 (λ j h. rw (zero-add j) (e j h)))
+
+pub four_is : (s xs : List ℕ) (o : ℕ) → length xs ≡ 8 → ((k : ℕ) → k < 4 → at xs k ≡ 0) → ((k : ℕ) → k < 4 → at xs (4 + k) ≡ at s (o + k))
+    → record { 0 = xs } ≡ four_at s o
+unfolding run
+four_is s xs o l z e =
+    let first : at xs 4 ≡ at s o = rw (add-zero o) at (e 0 (omega arith)) in
+    ap (λ (ys : List ℕ). record { 0 = ys })
+    (sym (rw l at (run-get_or 0 xs))
+    ∙ rw (z 0 (omega arith), z 1 (omega arith), z 2 (omega arith), z 3 (omega arith), first, e 1 (omega arith), e 2 (omega arith), e 3 (omega arith)))
+
+column-is : (f : ℕ → ℕ) (c : ℕ) → c < 8 → column (row_of f) c ≡ f c
+column-is f c h = get_or-run f 0 8 c 0 h ∙ ap f (zero-add c)
 
 module _ (x y : Row) where
   columns-plus : columns (plus x y) ≡ columns x + columns y
-  unfolding columns plus
+  unfolding columns plus run sum_to
   columns-plus = omega arith
 
   slope-plus : slope (plus x y) ≡ slope x + slope y
-  unfolding columns tilted plus
+  unfolding columns tilted plus run sum_to
   slope-plus = omega arith
 
 module _ {x : Row} {m n : ℕ} where
   at_most-up : m ≤ n → AtMost m x → AtMost n x
-  at_most-up h v = omega arith
+  at_most-up h v = record { each = λ c i. let e = v.each c i in omega arith }
 
   at_most-plus : {y : Row} → AtMost m x → AtMost n y → AtMost (m + n) (plus x y)
   unfolding plus
-  at_most-plus v w = omega arith
+  at_most-plus {y} v w = record { each = λ c i. let e = v.each c i in let d = w.each c i in rw (column-is (λ k. column x k + column y k) c i) (omega arith) }
 
   room_of : {y : Row} → AtMost m x → AtMost n y → m + n < 65536 → Room x y
-  room_of v w h = omega arith
+  room_of v w h = record { each = λ c i. let e = v.each c i in let d = w.each c i in omega arith }
 
 pub at_most-zeros : {n : ℕ} → AtMost n zeros
-at_most-zeros = omega arith
+at_most-zeros = record { each = λ c i. let z : ℕ = 0 in rw (get_or-replicate 8 c z z i) (omega arith) }
 
-module _ (s : List ℕ) (o : ℕ) where
-  drop-step : (k : ℕ) → o + k < length s → drop (o + k) s ≡ get_or s (o + k) 0 ∷ drop (o + suc k) s
-  drop-step k h = rw (add-suc o k, drop-cons s (o + k) 0 h)
+module _ (s : List ℕ) (o : ℕ) (h : o + 8 ≤ length s) where
+  drop-row : drop o s ≡ (row_at s o).0 ++ drop (o + 8) s
+  drop-row =
+      sym (take-append-drop 8 (drop o s))
+      ∙ ap₂ (λ (a b : List ℕ). a ++ b) (slice-run 0 s o 8 h ∙ run_ext (at s) (λ c. at s (o + c)) o 0 8 (λ j i. ap (λ (n : ℕ). at s (o + n)) (sym (zero-add j)))) (drop-drop 8 o s)
 
-  module _ (h : o + 8 ≤ length s) where
-    drop-row : drop o s ≡ get_or s o 0 ∷ get_or s (o + 1) 0 ∷ get_or s (o + 2) 0 ∷ get_or s (o + 3) 0 ∷ get_or s (o + 4) 0 ∷ get_or s (o + 5) 0 ∷ get_or s (o + 6) 0 ∷ get_or s (o + 7) 0 ∷ drop (o + 8) s
-    drop-row =
-        rw
-        (drop-cons s o 0 (omega arith), ← add-one o, drop-step 1 (omega arith), drop-step 2 (omega arith), drop-step 3 (omega arith), drop-step 4 (omega arith), drop-step 5 (omega arith), drop-step 6 (omega arith), drop-step 7 (omega arith))
+  module _ {row : Row} (row-is : row ≡ row_at s o) where
+    tot-row : tot (drop o s) ≡ columns row + tot (drop (o + 8) s)
+    unfolding columns total run sum_to
+    tot-row = rw (drop-row, row-is) (omega arith)
 
-    module _ {row : Row} (row_is : row ≡ row_at s o) where
-      tot-row : tot (drop o s) ≡ columns row + tot (drop (o + 8) s)
-      unfolding columns total
-      tot-row = rw (drop-row, row_is) (omega arith)
-
-      weigh-row : weigh (drop o s) ≡ slope row + (length s - (o + 8)) * columns row + weigh (drop (o + 8) s)
-      unfolding columns tilted weigh
-      weigh-row = rw (drop-row, length-drop, row_is) (simp suc-mul (omega arith))
+    weigh-row : weigh (drop o s) ≡ slope row + (length s - (o + 8)) * columns row + weigh (drop (o + 8) s)
+    unfolding columns tilted weigh run sum_to
+    weigh-row = rw (drop-row, row-is) (simp (length-drop, suc-mul) (omega arith))
 
 tri-step : (i : ℕ) → tri (i + 1) ≡ tri i + i
 tri-step i = sum_step (λ j. j) i
@@ -91,15 +108,15 @@ module _ {s : List ℕ} {o : ℕ} {near₀ : Row} where
 
   module _ {j : ℕ} {more near : Row} (r : Rows s o near₀ j more near) where
     pub rows_again : {row more' near' : Row} → row ≡ row_at s (o + 8 * j) → AtMost 255 row → near' ≡ plus near more → more' ≡ plus more row → o + 8 * j + 8 ≤ length s → Rows s o near₀ (j + 1) more' near'
-    rows_again row_is w near-is more-is h =
+    rows_again row-is w near-is more-is h =
         let e : o + 8 * (j + 1) ≡ o + 8 * j + 8 = omega arith in
         let l : length s - (o + 8 * j) ≡ length s - (o + 8 * j + 8) + 8 = omega arith in
         rw (near-is, more-is)
         (record {
           more_within = at_most-up (omega arith) (at_most-plus r.more_within w);
           near_within = λ q v. at_most-up (omega (arith, tri-step j)) (at_most-plus (r.near_within q v) r.more_within);
-          tot-is = rw (e, columns-plus) (omega (arith, tot-row s (o + 8 * j) h row_is));
-          weigh-is = simp (e, columns-plus, slope-plus) (omega (arith, rw l at r.weigh-is, weigh-row s (o + 8 * j) h row_is));
+          tot-is = rw (e, columns-plus) (omega (arith, tot-row s (o + 8 * j) h row-is));
+          weigh-is = simp (e, columns-plus, slope-plus) (omega (arith, rw l at r.weigh-is, weigh-row s (o + 8 * j) h row-is));
         })
 
     pub rows-room-more : {row : Row} → j < 8 → AtMost 255 row → Room more row

@@ -1,5 +1,6 @@
 -- The sums of bytes by columns of eight: what `src/rows.rt` computes with. No call's promise rests on this file alone.
 --     tot, weigh             the bytes of a list added up; each byte as often as there are bytes from it on
+--     row_of, column         a row of eight columns, by their index; one of them
 --     row_at, four_at        eight bytes as a row of columns; four bytes, behind zeros
 --     zeros, plus            a row of zeros; two rows added
 --     tilted                 each column as often as there are columns from it on
@@ -9,9 +10,9 @@
 --     Rows, Eights           the sums after so many rows; after seven rows and so many times eight
 --     plain_of, weighted_of  the two sums of a row and 31 rows, from their columns
 -- Assumes nothing.
-use Rattle.std.specs.Prelude.{ℕ, ◌+◌, ◌*◌, ◌-◌, ◌≤◌, ◌<◌, ◌≡◌, List, [], ◌∷◌, length, get_or, drop}
-use Rattle.seq.specs.Numbers.{sum_to}
-use Rattle.seq.specs.Lists.{total}
+use Rattle.std.specs.Prelude.{ℕ, ◌+◌, ◌*◌, ◌-◌, ◌≤◌, ◌<◌, ◌≡◌, List, [], ◌∷◌, length, replicate, drop}
+use Rattle.seq.specs.Numbers.{run, sum_to}
+use Rattle.seq.specs.Lists.{at, total}
 use Rattle.block.specs.declared.rows.Row.{Row}
 use Rattle.block.specs.declared.rows.RowSums.{RowSums}
 
@@ -24,89 +25,46 @@ unfoldable pub weigh : List ℕ → ℕ
 weigh [] = 0
 weigh (x ∷ xs) = length (x ∷ xs) * x + weigh xs
 
+-- a row of eight columns, by their index, and column c of a row
+abbrev pub row_of : (ℕ → ℕ) → Row
+row_of f = record { 0 = run f 0 8 }
+
+abbrev pub column : Row → ℕ → ℕ
+column x c = at x.0 c
+
 -- the eight bytes from o on
 abbrev pub row_at : List ℕ → ℕ → Row
-row_at s o = record {
-  a = get_or s o 0;
-  b = get_or s (o + 1) 0;
-  c = get_or s (o + 2) 0;
-  d = get_or s (o + 3) 0;
-  e = get_or s (o + 4) 0;
-  f = get_or s (o + 5) 0;
-  g = get_or s (o + 6) 0;
-  h = get_or s (o + 7) 0;
-}
+row_at s o = row_of (λ c. at s (o + c))
 
 -- the four bytes from o on, behind four zeros
 abbrev pub four_at : List ℕ → ℕ → Row
-four_at s o = record {
-  a = 0;
-  b = 0;
-  c = 0;
-  d = 0;
-  e = get_or s o 0;
-  f = get_or s (o + 1) 0;
-  g = get_or s (o + 2) 0;
-  h = get_or s (o + 3) 0;
-}
+four_at s o = record { 0 = 0 ∷ 0 ∷ 0 ∷ 0 ∷ at s o ∷ at s (o + 1) ∷ at s (o + 2) ∷ at s (o + 3) ∷ [] }
 
 -- a row of zeros, and two rows added
 abbrev pub zeros : Row
-zeros = record { a = 0; b = 0; c = 0; d = 0; e = 0; f = 0; g = 0; h = 0 }
+zeros = record { 0 = replicate 8 0 }
 
 unfoldable pub plus : Row → Row → Row
-plus x y = record {
-  a = x.a + y.a;
-  b = x.b + y.b;
-  c = x.c + y.c;
-  d = x.d + y.d;
-  e = x.e + y.e;
-  f = x.f + y.f;
-  g = x.g + y.g;
-  h = x.h + y.h;
-}
+plus x y = row_of (λ c. column x c + column y c)
 
 -- each column as often as there are columns from it on
 unfoldable pub tilted : Row → Row
-tilted x = record {
-  a = 8 * x.a;
-  b = 7 * x.b;
-  c = 6 * x.c;
-  d = 5 * x.d;
-  e = 4 * x.e;
-  f = 3 * x.f;
-  g = 2 * x.g;
-  h = x.h;
-}
+tilted x = row_of (λ c. (8 - c) * column x c)
 
 -- the columns, added up; and those of the tilted row
 unfoldable pub columns : Row → ℕ
-columns x = x.a + x.b + x.c + x.d + x.e + x.f + x.g + x.h
+columns x = sum_to (column x) 8
 
 abbrev pub slope : Row → ℕ
 slope x = columns (tilted x)
 
 -- each column is at most m
 pub record AtMost (m : ℕ) (x : Row) : Type 0 where
-  pub a : x.a ≤ m
-  pub b : x.b ≤ m
-  pub c : x.c ≤ m
-  pub d : x.d ≤ m
-  pub e : x.e ≤ m
-  pub f : x.f ≤ m
-  pub g : x.g ≤ m
-  pub h : x.h ≤ m
+  pub each : (c : ℕ) → c < 8 → column x c ≤ m
 
 -- no column of the two together passes 16 bits
 pub record Room (x y : Row) : Type 0 where
-  pub a : x.a + y.a < 65536
-  pub b : x.b + y.b < 65536
-  pub c : x.c + y.c < 65536
-  pub d : x.d + y.d < 65536
-  pub e : x.e + y.e < 65536
-  pub f : x.f + y.f < 65536
-  pub g : x.g + y.g < 65536
-  pub h : x.h + y.h < 65536
+  pub each : (c : ℕ) → c < 8 → column x c + column y c < 65536
 
 -- 0 + 1 + .. + (i − 1)
 abbrev pub tri : ℕ → ℕ

@@ -1,5 +1,8 @@
 -- How the variables of a pattern are brought to bounds in a document, and its least match from there on. No contract cites this file.
---     Standing-to, standing-done     the first variables of an order are brought to positions that are not below bounds
+--     Standing-to, standing-first, standing-next, standing-out, standing-done     the first variables of an order are brought to
+--                                positions that are not below bounds
+--     mark-start                 a variable set to its mark
+--     set-ats, set-ends, jumps-from     a cursor set to its mark, which jumps from there
 --     posed-vars, posed-some, posed-few      how many variables the pattern has
 --     posed-rise                 the volume's lists rise
 --     whole-stretch, mark-stretch     a variable's list as a stretch of the stream, and from a mark on
@@ -9,15 +12,16 @@
 -- Assumes nothing.
 use Prim.Native.Nat.{ℕ, ◌+◌, ◌*◌, ◌<◌, ◌≤◌}
 use native.Mathlib.Omega.{arith}
-use mathlib.Core.Path.{◌≡◌, sym, ap, ◌∙◌}
+use mathlib.Core.Path.{◌≡◌, refl, sym, ap, subst, ◌∙◌}
 use mathlib.Core.Bool.{Bool, true, false, true≢false}
-use mathlib.Core.Logic.{⊎_elim}
+use mathlib.Core.Logic.{⊎_elim, ◌≢◌}
 use mathlib.Core.List.{List}
-use lib.ListN.{length, get_or, take, get_or-eq_default}
-use lib.Seq.{get_or-take, length-take-le}
+use lib.ListN.{length, get_or, set, take, length-set, get_or-eq_default}
+use lib.Seq.{get_or-set_same, get_or-set_other, get_or-take, length-take-le}
 use Rattle.std.proofs.lemmas.List.{ext_get_or}
 use Rattle.seq.specs.Lists.{rises}
 use Rattle.seq.proofs.Laws.Tests.{below_or}
+use Rattle.seq.proofs.Laws.Decides.{decided, eqb_decides}
 use Rattle.volume.specs.Posting.{doc_of, pos_of}
 use Rattle.volume.specs.Layout.{word, list_count, start, lists_of}
 use Rattle.plan.specs.declared.outline.Outline.{Outline}
@@ -31,11 +35,12 @@ use Rattle.fulltext.specs.Inner.Bounds.{MatchFrom, least_from, HeldMatch}
 use Rattle.fulltext.proofs.Laws.Positions.{lists-rise}
 use Rattle.fulltext.proofs.Laws.Least.{least_from-same}
 use Rattle.matcher.specs.declared.cursor.Document.{Document}
-use Rattle.matcher.specs.Inner.Cursors.{Stretch, list_end}
-use Rattle.matcher.specs.Inner.Settling.{Standing, Posed}
+use Rattle.matcher.specs.declared.cursor.Cursor.{Cursor}
+use Rattle.matcher.specs.Inner.Cursors.{Stretch, list_end, ats_of, ends_of, no_cursor}
+use Rattle.matcher.specs.Inner.Settling.{Jumped, Standing, Posed}
 use Rattle.matcher.specs.Inner.Order.{Order}
 use Rattle.matcher.proofs.Laws.Volume.{list-stretch}
-use Rattle.matcher.proofs.Laws.Cursors.{seek_ge, seek-at, seek-below, stretch-within}
+use Rattle.matcher.proofs.Laws.Cursors.{seek_ge, seek-at, seek-below, stretch-within, ats-at, ends-at, ats-set, ends-kept}
 use Rattle.matcher.proofs.Laws.Settling.{index, first-low}
 use Rattle.enumeration.specs.Inner.Attempts.{Marked, sought_from, StoodFrom}
 
@@ -49,6 +54,70 @@ pub record Standing-to (v : List ℕ) (d : ℕ) (order ends lows marks here₀ p
       × ((get_or here y 0 < get_or ends y 0) × ((doc_of (word v (get_or here y 0)) ≡ d) × (get_or ps y 0 ≡ pos_of (word v (get_or here y 0)))))
 
 module _ (v : List ℕ) (d : ℕ) (order ends lows marks here₀ ps₀ : List ℕ) where
+  pub standing-first : Standing-to v d order ends lows marks here₀ ps₀ here₀ ps₀ 0
+  standing-first = record { here-length = refl; ps-length = refl; stood = λ j h. absurd (let z : ⊥ = omega arith in z) }
+
+  -- the next variable of the order is set to its mark, and jumps
+  module _ (here ps : List ℕ) (i : ℕ) (s : Standing-to v d order ends lows marks here₀ ps₀ here ps i)
+      (h : get_or order i 0 < length here₀) (l : get_or order i 0 < length ps₀) where
+    abbrev x : ℕ
+    x = get_or order i 0
+
+    abbrev marked : List ℕ
+    marked = set here x (get_or marks x 0)
+
+    at_mark : get_or marked x 0 ≡ get_or marks x 0
+    at_mark = get_or-set_same here x (get_or marks x 0) 0 (let n = s.here-length in omega arith)
+
+    pub mark-start : (e : ℕ) → Stretch v (get_or marks x 0) e → Stretch v (get_or marked x 0) e
+    mark-start e t = rw at_mark t
+
+    module _ (here' ps' : List ℕ) where
+      abbrev Jumps : Bool → Type 0
+      Jumps r = Jumped v d (get_or ends x 0) (get_or lows x 0) x marked ps r here' ps'
+
+      reached : Jumps true → Standing-to v d order ends lows marks here₀ ps₀ here' ps' (i + 1)
+      reached j =
+          let to = sought_from v d ends lows marks x in
+          let w = rw at_mark at j in
+          let a = length-set here x (get_or marks x 0) ∙ s.here-length in
+          let b = s.ps-length in
+          rw (w.1.1.0, w.1.1.1) (record {
+            here-length = length-set marked x to ∙ a;
+            ps-length = length-set ps x (pos_of (word v to)) ∙ b;
+            stood = λ k m. ⊎_elim
+                (λ (g : get_or order k 0 ≡ x).
+                let here-is = get_or-set_same marked x to 0 (omega arith) in
+                let ps-is = get_or-set_same ps x (pos_of (word v to)) 0 (omega arith) in
+                rw (g, here-is, ps-is) (refl, (w.0, (w.1.0, refl))))
+                (λ (g : get_or order k 0 ≢ x).
+                let y = get_or order k 0 in
+                let last : i ≤ k → ⊥ = λ f. let q : k ≡ i = omega arith in g (ap (λ t. get_or order t 0) q) in
+                let earlier : k < i = ⊎_elim (λ f. f) (λ f. absurd (last f)) (below_or k i) in
+                let here-is = get_or-set_other marked x y to 0 g ∙ get_or-set_other here x y (get_or marks x 0) 0 g in
+                let ps-is = get_or-set_other ps x y (pos_of (word v to)) 0 g in
+                rw (here-is, ps-is) (s.stood k earlier))
+                (decided (eqb_decides (get_or order k 0) x));
+          })
+
+      pub standing-next : (r : Bool) → Jumps r → r ≡ true → Standing-to v d order ends lows marks here₀ ps₀ here' ps' (i + 1)
+      standing-next r j e = reached (subst (λ (t : Bool). Jumps t) e j)
+
+      none-there : Jumps false → sought_from v d ends lows marks x < get_or ends x 0 → doc_of (word v (sought_from v d ends lows marks x)) ≢ d
+      none-there j inside =
+          let to = sought_from v d ends lows marks x in
+          let w = rw at_mark at j in
+          ⊎_elim
+          (λ (o : get_or ends x 0 ≤ to). absurd (let z : ⊥ = omega arith in z))
+          (λ (o : (to < get_or ends x 0) × (doc_of (word v to) ≢ d)). o.1)
+          w.0
+
+      pub standing-out : (n : ℕ) → x < n → (r : Bool) → Jumps r → r ≡ false → StoodFrom v d n ends lows marks false here' ps'
+      standing-out n k r j e = record {
+        each = λ f. absurd (true≢false (sym f));
+        out = λ f. (x, (k, none-there (subst (λ (t : Bool). Jumps t) e j)));
+      }
+
   -- each variable is one of the order
   pub standing-done : (here ps whole : List ℕ) (i n : ℕ) → order ≡ take n whole → n ≤ i → Order n whole → Standing-to v d order ends lows marks here₀ ps₀ here ps i
       → StoodFrom v d n ends lows marks true here ps
@@ -60,6 +129,22 @@ module _ (v : List ℕ) (d : ℕ) (order ends lows marks here₀ ps₀ : List �
         rw q at (s.stood c.0 (omega arith));
     out = λ f. absurd (true≢false f);
   }
+
+-- a cursor set to its mark
+module _ (here marks : List Cursor) (x : ℕ) where
+  pub set-ats : ats_of (set here x (get_or marks x no_cursor)) ≡ set (ats_of here) x (get_or (ats_of marks) x 0)
+  set-ats = ats-set here x (get_or marks x no_cursor) ∙ ap (λ (i : ℕ). set (ats_of here) x i) (sym (ats-at marks x))
+
+  pub set-ends : ends_of marks ≡ ends_of here → ends_of (set here x (get_or marks x no_cursor)) ≡ ends_of here
+  set-ends e = ends-kept here x (get_or marks x no_cursor) (sym (ends-at marks x) ∙ ap (λ (es : List ℕ). get_or es x 0) e ∙ ends-at here x)
+
+  -- it jumps from there
+  pub jumps-from : (v : List ℕ) (d need : ℕ) (ends ps : List ℕ) (r : Bool) (here' ps' : List ℕ) → ends_of marks ≡ ends → ends_of here ≡ ends
+      → Jumped v d (get_or (ends_of (set here x (get_or marks x no_cursor))) x 0) need x (ats_of (set here x (get_or marks x no_cursor))) ps r here' ps'
+      → Jumped v d (get_or ends x 0) need x (set (ats_of here) x (get_or (ats_of marks) x 0)) ps r here' ps'
+  jumps-from v d need ends ps r here' ps' m h j =
+      subst (λ (es : List ℕ). Jumped v d (get_or es x 0) need x (set (ats_of here) x (get_or (ats_of marks) x 0)) ps r here' ps') (set-ends (m ∙ sym h) ∙ h)
+      (subst (λ (is : List ℕ). Jumped v d (get_or (ends_of (set here x (get_or marks x no_cursor))) x 0) need x is ps r here' ps') set-ats j)
 
 -- a pattern in a document, from marks in front of its bounds
 module _ (v p : List ℕ) (o : Outline) (doc : Document) (ends : List ℕ) (q : Posed v p o doc ends) where

@@ -27,33 +27,29 @@ use Rattle.fulltext.proofs.Laws.Enumeration.{found-next, carried, none_left}
 use Rattle.enumeration.specs.Inner.Attempts.{Mark, Marked}
 
 -- variables in front of `held` are held at lows, and those behind it are free
-pub record Carried (v : List ℕ) (d : ℕ) (f : Pattern) (n : ℕ) (lows₀ marks₀ here₀ ps₀ lows marks here ps : List ℕ) (held : ℕ) : Type 0 where
+pub record Carried (v : List ℕ) (d : ℕ) (f : Pattern) (n : ℕ) (lows₀ marks₀ lows marks : List ℕ) (held : ℕ) : Type 0 where
   pub var : held < n
   pub lows-length : length lows ≡ length lows₀
   pub marks-length : length marks ≡ length marks₀
-  pub here-length : length here ≡ length here₀
-  pub ps-length : length ps ≡ length ps₀
   pub small : (x : ℕ) → x < held → get_or lows x 0 ≤ 65536
   pub free : (x : ℕ) → held < x → x < n → get_or lows x 0 ≡ 0
   pub same : matches_from (lists_of v) d f (take n lows) ≡ matches_from (lists_of v) d f (take n lows₀)
   pub marked : Marked v d f lows marks
 
-module _ (v : List ℕ) (up : (l : ℕ) → rises (list_of (lists_of v) l) ≡ true) (d : ℕ) (f : Pattern) (n : ℕ) (many : n ≡ length f.vars) (lows₀ marks₀ here₀ ps₀ : List ℕ)
+module _ (v : List ℕ) (up : (l : ℕ) → rises (list_of (lists_of v) l) ≡ true) (d : ℕ) (f : Pattern) (n : ℕ) (many : n ≡ length f.vars) (lows₀ marks₀ : List ℕ)
     (room : n ≤ length lows₀) (marks-room : n ≤ length marks₀) where
-  pub carried_first : (held : ℕ) → held + 1 ≡ n → ((x : ℕ) → x < n → get_or lows₀ x 0 ≤ 65536) → Marked v d f lows₀ marks₀ → Carried v d f n lows₀ marks₀ here₀ ps₀ lows₀ marks₀ here₀ ps₀ held
+  pub carried_first : (held : ℕ) → held + 1 ≡ n → ((x : ℕ) → x < n → get_or lows₀ x 0 ≤ 65536) → Marked v d f lows₀ marks₀ → Carried v d f n lows₀ marks₀ lows₀ marks₀ held
   carried_first held e small marked = record {
     var = omega arith;
     lows-length = refl;
     marks-length = refl;
-    here-length = refl;
-    ps-length = refl;
     small = λ x h. small x (omega arith);
     free = λ x h l. absurd (let z : ⊥ = omega arith in z);
     same = refl;
     marked = marked;
   }
 
-  module _ (lows marks here ps : List ℕ) (held : ℕ) (t : Carried v d f n lows₀ marks₀ here₀ ps₀ lows marks here ps held) (ps' : List ℕ) (r : Bool)
+  module _ (lows marks : List ℕ) (held : ℕ) (t : Carried v d f n lows₀ marks₀ lows marks held) (ps' : List ℕ) (r : Bool)
       (h : HeldMatch (lists_of v) d f (take n lows) held r (take n ps')) where
     size : length (take n lows) ≡ length f.vars
     size = length-take-le n lows (let a = t.lows-length in omega arith) ∙ many
@@ -136,14 +132,12 @@ module _ (v : List ℕ) (up : (l : ℕ) → rises (list_of (lists_of v) l) ≡ t
           unmoved : (y : ℕ) → y ≢ held → y ≢ held - 1 → get_or next y 0 ≡ get_or lows y 0
           unmoved y q g = get_or-set_other (set lows held 0) (held - 1) y (get_or (set lows held 0) (held - 1) 0 + 1) 0 g ∙ get_or-set_other lows held y 0 0 q
 
-      pub carried-next : (here' : List ℕ) → length here' ≡ length here₀ → length ps' ≡ length ps₀
-          → Carried v d f n lows₀ marks₀ here₀ ps₀ (set (set lows held 0) (held - 1) (get_or (set lows held 0) (held - 1) 0 + 1)) (set marks held (get_or firsts held 0)) here' ps' (held - 1)
-      carried-next here' a b = record {
+      pub carried-next :
+          Carried v d f n lows₀ marks₀ (set (set lows held 0) (held - 1) (get_or (set lows held 0) (held - 1) 0 + 1)) (set marks held (get_or firsts held 0)) (held - 1)
+      carried-next = record {
         var = let k = t.var in omega arith;
         lows-length = next-length ∙ t.lows-length;
         marks-length = length-set marks held (get_or firsts held 0) ∙ t.marks-length;
-        here-length = a;
-        ps-length = b;
         small = λ x l. rw (value x (omega arith)) (t.small x (omega arith));
         free = zero-behind;
         same =

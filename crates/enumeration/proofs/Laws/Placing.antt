@@ -19,7 +19,7 @@ use Rattle.volume.proofs.Laws.Check.{good}
 use Rattle.volume.proofs.Laws.Starts.{start-next}
 use Rattle.plan.specs.Patterns.{Pattern}
 use Rattle.matcher.specs.declared.cursor.Cursor.{Cursor}
-use Rattle.matcher.specs.Inner.Cursors.{Stretch, sought, list_end, list_cursor, AtDocument}
+use Rattle.matcher.specs.Inner.Cursors.{Stretch, sought, list_end, list_cursor, no_cursor, AtDocument}
 use Rattle.matcher.proofs.Laws.Volume.{list-stretch}
 use Rattle.matcher.proofs.Laws.Cursors.{seek_ge, seek-le, seek-below}
 use Rattle.matcher.specs.Inner.Tables.{cursor_on}
@@ -60,23 +60,21 @@ document-at v ok d h first c is e =
     }
 
 -- the first x variables of a pattern have their cursors
-pub record Placing (v : List ℕ) (f : Pattern) (d : ℕ) (firsts₀ ends₀ firsts ends : List ℕ) (x : ℕ) : Type 0 where
-  pub firsts-length : length firsts ≡ length firsts₀
-  pub ends-length : length ends ≡ length ends₀
-  pub placed : (y : ℕ) → y < x → record { at = get_or firsts y 0; end = get_or ends y 0 } ≡ cursor_on v (get_or f.vars y 0) d
+pub record Placing (v : List ℕ) (f : Pattern) (d : ℕ) (cursors₀ cursors : List Cursor) (x : ℕ) : Type 0 where
+  pub same-length : length cursors ≡ length cursors₀
+  pub placed : (y : ℕ) → y < x → get_or cursors y no_cursor ≡ cursor_on v (get_or f.vars y 0) d
 
-module _ (v : List ℕ) (f : Pattern) (d : ℕ) (firsts₀ ends₀ : List ℕ) where
-  pub placing-first : Placing v f d firsts₀ ends₀ firsts₀ ends₀ 0
-  placing-first = record { firsts-length = refl; ends-length = refl; placed = λ y h. absurd (let z : ⊥ = omega arith in z) }
+module _ (v : List ℕ) (f : Pattern) (d : ℕ) (cursors₀ : List Cursor) where
+  pub placing-first : Placing v f d cursors₀ cursors₀ 0
+  placing-first = record { same-length = refl; placed = λ y h. absurd (let z : ⊥ = omega arith in z) }
 
-  pub placing-next : (firsts ends : List ℕ) (x i e : ℕ) → Placing v f d firsts₀ ends₀ firsts ends x → x < length firsts₀ → x < length ends₀ → record { at = i; end = e } ≡ cursor_on v (get_or f.vars x 0) d
-      → Placing v f d firsts₀ ends₀ (set firsts x i) (set ends x e) (x + 1)
-  placing-next firsts ends x i e t a b p = record {
-    firsts-length = length-set firsts x i ∙ t.firsts-length;
-    ends-length = length-set ends x e ∙ t.ends-length;
+  pub placing-next : (cursors : List Cursor) (x : ℕ) (c : Cursor) → Placing v f d cursors₀ cursors x → x < length cursors₀ → c ≡ cursor_on v (get_or f.vars x 0) d
+      → Placing v f d cursors₀ (set cursors x c) (x + 1)
+  placing-next cursors x c t a p = record {
+    same-length = length-set cursors x c ∙ t.same-length;
     placed = λ y h.
         ⊎_elim
-        (λ (q : y ≡ x). rw (q, get_or-set_same firsts x i 0 (let n = t.firsts-length in omega arith), get_or-set_same ends x e 0 (let n = t.ends-length in omega arith)) p)
-        (λ (q : y ≢ x). rw (get_or-set_other firsts x y i 0 q, get_or-set_other ends x y e 0 q) (t.placed y (omega arith)))
+        (λ (q : y ≡ x). rw (q, get_or-set_same cursors x c no_cursor (let n = t.same-length in omega arith)) p)
+        (λ (q : y ≢ x). rw (get_or-set_other cursors x y c no_cursor q) (t.placed y (omega arith)))
         (decided (eqb_decides y x));
   }

@@ -103,11 +103,8 @@ mark-later : (v : List ℕ) (l d b c i : ℕ) → b ≤ c → Mark v l d b i →
 mark-later v l d b c i h m = record { from = m.from; to = m.to; behind = λ j a k. let r = m.behind j a k in omega arith }
 
 -- the first `count` matches are written, and those left are the matches from lows on
-pub record Writing (v : List ℕ) (d : ℕ) (f : Pattern) (n : ℕ) (from out₀ lows marks here ps out : List ℕ) (count : ℕ) : Type 0 where
+pub record Writing (v : List ℕ) (d : ℕ) (f : Pattern) (n : ℕ) (from out₀ lows marks out : List ℕ) (count : ℕ) : Type 0 where
   pub lows-length : length lows ≡ 8
-  pub marks-length : length marks ≡ 8
-  pub here-length : length here ≡ 8
-  pub ps-length : length ps ≡ 8
   pub small : (x : ℕ) → x < n → get_or lows x 0 ≤ 65536
   pub marked : Marked v d f lows marks
   pub left : matches_from (lists_of v) d f (take n lows) ≡ drop count (matches_from (lists_of v) d f from)
@@ -157,14 +154,10 @@ module _ (v p : List ℕ) (o : Outline) (doc : Document) (order firsts ends : Li
         omega arith;
   }
 
-  pub begins : (lows here ps : List ℕ) → length from ≡ n → n ≤ 8 → InDocument from → length firsts ≡ 8 → length here ≡ 8 → length ps ≡ 8
-      → lows ≡ from ++ drop n (replicate 8 0) → Writing v d f n from out₀ lows firsts here ps out₀ 0
+  pub begins : (lows : List ℕ) → length from ≡ n → n ≤ 8 → InDocument from → lows ≡ from ++ drop n (replicate 8 0) → Writing v d f n from out₀ lows firsts out₀ 0
   unfolding joined
-  begins lows here ps e m inside a b l is = record {
+  begins lows e m inside is = record {
     lows-length = ap length is ∙ put-length from (replicate 8 0) n e m;
-    marks-length = a;
-    here-length = b;
-    ps-length = l;
     small = λ x h.
         let k = ap (λ (xs : List ℕ). get_or xs x 0) is ∙ put-at from (replicate 8 0) n e m x h in
         let g = inside x (omega arith) in
@@ -176,15 +169,15 @@ module _ (v p : List ℕ) (o : Outline) (doc : Document) (order firsts ends : Li
     laid = ap (λ (i : ℕ). drop i out₀) (sym (zero-mul n));
   }
 
-  module _ (lows marks here ps out : List ℕ) (count : ℕ) (g : Writing v d f n from out₀ lows marks here ps out count) where
+  module _ (lows marks out : List ℕ) (count : ℕ) (g : Writing v d f n from out₀ lows marks out count) where
     words : length (joined (take count all)) ≡ count * n
     words = joined-even n (take count all) (every_take (λ (q : List ℕ). length q ≡ n) count all even) ∙ ap (λ (i : ℕ). i * n) (length-take-le count all g.within)
 
     pub room-count : count ≤ length out₀ / n
     room-count = (le-div_iff_mul-le some-vars).1 g.room
 
-    -- the next match is sought: positions ps', at which the cursors here' stand
-    module _ (here' ps' : List ℕ) (here-long : length here' ≡ 8) (long : length ps' ≡ 8) (e : first (matches_from (lists_of v) d f (take n lows)) ≡ some (take n ps')) where
+    -- the next match is sought: positions ps'
+    module _ (ps' : List ℕ) (long : length ps' ≡ 8) (e : first (matches_from (lists_of v) d f (take n lows)) ≡ some (take n ps')) where
       more : count < length all
       more = ⊎_elim (λ (h : count < length all). h) (λ (h : length all ≤ count). absurd (nothing h)) (below_or count (length all))
         where
@@ -210,13 +203,10 @@ module _ (v p : List ℕ) (o : Outline) (doc : Document) (order firsts ends : Li
           let a = get_or-take n ps' x 0 h in
           omega arith
 
-      pub wrote : n ≤ 8 → Standing v d f here' ps' → count < length out₀ / n → (ys lows'' lows' : List ℕ) → ys ≡ take n ps' → length lows'' ≡ length lows → Stepped ps' n lows'' lows'
-          → Writing v d f n from out₀ lows' here' here' ps' (put_mid (count * n) (count * n + n - count * n) out ys) (count + 1)
-      wrote few stands r ys lows'' lows' is kept s' = record {
+      pub wrote : n ≤ 8 → (here' : List ℕ) → Standing v d f here' ps' → count < length out₀ / n → (ys lows'' lows' : List ℕ) → ys ≡ take n ps' → length lows'' ≡ length lows → Stepped ps' n lows'' lows'
+          → Writing v d f n from out₀ lows' here' (put_mid (count * n) (count * n + n - count * n) out ys) (count + 1)
+      wrote few here' stands r ys lows'' lows' is kept s' = record {
         lows-length = lows-long;
-        marks-length = here-long;
-        here-length = here-long;
-        ps-length = long;
         small = λ x h.
             ⊎_elim
             (λ (k : x + 1 < n). let a = s'.front x k in let b = next_small x h in omega arith)

@@ -24,7 +24,7 @@ use Rattle.block.specs.Checksum.{sum_a, sum_b}
 use Rattle.volume.specs.Write.{volume_of, written, blocks_from, sealed, block_body, word_bytes}
 use Rattle.volume.specs.Demands.{sample_lists}
 use Rattle.volume.proofs.Demands as volume
-use Rattle.plan.specs.Answers.{Sizes}
+use Rattle.plan.specs.declared.answers.Sizes.{Sizes}
 use Rattle.plan.specs.Rows.{row_at, rows_of, misused, form_wrong}
 use Rattle.plan.specs.State.{after_all, state_at, step}
 use Rattle.plan.specs.Patterns.{patterns_from, answers_from, answer, vars_of}

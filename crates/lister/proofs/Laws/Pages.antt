@@ -1,11 +1,12 @@
 -- The laws of `specs/Inner/Pages.antt`. No contract cites this file.
 --     told-only, told-done, told_more     a turn's text is stored
+--     told-lent               the same bytes afterwards, behind the reference that was lent
 --     at_done, at_more        what DONE and MORE say of a page
 --     blank, sized            a page of zeros
 --     IsTurn, is-turn         a listing call's answer and its page, as a turn
 --     width_is                the words of a row, by what the plan's check gives
 --     list-refused, turn-long, turn-short     turns with no page; a turn over a volume that is not too long
---     told-last, told-next    the text that a turn's answer counts
+--     told-text               the text that a turn's answer counts
 --     came-next               the turn behind one is come to with the document and the sum that the answer gives
 -- Assumes nothing.
 use Prim.Native.Nat.{ℕ, ◌+◌, ◌*◌, ◌/◌, ◌<◌, ◌≤◌}
@@ -13,6 +14,7 @@ use native.Mathlib.Nat.{zero-add, zero-mul, add-mul, one-mul, mul-le-mul_left, l
 use native.Mathlib.Omega.{arith}
 use mathlib.Core.Path.{◌≡◌, refl, sym, ap, ap₂, ◌∙◌, subst}
 use mathlib.Core.List.{List, [], ◌∷◌, ◌++◌, append_assoc}
+use Rattle.std.proofs.Common.{Some}
 use lib.ListN.{length, take, drop, replicate, length-replicate}
 use lib.Seq.{take_at}
 use borrow.Author.Tests.{lt-ltb, le-ltb}
@@ -22,7 +24,7 @@ use Rattle.seq.specs.Refusals.{Said, refused, answered}
 use Rattle.seq.proofs.Laws.Numbers.{run_ext}
 use Rattle.seq.proofs.Laws.Stores.{drop_past}
 use Rattle.plan.specs.Limits.{row_words}
-use Rattle.plan.specs.Answers.{Sizes}
+use Rattle.plan.specs.declared.answers.Sizes.{Sizes}
 use Rattle.plan.specs.Check.{verdict, sizes}
 use Rattle.plan.proofs.Laws.Check.{verdict-sizes}
 use Rattle.fulltext.specs.Positions.{limit}
@@ -32,26 +34,30 @@ use Rattle.search.specs.Listing.{list_answer, list_out}
 use Rattle.search.specs.Search.{Kept}
 use Rattle.fulltext.proofs.Laws.Counts.{work-even, work-wide}
 use Rattle.search.proofs.Laws.Calls.{Later, All, more-later, done_all}
-use Rattle.lister.specs.declared.pages.Paged.{Paged}
-use Rattle.lister.specs.declared.pages.Paged.TheVariants.{Last, More}
+use Rattle.lister.specs.declared.pages.Start.{Start}
+use Rattle.lister.specs.declared.pages.Turn as pages
 use Rattle.lister.specs.Text.{line, scene_word, done_word, refused_word, too_long}
 use Rattle.lister.specs.Printed.{plan_words, doc_lines}
 use Rattle.lister.specs.Turns.{Turn, turn_of, only, up_to, turn_by, page_words, list_turn, turn_at, Came, and_turn}
 use Rattle.lister.specs.Inner.Stored.{put, Stored}
-use Rattle.lister.specs.Inner.Pages.{row_lines, page_turn, rows_in, paged_by, paged_of, text_room, Told, Adds, Ahead}
+use Rattle.lister.specs.Inner.Pages.{row_lines, page_turn, rows_in, last, onto, paged_by, paged_of, text_room, Told, Adds, Ahead}
 use Rattle.lister.proofs.Laws.Stored.{stored_more, stored-front}
 
 module _ {out out' : List ℕ} {end : ℕ} where
-  pub told-only : {text : List ℕ} (tally : ℕ) → Stored out 0 text out' end → Told (only text tally) out out' (Last end) × Adds tally (length out) (Last end)
-  told-only tally s = (record { answer = ap Last (stored-front s).0; laid = s.laid }, s.fits)
+  pub told-only : {text : List ℕ} (tally : ℕ) → Stored out 0 text out' end → Told (only text tally) out out' (last end) × Adds tally (length out) (last end)
+  told-only tally s = (record { answer = ap last (stored-front s).0; laid = s.laid }, (s.fits, tt))
 
   pub told_more : {lines : List ℕ} (tally k t : ℕ) → k ≤ 4294967295 → Stored out 0 lines out' end
-      → Told (turn_of lines (tally + k) (more t)) out out' (More end t (tally + k)) × Adds tally (length out) (More end t (tally + k))
-  told_more tally k t h s = (record { answer = ap (λ (n : ℕ). More n t (tally + k)) (stored-front s).0; laid = s.laid }, (s.fits, omega arith))
+      → Told (turn_of lines (tally + k) (more t)) out out' (onto end t (tally + k)) × Adds tally (length out) (onto end t (tally + k))
+  told_more tally k t h s = (record { answer = ap (λ (n : ℕ). onto n t (tally + k)) (stored-front s).0; laid = s.laid }, (s.fits, omega arith))
 
   pub told-done : {lines : List ℕ} (tally k : ℕ) → Stored out 0 lines out' end → {out'' : List ℕ} {end' : ℕ} → Stored out' end (line done_word ((tally + k) ∷ [])) out'' end'
-      → Told (turn_of lines (tally + k) done) out out'' (Last end') × Adds tally (length out) (Last end')
-  told-done tally k s t = let all = stored_more s (line done_word ((tally + k) ∷ [])) t in (record { answer = ap Last (stored-front all).0; laid = all.laid }, all.fits)
+      → Told (turn_of lines (tally + k) done) out out'' (last end') × Adds tally (length out) (last end')
+  told-done tally k s t = let all = stored_more s (line done_word ((tally + k) ∷ [])) t in (record { answer = ap last (stored-front all).0; laid = all.laid }, (all.fits, tt))
+
+-- the same bytes afterwards
+pub told-lent : {t : Turn} {out out' out'' : List ℕ} {r : pages.Turn} → out'' ≡ out' → Told t out out' r → Told t out out'' r
+told-lent e told = record { answer = told.answer; laid = e ∙ told.laid }
 
 -- rows of one width, joined, are cut into rows again
 rows-lines : (w : Work) → ((d : ℕ) → length (w.row_of d) ≡ w.width) → (ds rest : List ℕ) → row_lines w.width (rows_of_docs w ds ++ rest) (length ds) ≡ doc_lines w ds
@@ -145,7 +151,7 @@ sized = length-replicate {A = ℕ} 16384 0
 pub record IsTurn (v p : List ℕ) (from tally width : ℕ) (back : List ℕ) (said : Said Page) : Type 0 where
   pub rows : rows_in said * width ≤ page_words
   pub text : rows_in said * (6 + 11 * width) + 30 ≤ text_room
-  pub told : {out out' : List ℕ} {r : Paged} → tally ≤ 4294967296 * from → Told (page_turn said width back tally) out out' r × Adds tally (length out) r
+  pub told : {out out' : List ℕ} {r : pages.Turn} → tally ≤ 4294967296 * from → Told (page_turn said width back tally) out out' r × Adds tally (length out) r
       → Told (list_turn v p from tally) out out' r × Ahead from (length out) r
 
 -- so of a call that keeps the listing call's promise
@@ -170,9 +176,9 @@ module _ (v p : List ℕ) (from tally width : ℕ) (back : List ℕ) (said : Sai
         (rw turn-listed at t.0, rw answer (turn-ahead v p from blank said (sym kept.0) tally (length out) h (rw answer at t.1)));
   }
 
-pub width_is : (v p : List ℕ) (patterns vars : ℕ) → verdict v p ≡ answered (record { patterns = patterns; vars = vars }) → row_words patterns vars ≡ (work v p).width
+pub width_is : (v p : List ℕ) (s : Sizes) → verdict v p ≡ answered s → row_words s.patterns s.vars ≡ (work v p).width
 unfolding work work_of sizes
-width_is v p patterns vars e = ap (λ (s : Sizes). row_words s.patterns s.vars) (verdict-sizes v p (record { patterns = patterns; vars = vars }) e)
+width_is v p s e = ap (λ (s : Sizes). row_words s.patterns s.vars) (verdict-sizes v p s e)
 
 -- the turns that have no page
 pub list-refused : (v p : List ℕ) (from tally n q : ℕ) → verdict v p ≡ refused n q → list_turn v p from tally ≡ only (line refused_word (n ∷ q ∷ [])) tally
@@ -193,29 +199,26 @@ unfolding put
 front-is out xs = take_at xs (drop (0 + length xs) out) (length xs) refl
 
 -- what a turn's answer says of its text and of the next turn
-paged-last : (n k tally : ℕ) (next : Next) → Last n ≡ paged_by k tally next → n ≡ k
-paged-last n k tally done e = cc
-paged-last n k tally (more t) e = absurd (let z : ◌≡◌ {A = ℕ} 0 1 = cc in let y : ⊥ = omega arith in y)
+paged-bytes : (k tally : ℕ) (next : Next) → (paged_by k tally next).bytes ≡ k
+paged-bytes k tally done = refl
+paged-bytes k tally (more t) = refl
 
-paged-more : (n t sum k tally : ℕ) (next : Next) → More n t sum ≡ paged_by k tally next → (n ≡ k) × ((next ≡ more t) × (tally ≡ sum))
-paged-more n t sum k tally done e = absurd (let z : ◌≡◌ {A = ℕ} 0 1 = cc in let y : ⊥ = omega arith in y)
-paged-more n t sum k tally (more u) e = (cc, (let q : u ≡ t = cc in ap more q, cc))
+paged-next : (k tally : ℕ) (next : Next) (s : Start) → Some s ≡ (paged_by k tally next).next → (next ≡ more s.doc) × (tally ≡ s.tally)
+paged-next k tally done s e = absurd (let z : ◌≡◌ {A = ℕ} 0 1 = cc in let y : ⊥ = omega arith in y)
+paged-next k tally (more t) s e =
+    let q : s ≡ record { doc = t; tally = tally } = cc in
+    (ap (λ (x : Start). more x.doc) (sym q), ap (λ (x : Start). x.tally) (sym q))
 
-module _ {turn : Turn} {out out' : List ℕ} {r : Paged} (told : Told turn out out' r) where
+module _ {turn : Turn} {out out' : List ℕ} {r : pages.Turn} (told : Told turn out out' r) where
   -- the first bytes of the buffer, as many as the answer says, are the turn's text
-  text-is : (n : ℕ) → n ≡ length turn.text → take n out' ≡ turn.text
-  text-is n e = rw (e, told.laid) (front-is out turn.text)
+  pub told-text : take r.bytes out' ≡ turn.text
+  told-text = rw (ap (λ (x : pages.Turn). x.bytes) told.answer ∙ paged-bytes (length turn.text) turn.tally turn.next, told.laid) (front-is out turn.text)
 
-  pub told-last : (n : ℕ) → r ≡ Last n → take n out' ≡ turn.text
-  told-last n e = text-is n (paged-last n (length turn.text) turn.tally turn.next (sym e ∙ told.answer))
+  told-next : (s : Start) → r.next ≡ Some s → (turn.next ≡ more s.doc) × (turn.tally ≡ s.tally)
+  told-next s e = paged-next (length turn.text) turn.tally turn.next s (sym e ∙ ap (λ (x : pages.Turn). x.next) told.answer)
 
-  pub told-next : (n t sum : ℕ) → r ≡ More n t sum → (take n out' ≡ turn.text) × ((turn.next ≡ more t) × (turn.tally ≡ sum))
-  told-next n t sum e =
-      let q = paged-more n t sum (length turn.text) turn.tally turn.next (sym e ∙ told.answer) in
-      (text-is n q.0, q.1)
-
-pub came-next : (v b texts : List ℕ) (from tally : ℕ) {out out' : List ℕ} {r : Paged} → Came v b texts from tally → Told (turn_at v b from tally) out out' r
-    → (n t sum : ℕ) → r ≡ More n t sum → Came v b (texts ++ (turn_at v b from tally).text) t sum
-came-next v b texts from tally c told n t sum e =
-    let q = told-next told n t sum e in
-    subst (λ (k : ℕ). Came v b (texts ++ (turn_at v b from tally).text) t k) q.1.1 (and_turn texts from tally t c q.1.0)
+pub came-next : (v b texts : List ℕ) (from tally : ℕ) {out out' : List ℕ} {r : pages.Turn} → Came v b texts from tally → Told (turn_at v b from tally) out out' r
+    → (s : Start) → r.next ≡ Some s → Came v b (texts ++ (turn_at v b from tally).text) s.doc s.tally
+came-next v b texts from tally c told s e =
+    let q = told-next told s e in
+    subst (λ (k : ℕ). Came v b (texts ++ (turn_at v b from tally).text) s.doc k) q.1 (and_turn texts from tally s.doc c q.0)

@@ -17,7 +17,7 @@ use Rattle.seq.specs.Lists.{joined}
 use Rattle.seq.specs.Refusals.{Said, refused, answered}
 use Rattle.seq.proofs.Laws.Tests.{below_or}
 use Rattle.seq.proofs.Laws.Lists.{joined_append}
-use Rattle.plan.specs.Answers.{Sizes}
+use Rattle.plan.specs.declared.answers.Sizes.{Sizes}
 use Rattle.plan.specs.Check.{verdict, sizes, Accepted}
 use Rattle.plan.proofs.Laws.Check.{verdict-sizes}
 use Rattle.plan.proofs.Laws.Accepted.{given}
@@ -72,7 +72,7 @@ turn-answered v b from tally page h e =
 page-answered : (v p : List ℕ) → Accepted v p → (from : ℕ) → from < limit → (page : Page) × (list_answer v p from (length blank) ≡ answered page)
 page-answered v p ok from h =
     let few = (given v p ok).width in
-    let wide = width_is v p (sizes p).patterns (sizes p).vars ok in
+    let wide = width_is v p (sizes p) ok in
     let size = sized in
     (page_of (work v p) from (length blank / (work v p).width), (accepted-answer v p from blank (sizes p) ok (omega arith) (omega arith)).0)
 

@@ -8,8 +8,10 @@ use lib.ListN.{length}
 use Rattle.lister.specs.Turns.{Came}
 use Rattle.lister.proofs.print.Given as goal
 
-abbrev pub invariant-loop-n : goal.invariant-loop-n
-invariant-loop-n o l = (l.from < 65536) × (l.tally ≤ 4294967296 * l.from) × (length l.text ≡ 278558) × ((texts : List ℕ) × Came l.volume l.file texts l.from l.tally)
+abbrev pub invariant-loop-next : goal.invariant-loop-next
+invariant-loop-next o l =
+    let s = l.start in
+    (s.doc < 65536) × (s.tally ≤ 4294967296 * s.doc) × (length l.text ≡ 278558) × ((texts : List ℕ) × Came l.volume l.file texts s.doc s.tally)
 
-abbrev pub decreases-loop-n : goal.decreases-loop-n
-decreases-loop-n o l = 65536 - l.from
+abbrev pub decreases-loop-next : goal.decreases-loop-next
+decreases-loop-next o l = 65536 - l.start.doc

@@ -6,11 +6,12 @@
 --     max-small                    the later of two positions is one
 --     largest-first, largest-next  the largest of the first positions
 --     window-short, window-few, window-kept     what it tells, where the variables are looked at in an order
---     distance-asked, ordered-asked, samepara-asked, window-asked, proximity-asked     what `falls_short` hands on
+--     named                        the variables that a predicate names
+--     largest-tuple, largest-front the largest of the first n positions
 -- Assumes nothing.
 use Prim.Native.Nat.{ℕ, ◌+◌, ◌-◌, ◌<◌, ◌≤◌, min, max}
 use native.Mathlib.Omega.{arith}
-use mathlib.Core.Path.{◌≡◌, refl, subst, ◌∙◌}
+use mathlib.Core.Path.{◌≡◌, refl, sym, subst, ◌∙◌}
 use mathlib.Core.Bool.{true, ◌&&◌}
 use mathlib.Core.Logic.{⊎_elim}
 use mathlib.Core.List.{List}
@@ -19,13 +20,9 @@ use lib.Dec.{ltb}
 use lib.Seq.{get_or-take, length-take-le}
 use borrow.Author.Tests.{ltb-true}
 use Rattle.seq.proofs.Laws.Tests.{both, below_or}
-use Rattle.volume.specs.Check.{Accepted}
 use Rattle.plan.specs.declared.row.Predicate.{Predicate}
 use Rattle.plan.specs.declared.row.Predicate.TheVariants.{Distance, Ordered, Samepara, Window, Proximity}
-use Rattle.plan.specs.declared.row.Kind.TheVariants as kind
 use Rattle.plan.specs.Limits.{no_upper_end}
-use Rattle.plan.specs.Rows.{InRange}
-use Rattle.plan.specs.State.{names_below}
 use Rattle.fulltext.specs.Positions.{limit}
 use Rattle.fulltext.specs.Calculus.{at, In}
 use Rattle.fulltext.specs.Matches.{holds}
@@ -33,8 +30,6 @@ use Rattle.fulltext.specs.Inner.Bounds.{Needs}
 use Rattle.fulltext.specs.Inner.Paragraphs.{needed_start}
 use Rattle.matcher.specs.Inner.Shortfall.{InDocument, Largest, LeftShort}
 use Rattle.matcher.specs.Inner.Order.{Order}
-use Rattle.matcher.specs.declared.cursor.Document.{Document}
-use Rattle.matcher.specs.Inner.Cursors.{AtDocument}
 use Rattle.fulltext.proofs.Laws.Needs.{distance-needs-first, distance-needs-second, ordered-needs, samepara-holds, samepara-turned, samepara-needs, samepara-needs-start, window-holds, window-needs, proximity-needs-first, proximity-needs-second, proximity-never}
 use Rattle.matcher.proofs.Laws.Paragraphs.{Needed, needed-told}
 
@@ -136,59 +131,25 @@ module _ (ss ps : List ℕ) (small : InDocument ps) (order : List ℕ) (o : Orde
       reached : (z : ℕ) → z < length ps → largest - (c - 1) ≤ at ps z
       reached z h = let w = o.covers z h in subst (λ (i : ℕ). largest - (c - 1) ≤ at ps i) w.1.1 (all w.0 w.1.0)
 
--- what `falls_short` requires of a predicate on the first n positions, and what it hands on
-abbrev Asked : List ℕ → Document → List ℕ → List ℕ → ℕ → ℕ → Predicate → Type 0
-Asked v doc order ps n largest p = Accepted v × (AtDocument v doc × ((1 ≤ n) × ((n ≤ length ps) × (((x : ℕ) → x < n → get_or ps x 0 ≤ 65535) × ((names_below n p ≡ true) × (InRange (kind.Condition p) × (Order n order × Largest ps n largest)))))))
+-- the variables of a predicate that names two of n
+pub named : (n a b : ℕ) → (ltb a n && ltb b n) ≡ true → (a < n) × (b < n)
+named n a b e = let w = both (ltb a n) (ltb b n) e in (ltb-true a n w.0, ltb-true b n w.1)
 
-module _ {v : List ℕ} {doc : Document} {order : List ℕ} {n largest : ℕ} (ps : List ℕ) (p : Predicate) (asked : Asked v doc order ps n largest p) where
-  room : n ≤ length ps
-  room = asked.1.1.1.0
-
+-- the largest of the first n positions is that of these alone
+module _ (ps : List ℕ) (n m : ℕ) (room : n ≤ length ps) where
   size : length (take n ps) ≡ n
   size = length-take-le n ps room
 
-  in-document : InDocument (take n ps)
-  in-document x h =
-      let e = size in
-      let q = get_or-take n ps x 0 (omega arith) in
-      let m = asked.1.1.1.1.0 x (omega arith) in
-      omega arith
-
-  named : (a b : ℕ) → (ltb a n && ltb b n) ≡ true → (a < length (take n ps)) × (b < length (take n ps))
-  named a b e =
-      let w = both (ltb a n) (ltb b n) e in
-      let h = ltb-true a n w.0 in
-      let k = ltb-true b n w.1 in
-      let q = size in
-      (omega arith, omega arith)
-
-  names : (q : Predicate) → p ≡ q → names_below n q ≡ true
-  names q e = rw e at asked.1.1.1.1.1.0
-
-  range : (q : Predicate) → p ≡ q → InRange (kind.Condition q)
-  range q e = rw e at asked.1.1.1.1.1.1.0
-
-  pub distance-asked : {a b c : ℕ} → p ≡ Distance a b c → InDocument (take n ps) × ((a < length (take n ps)) × ((b < length (take n ps)) × (c ≤ 65535)))
-  distance-asked {a} {b} {c} e = let w = named a b (names (Distance a b c) e) in (in-document, (w.0, (w.1, range (Distance a b c) e)))
-
-  pub ordered-asked : {a b : ℕ} → p ≡ Ordered a b → InDocument (take n ps) × ((a < length (take n ps)) × (b < length (take n ps)))
-  ordered-asked {a} {b} e = let w = named a b (names (Ordered a b) e) in (in-document, (w.0, w.1))
-
-  pub samepara-asked : {a b : ℕ} → p ≡ Samepara a b → Accepted v × (AtDocument v doc × (InDocument (take n ps) × ((a < length (take n ps)) × (b < length (take n ps)))))
-  samepara-asked {a} {b} e = let w = named a b (names (Samepara a b) e) in (asked.0, (asked.1.0, (in-document, (w.0, w.1))))
-
-  -- the largest of the first n positions, and an order of them
-  largest-asked : Largest (take n ps) (length (take n ps)) largest
-  largest-asked = rw size (record {
-    most = λ x h. let e = get_or-take n ps x 0 h in let m = g.most x h in omega arith;
+  pub largest-tuple : Largest ps n m → Largest (take n ps) (length (take n ps)) m
+  largest-tuple g = rw size (record {
+    most = λ x h. let e = get_or-take n ps x 0 h in let l = g.most x h in omega arith;
     one = let w = g.one in (w.0, (w.1.0, get_or-take n ps w.0 0 w.1.0 ∙ w.1.1));
   })
-    where
-      g : Largest ps n largest
-      g = asked.1.1.1.1.1.1.1.1
 
-  pub window-asked : {c : ℕ} → p ≡ Window c → InDocument (take n ps) × (Order (length (take n ps)) order × (Largest (take n ps) (length (take n ps)) largest × ((1 ≤ c) × (c ≤ 65536))))
-  window-asked {c} e = (in-document, (rw size asked.1.1.1.1.1.1.1.0, (largest-asked, range (Window c) e)))
-
-  pub proximity-asked : {a b least most : ℕ} → p ≡ Proximity a b least most → InDocument (take n ps) × ((a < length (take n ps)) × (b < length (take n ps)))
-  proximity-asked {a} {b} {least} {most} e = let w = named a b (names (Proximity a b least most) e) in (in-document, (w.0, w.1))
+  pub largest-front : Largest (take n ps) (length (take n ps)) m → Largest ps n m
+  largest-front h =
+      let g : Largest (take n ps) n m = rw size at h in
+      record {
+        most = λ x l. let e = get_or-take n ps x 0 l in let k = g.most x l in omega arith;
+        one = let w = g.one in (w.0, (w.1.0, sym (get_or-take n ps w.0 0 w.1.0) ∙ w.1.1));
+      }

@@ -4,6 +4,7 @@
 --     tried-turn               the predicate that is tried is one of the pattern's
 --     tried-first              before the first predicate
 --     tried_asks               what is asked of a predicate's row
+--     Asks, predicate_asks     what is asked of it on the positions
 --     tried-holds              a predicate holds
 --     tried-held               a variable that must stay is left short
 --     tried-jump, tried-out    a variable that is left short jumps; it finds no position
@@ -45,11 +46,12 @@ use Rattle.fulltext.specs.Matches.{holds, starts_in}
 use Rattle.fulltext.specs.Inner.Bounds.{least_from, HeldMatch}
 use Rattle.fulltext.proofs.Laws.Positions.{lists-rise}
 use Rattle.fulltext.proofs.Laws.Least.{unfound_from_iff}
-use Rattle.matcher.specs.Inner.Shortfall.{Largest, LeftShort}
+use Rattle.matcher.specs.Inner.Shortfall.{InDocument, Largest, LeftShort}
 use Rattle.matcher.specs.Inner.Cursors.{seek_from, Stretch, Arrived, list_end, AtDocument}
 use Rattle.matcher.specs.Inner.Settling.{Jumped, Standing, Within, turned, Low, Posed}
 use Rattle.matcher.specs.Inner.Order.{Order}
 use Rattle.matcher.proofs.Laws.Cursors.{arrived-some, arrived-none}
+use Rattle.matcher.proofs.Laws.Shortfall.{largest-tuple}
 use Rattle.matcher.proofs.Laws.Settling.{low_first, low-done, low-var, low-before, low_needed, low-stretch, low_end, low-out, low-later, low_jump}
 
 -- how far positions are from the end of a document, added up
@@ -153,6 +155,16 @@ pub record Tried (v p : List ℕ) (o : Outline) (d held : ℕ) (here₀ ps₀ he
 pub tried-turn : {v p : List ℕ} {o : Outline} {d held : ℕ} {here₀ ps₀ here ps : List ℕ} {largest turn left : ℕ} → Tried v p o d held here₀ ps₀ here ps largest turn left → 1 ≤ left → turn < o.last - o.condition
 tried-turn m h = let l = m.most in m.next (omega arith)
 
+-- what is asked of a predicate on the positions of a pattern
+pub record Asks (v : List ℕ) (doc : Document) (vars ps : List ℕ) (most : ℕ) (c : Predicate) : Type 0 where
+  pub accepted : volume.Accepted v
+  pub at_document : AtDocument v doc
+  pub in_document : InDocument ps
+  pub names : names_below (length ps) c ≡ true
+  pub range : InRange (kind.Condition c)
+  pub order : Order (length ps) vars
+  pub largest : Largest ps (length ps) most
+
 module _ (v p : List ℕ) (o : Outline) (doc : Document) (ends : List ℕ) (q : Posed v p o doc ends) where
   abbrev k : ℕ
   k = o.pattern
@@ -235,10 +247,27 @@ module _ (v p : List ℕ) (o : Outline) (doc : Document) (ends : List ℕ) (q : 
 
       module _ (held : ℕ) (here₀ ps₀ here ps : List ℕ) (largest left : ℕ) (m : Tried v p o doc.doc held here₀ ps₀ here ps largest turn left) where
         -- what is asked of its predicate
-        pub predicate_asks : n ≤ length ps₀ → (order : List ℕ) → Order n order
-            → volume.Accepted v × (AtDocument v doc × ((1 ≤ n) × ((n ≤ length ps) × (((x : ℕ) → x < n → get_or ps x 0 ≤ 65535) × ((names_below n c ≡ true) × (InRange (kind.Condition c) × (Order n order × Largest ps n largest)))))))
-        predicate_asks room order ordered =
-            (ok, (q.document, (some-vars, (let w = m.ps-within.same_length in omega arith, (λ x s. (m.low.standing x (let e = many in omega arith)).small, (predicate-names, (predicate-range, (ordered, m.greatest))))))))
+        module _ (room : n ≤ length ps₀) where
+          ps-there : n ≤ length ps
+          ps-there = let w = m.ps-within.same_length in omega arith
+
+          tuple-size : length (take n ps) ≡ n
+          tuple-size = length-take-le n ps ps-there
+
+          pub predicate_asks : (order : List ℕ) → Order n order → Asks v doc order (take n ps) largest c
+          predicate_asks order ordered = record {
+            accepted = ok;
+            at_document = q.document;
+            in_document = λ x s.
+                let e = tuple-size in
+                let t = get_or-take n ps x 0 (omega arith) in
+                let l = (m.low.standing x (let k = many in omega arith)).small in
+                omega arith;
+            names = rw tuple-size predicate-names;
+            range = predicate-range;
+            order = rw tuple-size ordered;
+            largest = largest-tuple ps n largest ps-there m.greatest;
+          }
 
         pub tried-holds : 1 ≤ left → holds (starts_in (lists_of v) d) c (take n ps) ≡ true → Tried v p o doc.doc held here₀ ps₀ here ps largest (turned turn count) (left - 1)
         tried-holds more t = record {

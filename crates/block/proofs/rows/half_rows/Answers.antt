@@ -1,5 +1,5 @@
 use native.Mathlib.Omega.{arith}
-use mathlib.Core.Path.{◌≡◌}
+use mathlib.Core.Path.{◌≡◌, refl}
 use Rattle.block.proofs.Laws.Sums.{at_most-zeros, eights-first, eights_again, eights-near, eights-room-far, eights-room-all}
 use Rattle.block.proofs.rows.half_rows.Goals as goal
 
@@ -7,12 +7,11 @@ pub rows_at-seven-requires : goal.rows_at-seven-requires
 rows_at-seven-requires c = record {
   n_bound = omega arith;
   n_in_bounds = omega arith;
-  at_most = rw c.zeros.ensures at_most-zeros;
+  at_most = at_most-zeros;
 }
 
 pub loop-i-init : goal.loop-i-init
-loop-i-init c =
-    eights-first c.zeros-far.ensures (rw c.zeros.ensures at c.rows_at-seven.ensures)
+loop-i-init c = eights-first refl c.rows_at-seven.ensures
 
 pub plus-far-requires : goal.plus-far-requires
 plus-far-requires c = eights-room-far c.loop-i.invariant (omega arith)

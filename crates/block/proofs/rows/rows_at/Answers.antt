@@ -4,7 +4,7 @@ use Rattle.block.proofs.Laws.Sums.{rows-first, rows_again, rows-room-more, rows-
 use Rattle.block.proofs.rows.rows_at.Goals as goal
 
 pub loop-j-init : goal.loop-j-init
-loop-j-init c = rw c.zeros-more.ensures rows-first
+loop-j-init c = rows-first
 
 pub plus-near-requires : goal.plus-near-requires
 plus-near-requires c = rows-room-near c.loop-j.invariant (omega arith) c.requires.at_most

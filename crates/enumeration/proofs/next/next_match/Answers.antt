@@ -1,58 +1,76 @@
+use Prim.Native.Nat.{◌≤◌}
 use native.Mathlib.Omega.{arith}
-use mathlib.Core.Path.{◌≡◌, refl, ◌∙◌}
+use mathlib.Core.Path.{◌≡◌, sym, ◌∙◌}
 use lib.ListN.{length}
-use Rattle.enumeration.proofs.Laws.Attempts.{posed-vars, posed-some, posed-rise}
+use borrow.Author.Rules.{rules}
+use Rattle.matcher.specs.Inner.Cursors.{ats_of}
+use Rattle.matcher.proofs.Laws.Cursors.{length-ats, ats-at, ats-set}
+use Rattle.enumeration.proofs.Laws.Attempts.{posed-vars, posed-some, posed-few, posed-rise, set-ends}
 use Rattle.enumeration.proofs.Laws.Carries.{carried_first, carried_hit, carried-out, carried-next}
 use Rattle.enumeration.proofs.next.next_match.Goals as goal
-use Rattle.enumeration.proofs.next.next_match.Goals.{After-match_held}
+use Rattle.enumeration.proofs.next.next_match.Goals.{Start}
 
-pub overflow_sub-held : goal.overflow_sub-held
-overflow_sub-held c =
-    let p = c.requires in
-    let s = posed-some _ _ _ _ _ p.sought.posed in
+-- there is room for the variables
+lows-room : (s : Start) → s.args.pattern.now.outline.vars ≤ length s.args.walk.now.lows
+lows-room s =
+    let f = posed-few _ _ _ _ _ s.requires.sought.posed in
+    let e : length s.args.walk.now.lows ≡ 8 = search rules in
     omega arith
 
-pub loop-outline-init : goal.loop-outline-init
-loop-outline-init c =
+marks-room : (s : Start) → s.args.pattern.now.outline.vars ≤ length (ats_of s.args.walk.now.marks)
+marks-room s =
+    let f = posed-few _ _ _ _ _ s.requires.sought.posed in
+    let e : length s.args.walk.now.marks ≡ 8 = search rules in
+    let l = length-ats s.args.walk.now.marks in
+    omega arith
+
+pub overflow_sub-held : goal.overflow_sub-held
+overflow_sub-held c = let s = posed-some _ _ _ _ _ c.requires.sought.posed in omega arith
+
+pub loop-held-init : goal.loop-held-init
+loop-held-init c =
     let p = c.requires in
     let q = p.sought.posed in
-    let s = posed-some _ _ _ _ _ q in (
-      carried_first _ (posed-rise _ _ _ _ _ q) _ _ _ (posed-vars _ _ _ _ _ q) _ _ _ _ p.vars_in_bounds p.vars_in_bounds_2 _ (omega arith) p.by_index p.marked,
-      refl,
-    )
+    let n = posed-some _ _ _ _ _ q in
+    let s = (goal.at.loop-held-init c).Start in
+    record {
+      carried = carried_first _ (posed-rise _ _ _ _ _ q) _ _ _ (posed-vars _ _ _ _ _ q) _ _ (lows-room s) (marks-room s) _ (omega arith) p.by_index p.walking.marked;
+      marks_end = p.walking.marks_end;
+      here_end = p.walking.here_end;
+      positions_length = search rules;
+    }
 
--- the buffers keep their lengths over an attempt
-here-kept : (m : After-match_held)
-    → length m.match_held.new.here ≡ length m.args.here.now
-here-kept m = m.match_held.ensures.here_len_unchanged ∙ m.loop-outline.invariant.0.here-length
+pub returns-then-held-eq0-clause-next_value : goal.returns-then-held-eq0-clause-next_value
+returns-then-held-eq0-clause-next_value c =
+    let l = c.loop-held in
+    let q = c.requires.sought.posed in
+    let s = (goal.at.returns-then-held-eq0-clause-next_value c).Start in
+    carried-out _ (posed-rise _ _ _ _ _ q) _ _ _ (posed-vars _ _ _ _ _ q) _ _ (lows-room s) (marks-room s) l.walk.lows (ats_of l.walk.marks) l.held l.invariant.carried _ c.match_held.result
+    c.match_held.ensures.held_match c.loop-held-test.true (omega arith)
 
-positions-kept : (m : After-match_held)
-    → length m.match_held.new.positions ≡ length m.args.positions.now
-positions-kept m = m.match_held.ensures.positions_len_unchanged ∙ m.loop-outline.invariant.0.ps-length
-
-pub returns-then-held-eq0-clause-lows_value : goal.returns-then-held-eq0-clause-lows_value
-returns-then-held-eq0-clause-lows_value c =
-    let l = c.loop-outline in
+pub loop-held-preserved : goal.loop-held-preserved
+loop-held-preserved c =
+    let l = c.loop-held in
     let p = c.requires in
     let q = p.sought.posed in
-    carried-out _ (posed-rise _ _ _ _ _ q) _ _ _ (posed-vars _ _ _ _ _ q) _ _ _ _ p.vars_in_bounds p.vars_in_bounds_2 l.lows l.marks l.here l.positions l.held l.invariant.0 _ c.match_held.result
-    c.match_held.ensures.held_match c.loop-outline-test.true (omega arith)
+    let s = (goal.at.loop-held-preserved c).Start in
+    let firsts = c.args.pattern.now.firsts in
+    let e = c.match_held.ensures in
+    record {
+      carried =
+          rw (e.lows_unchanged, e.marks_unchanged, ats-set)
+          (rw (ats-at firsts l.held) at
+          (carried-next _ (posed-rise _ _ _ _ _ q) _ _ _ (posed-vars _ _ _ _ _ q) _ _ (lows-room s) (marks-room s) l.walk.lows (ats_of l.walk.marks) l.held l.invariant.carried _ c.match_held.result
+          e.held_match (ats_of firsts) (p.sought.firsts_are l.held l.invariant.carried.var) c.loop-held-test.true (λ z. omega arith)));
+      marks_end = rw e.marks_unchanged (set-ends l.walk.marks firsts l.held (sym l.invariant.marks_end) ∙ l.invariant.marks_end);
+      here_end = e.ends_unchanged ∙ l.invariant.here_end;
+      positions_length = e.positions_len_unchanged ∙ l.invariant.positions_length;
+    }
 
-pub loop-outline-preserved : goal.loop-outline-preserved
-loop-outline-preserved c =
-    let l = c.loop-outline in
-    let p = c.requires in
-    let a = c.args in
-    let q = p.sought.posed in (
-      carried-next _ (posed-rise _ _ _ _ _ q) _ _ _ (posed-vars _ _ _ _ _ q) _ _ _ _ p.vars_in_bounds p.vars_in_bounds_2 l.lows l.marks l.here l.positions l.held l.invariant.0 _ c.match_held.result
-          c.match_held.ensures.held_match a.firsts.now (p.sought.firsts_are l.held l.invariant.0.var) (c.loop-outline-test.true) (λ e. omega arith) _ (here-kept (goal.at.loop-outline-preserved c).After-match_held) (positions-kept (goal.at.loop-outline-preserved c).After-match_held),
-      c.match_held.ensures.paras_len_unchanged ∙ l.invariant.1,
-    )
-
-pub returns-clause-lows_value : goal.returns-clause-lows_value
-returns-clause-lows_value c =
-    let l = c.loop-outline in
-    let p = c.requires in
-    let q = p.sought.posed in
-    carried_hit _ (posed-rise _ _ _ _ _ q) _ _ _ (posed-vars _ _ _ _ _ q) _ _ _ _ p.vars_in_bounds p.vars_in_bounds_2 l.lows l.marks l.here l.positions l.held l.invariant.0 _ c.match_held.result
-    c.match_held.ensures.held_match c.loop-outline-test.false
+pub returns-clause-next_value : goal.returns-clause-next_value
+returns-clause-next_value c =
+    let l = c.loop-held in
+    let q = c.requires.sought.posed in
+    let s = (goal.at.returns-clause-next_value c).Start in
+    carried_hit _ (posed-rise _ _ _ _ _ q) _ _ _ (posed-vars _ _ _ _ _ q) _ _ (lows-room s) (marks-room s) l.walk.lows (ats_of l.walk.marks) l.held l.invariant.carried _ c.match_held.result
+    c.match_held.ensures.held_match c.loop-held-test.false

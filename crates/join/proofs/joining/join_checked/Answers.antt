@@ -8,6 +8,7 @@ use Rattle.std.specs.Int.{div_ceil}
 use Rattle.volume.specs.Layout.{list_count, posting_count, blocks_for}
 use Rattle.volume.specs.Check.{Accepted}
 use Rattle.volume.proofs.Laws.Check.{good}
+use Rattle.volume.proofs.Laws.Stream.{word_lt}
 use Rattle.join.specs.Refusals.{extent_of_both}
 use Rattle.join.specs.Inner.Docs.{clash}
 use Rattle.join.specs.declared.docs.DocRange.{DocRange}
@@ -91,24 +92,30 @@ returns-then-out-n c =
     let w = refuses-short _ _ _ _ g.first g.second g.same test (rw e at c.if-words-gt-MAX_WORDS.false) (rw (n, e) at c.if-out-n.true) in
     record { result_value = w.0; out_after = w.1 }
 
-pub put_joined-requires : goal.put_joined-requires
-put_joined-requires c =
-    let g = given (goal.at.put_joined-requires c).Start in
-    let e = words_are (goal.at.put_joined-requires c).After-extent_of-words in
+pub invariant_of-sources : goal.invariant_of-sources
+invariant_of-sources c =
+    let g = given (goal.at.invariant_of-sources c).Start in
+    let e = words_are (goal.at.invariant_of-sources c).After-extent_of-words in
     let x = c.extent_of.ensures in
     let y = c.extent_of-2.ensures in
     let z = g.same in
     let fits = rw e at c.if-words-gt-MAX_WORDS.false in
-    let clear = sym (clash-is (goal.at.put_joined-requires c).After-docs_clash) ∙ c.if-docs_clash.false in
-    let can = can-join _ _ _ c.args.out.now g.first g.second g.same clear fits in
-    let lift = can_lift _ _ _ c.args.out.now g.first g.second g.same clear fits _ c.lift_of.ensures in
+    let bytes = c.type_inv.first in
+    let clear = sym (clash-is (goal.at.invariant_of-sources c).After-docs_clash) ∙ c.if-docs_clash.false in
     record {
-      joinable = can;
-      lists_value = g.lists;
-      all_value = omega arith;
+      joinable = can-join _ _ _ c.args.out.now g.first g.second g.same clear fits;
+      lists_are = g.lists;
+      words = record { each = λ i k l. omega (arith, word_lt c.args.first.now i (λ j. omega (arith, bytes j))) };
+      lifts = can_lift _ _ _ c.args.out.now g.first g.second g.same clear fits _ c.lift_of.ensures;
+      all_is = omega arith;
+    }
+
+pub put_joined-requires : goal.put_joined-requires
+put_joined-requires c =
+    let e = words_are (goal.at.put_joined-requires c).After-extent_of-words in
+    record {
       n_value = blocks_are c.div_ceil-n.result c.extent_of-words.result c.div_ceil-n.ensures ∙ ap blocks_for e;
       n_in_bounds = c.if-out-n.false;
-      lifts = lift;
     }
 
 pub returns : goal.returns

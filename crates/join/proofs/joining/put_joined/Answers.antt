@@ -29,8 +29,8 @@ less n k h = omega arith
 
 pub front-merge-requires : goal.front-merge-requires
 front-merge-requires c =
-    let g = good c.args.first.now c.requires.joinable.first in
-    let e = c.requires.lists_value in
+    let g = good c.args.sources.now.first.now c.args.sources.now.joinable.first in
+    let e = c.args.sources.now.lists_are in
     omega arith
 
 pub loop-k-init : goal.loop-k-init
@@ -38,7 +38,7 @@ loop-k-init c =
     let a = c.args in
     let room = c.requires.n_in_bounds in (
       laying-first _ _ _ _ (omega arith) (omega arith),
-      stands-first a.lift a.first.now a.second.now c.requires.joinable _ a.lists c.front-merge.ensures c.requires.lists_value,
+      stands-first a.sources.now.lift a.sources.now.first.now a.sources.now.second.now c.args.sources.now.joinable _ a.sources.now.lists c.front-merge.ensures c.args.sources.now.lists_are,
       refl,
     )
 
@@ -48,15 +48,11 @@ slice_bounds-next_block-end c = sym c.loop-k.invariant.2
 pub next_block-merge-requires : goal.next_block-merge-requires
 next_block-merge-requires c =
     let n = c.requires.n_value in
-    let more = more-words (extent_of_both c.args.first.now c.args.second.now) c.args.n c.loop-k.k n c.loop-k-test.true in
+    let more = more-words (extent_of_both c.args.sources.now.first.now c.args.sources.now.second.now) c.args.n c.loop-k.k n c.loop-k-test.true in
     record {
-      joinable = c.requires.joinable;
-      lists_value = c.requires.lists_value;
-      all_value = c.requires.all_value;
       stands_before = c.loop-k.invariant.1;
       k_bound = more;
       words_len = c.loop-k.invariant.2;
-      lifts = c.requires.lifts;
     }
 
 -- a block has 126 words
@@ -68,7 +64,7 @@ slice_bounds-put_made-end c = sym (long (goal.at.slice_bounds-put_made-end c).Af
 
 pub put_made-requires : goal.put_made-requires
 put_made-requires c =
-    let most = most-blocks (extent_of_both c.args.first.now c.args.second.now) c.args.n c.requires.n_value c.requires.joinable.fits in
+    let most = most-blocks (extent_of_both c.args.sources.now.first.now c.args.sources.now.second.now) c.args.n c.requires.n_value c.args.sources.now.joinable.fits in
     let room = c.loop-k.invariant.0.room in
     let same = c.loop-k.invariant.0.same in
     let more = c.loop-k-test.true in
@@ -85,7 +81,7 @@ loop-k-smaller c =
 pub loop-k-preserved : goal.loop-k-preserved
 loop-k-preserved c =
     let a = c.args in
-    let f = joined_word a.lift a.first.now a.second.now in
+    let f = joined_word a.sources.now.lift a.sources.now.first.now a.sources.now.second.now in
     let next = c.next_block-merge.ensures in (
       laying_again f 0 a.n a.out.now c.loop-k.out _ c.loop-k.k c.loop-k.invariant.0 c.loop-k-test.true
           (c.put_made.ensures f next.words_after) (omega arith),

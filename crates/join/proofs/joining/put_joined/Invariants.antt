@@ -9,8 +9,8 @@ use Rattle.join.proofs.joining.put_joined.Given as goal
 
 abbrev pub invariant-loop-k : goal.invariant-loop-k
 invariant-loop-k l =
-    Laying (joined_word l.lift l.first l.second) 0 l.n l.initial.out l.out l.k
-    × StandsBefore l.first l.second l.merge l.k
+    Laying (joined_word l.sources.lift l.sources.first.now l.sources.second.now) 0 l.n l.initial.out l.out l.k
+    × StandsBefore l.sources.first.now l.sources.second.now l.merge l.k
     × (length l.words ≡ 126)
 
 abbrev pub decreases-loop-k : goal.decreases-loop-k

@@ -1,9 +1,7 @@
 -- `files::plan_words` meets its contract. The loop's invariant: the first i words are stored, and the rest of the buffer is as it was.
--- The measure is the number of words left. Assumes nothing.
-use Prim.Native.Nat.{ℕ, ◌-◌, ◌*◌, ◌≤◌}
-use mathlib.Core.Path.{◌≡◌}
+-- Assumes nothing.
+use Prim.Native.Nat.{ℕ, ◌*◌}
 use mathlib.Core.List.{List}
-use lib.ListN.{length}
 use Rattle.seq.specs.Numbers.{run}
 use Rattle.block.specs.Bytes.{le32}
 use Rattle.lister.specs.Inner.Stored.{Stored}
@@ -14,7 +12,4 @@ abbrev pub word_of : List ℕ → ℕ → ℕ
 word_of file i = le32 file (4 * i)
 
 abbrev pub invariant-loop-i : goal.invariant-loop-i
-invariant-loop-i l = (l.i ≤ l.n) × (length l.words ≡ length l.initial.words) × Stored l.initial.words 0 (run (word_of l.file) 0 l.i) l.words l.i
-
-abbrev pub decreases-loop-i : goal.decreases-loop-i
-decreases-loop-i l = l.n - l.i
+invariant-loop-i l = Stored l.initial.words 0 (run (word_of l.file) 0 l.i) l.words l.i

@@ -7,11 +7,11 @@ use Rattle.lister.proofs.pages.page_text.Goals.{After-list-listed}
 
 -- the call's answer and its page, as a turn
 turn : (c : After-list-listed)
-    → let a = c.args in IsTurn a.volume.now a.plan.now a.from a.tally a.width c.list-listed.new.out (said_listed c.list-listed.result)
+    → let a = c.args in IsTurn a.volume.now a.plan.now a.start.doc a.start.tally a.width c.list-listed.new.out (said_listed c.list-listed.result)
 unfolding blank
 turn c =
     let a = c.args in
-    is-turn a.volume.now a.plan.now a.from a.tally a.width c.list-listed.new.out (said_listed c.list-listed.result) c.requires.width_value c.list-listed.ensures
+    is-turn a.volume.now a.plan.now a.start.doc a.start.tally a.width c.list-listed.new.out (said_listed c.list-listed.result) c.requires.width_value c.list-listed.ensures
 
 pub answer_text-requires : goal.answer_text-requires
 answer_text-requires c =

@@ -3,38 +3,42 @@ use Prim.Native.Nat.{◌-◌, ◌<◌, max}
 use mathlib.Core.Bool.{Bool}
 use mathlib.Core.Path.{◌≡◌, refl, ap, subst, ◌∙◌}
 use lib.ListN.{length, get_or, take}
+use lib.Seq.{length-take-le}
 use Rattle.volume.specs.Layout.{lists_of}
 use Rattle.fulltext.specs.Matches.{starts_in}
 use Rattle.matcher.specs.Inner.Cursors.{ats_of, ends_of}
 use Rattle.matcher.specs.Inner.Settling.{Jumped}
 use Rattle.matcher.specs.Inner.Shortfall.{LeftShort, Told}
 use Rattle.matcher.proofs.Laws.Cursors.{length-ends, ats-room}
+use Rattle.matcher.proofs.Laws.Shortfall.{largest-front}
 use Rattle.matcher.proofs.Laws.Tried.{slack, Tried, some-vars, tried-turn, tried-first, tried-last, tried_asks, predicate_asks, tried-holds, jump-var, jump-stretch, tried-held, tried-out, tried-jump, tried-done}
 use Rattle.matcher.proofs.least.match_from.Goals as goal
-use Rattle.matcher.proofs.least.match_from.Goals.{After-falls_short-told, Else-not-jump, In-Some}
+use Rattle.matcher.proofs.least.match_from.Goals.{After-falls_short, Else-not-jump, In-Some}
 
 -- `paras` keeps its length
-kept : (c : After-falls_short-told) → length c.falls_short-told.new.paras ≡ length c.args.paras.now
-kept c = c.falls_short-told.ensures.paras_len_unchanged ∙ c.loop-left.invariant.paras
+kept : (c : After-falls_short) → length c.falls_short.new.paras ≡ length c.args.paras.now
+kept c = c.falls_short.ensures.paras_len_unchanged ∙ c.loop-left.invariant.paras
 
 -- the variable that is left short
 short : (c : In-Some)
     → let l = c.loop-left in let a = c.args in
     LeftShort (starts_in (lists_of a.volume.now) a.document.doc) c.predicate_at-predicate.result (take a.outline.vars l.positions) c.in-Some.short.var c.in-Some.short.need
-short c = subst (Told _ _ _) c.in-Some.is c.falls_short-told.ensures.told
+short c = subst (Told _ _ _) c.in-Some.is c.falls_short.ensures.told
 
 pub overflow_sub-count : goal.overflow_sub-count
 overflow_sub-count c = let e = c.requires.posed.outlines.last-is in omega arith
 
 pub largest_of-largest-requires : goal.largest_of-largest-requires
-largest_of-largest-requires c = let s = c.requires in record {
-  le_n = some-vars _ _ _ _ _ s.posed;
-  n_in_bounds = s.positions_in_bounds;
-}
+largest_of-largest-requires c =
+    let s = c.requires in
+    let n = some-vars _ _ _ _ _ s.posed in
+    let e = length-take-le c.args.outline.vars c.args.positions.now s.positions_in_bounds in
+    omega arith
 
 pub loop-left-init : goal.loop-left-init
 loop-left-init c = let s = c.requires in record {
-  tried = tried-first _ _ _ _ _ s.posed _ _ _ s.positions_in_bounds s.standing _ c.largest_of-largest.ensures;
+  tried = tried-first _ _ _ _ _ s.posed _ _ _ s.positions_in_bounds s.standing _
+      (largest-front c.args.positions.now c.args.outline.vars _ s.positions_in_bounds c.largest_of-largest.ensures);
   paras = refl;
   ends = refl;
 }
@@ -51,25 +55,25 @@ predicate_at-predicate-requires c =
     let w = tried_asks _ _ _ _ _ c.requires.posed l.turn (tried-turn l.invariant.tried c.loop-left-test.true) in
     record { row_bound = w.0; row_value = w.1.0; row_value_2 = w.1.1 }
 
-pub falls_short-told-requires : goal.falls_short-told-requires
-falls_short-told-requires c =
+pub falls_short-requires : goal.falls_short-requires
+falls_short-requires c =
     let l = c.loop-left in
     let s = c.requires in
     let e = l.invariant.paras in
-    let room = s.paras_in_bounds in
-    let w = predicate_asks _ _ _ _ _ s.posed l.turn (tried-turn l.invariant.tried c.loop-left-test.true) _ c.predicate_at-predicate.ensures _ _ _ _ _ _ _ l.invariant.tried s.positions_in_bounds _ s.order in
-    let v = w.1.1.1.1 in
+    let w = l.invariant.tried.ps-within.same_length in
+    let p = s.positions_in_bounds in
+    let q = s.paras_in_bounds in
+    let t = length-take-le c.args.outline.vars l.positions (omega arith) in
+    let a = predicate_asks _ _ _ _ _ s.posed l.turn (tried-turn l.invariant.tried c.loop-left-test.true) _ c.predicate_at-predicate.ensures _ _ _ _ _ _ _ l.invariant.tried s.positions_in_bounds _ s.order in
     record {
-      accepted = w.0;
-      at_document = w.1.0;
-      le_n = w.1.1.0;
-      n_in_bounds = w.1.1.1.0;
-      by_index = v.0;
-      predicate_value = v.1.0;
-      in_range = v.1.1.0;
-      order = v.1.1.1.0;
-      largest = v.1.1.1.1;
-      n_in_bounds_2 = omega arith;
+      accepted = a.accepted;
+      at_document = a.at_document;
+      in_document = a.in_document;
+      predicate_value = a.names;
+      in_range = a.range;
+      order = a.order;
+      largest = a.largest;
+      paras_in_bounds = omega arith;
     }
 
 pub next_turn-turn-requires : goal.next_turn-turn-requires
@@ -80,8 +84,8 @@ loop-left-preserved-in-None c =
     let l = c.loop-left in record {
       tried = rw c.next_turn-turn.ensures
           (tried-holds _ _ _ _ _ c.requires.posed l.turn (tried-turn l.invariant.tried c.loop-left-test.true) _ c.predicate_at-predicate.ensures _ _ _ _ _ _ _ l.invariant.tried c.loop-left-test.true
-          (subst (Told _ _ _) c.in-None.is c.falls_short-told.ensures.told));
-      paras = kept (goal.at.loop-left-preserved-in-None c).After-falls_short-told;
+          (subst (Told _ _ _) c.in-None.is c.falls_short.ensures.told));
+      paras = kept (goal.at.loop-left-preserved-in-None c).After-falls_short;
       ends = l.invariant.ends;
     }
 
@@ -94,7 +98,7 @@ returns-then-x-held c =
       within = l.invariant.tried.here-within;
       within_2 = l.invariant.tried.ps-within;
       ends_unchanged = l.invariant.ends;
-      paras_len_unchanged = kept (goal.at.returns-then-x-held c).After-falls_short-told;
+      paras_len_unchanged = kept (goal.at.returns-then-x-held c).After-falls_short;
     }
 
 pub jump-requires : goal.jump-requires
@@ -127,7 +131,7 @@ returns-then-not-jump c =
       within = rw j.1.0 l.invariant.tried.here-within;
       within_2 = rw j.1.1 l.invariant.tried.ps-within;
       ends_unchanged = c.jump.ensures.ends_unchanged ∙ l.invariant.ends;
-      paras_len_unchanged = kept (goal.at.returns-then-not-jump c).After-falls_short-told;
+      paras_len_unchanged = kept (goal.at.returns-then-not-jump c).After-falls_short;
     }
 
 -- behind a move
@@ -142,7 +146,7 @@ moved c =
     let a = c.args in
     let x = c.in-Some.short.var in
     let j = subst (λ (r : Bool). Jumped a.volume.now a.document.doc (get_or (ends_of a.cursors.now) x 0) c.in-Some.short.need x (ats_of l.cursors) l.positions r (ats_of c.jump.new.cursors) c.jump.new.positions) c.if-not-jump.false (rw l.invariant.ends at c.jump.ensures.jumped) in
-    tried-jump _ _ _ _ _ s.posed l.turn (tried-turn l.invariant.tried c.loop-left-test.true) _ c.predicate_at-predicate.ensures _ _ _ _ _ _ _ l.invariant.tried (ats-room c.args.cursors.now _ s.posed.room) s.positions_in_bounds _ _ (subst (Told _ _ _) c.in-Some.is c.falls_short-told.ensures.told) c.if-x-held.false _ _ j
+    tried-jump _ _ _ _ _ s.posed l.turn (tried-turn l.invariant.tried c.loop-left-test.true) _ c.predicate_at-predicate.ensures _ _ _ _ _ _ _ l.invariant.tried (ats-room c.args.cursors.now _ s.posed.room) s.positions_in_bounds _ _ (subst (Told _ _ _) c.in-Some.is c.falls_short.ensures.told) c.if-x-held.false _ _ j
 
 pub bounds-positions-x : goal.bounds-positions-x
 bounds-positions-x c =
@@ -163,7 +167,7 @@ loop-left-smaller c =
 pub loop-left-preserved : goal.loop-left-preserved
 loop-left-preserved c = record {
   tried = rw c.max-largest.ensures (moved (goal.at.loop-left-preserved c).Else-not-jump).0;
-  paras = kept (goal.at.loop-left-preserved c).After-falls_short-told;
+  paras = kept (goal.at.loop-left-preserved c).After-falls_short;
   ends = c.jump.ensures.ends_unchanged ∙ c.loop-left.invariant.ends;
 }
 

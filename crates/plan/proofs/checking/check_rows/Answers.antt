@@ -1,7 +1,6 @@
 use native.Mathlib.Omega.{arith}
 use Prim.Native.Nat.{ℕ, ◌-◌}
 use mathlib.Core.Path.{◌≡◌, sym, ap, ◌∙◌}
-use mathlib.Core.Logic.{inl, inr, ⊎_elim, ◌≢◌}
 use mathlib.Core.List.{List}
 use Rattle.std.specs.Prelude.{Ok, Err}
 use Rattle.seq.specs.Numbers.{first_from}
@@ -13,6 +12,7 @@ use Rattle.plan.specs.Limits.{most_rows}
 use Rattle.plan.specs.Rows.{row_count}
 use Rattle.plan.specs.State.{state_at, step}
 use Rattle.plan.specs.Check.{row_wrong, bad_row}
+use Rattle.plan.specs.Refusals.{Unfinished}
 use Rattle.plan.proofs.Laws.State.{state_at-first, state_at-next, state_at-most, most-le, step_right}
 use Rattle.plan.proofs.Laws.Check.{row-stands, row-faulty, rows_fault, rows-unfinished, rows-answer}
 use Rattle.plan.proofs.Laws.Given.{sizes_are}
@@ -69,8 +69,8 @@ loop-i-preserved c =
 pub returns-then-s-ne0 : goal.returns-then-s-ne0
 returns-then-s-ne0 c =
     let e = at-end (goal.at.returns-then-s-ne0 c).After-loop-i in
-    let s = state_at c.args.plan.now (row_count c.args.plan.now) in
-    sym (rows-unfinished _ _ e.1 (⊎_elim (λ (h : s.vars ≢ 0). inl h) (λ h. inr h.1) (rw e.0 at c.then-s-ne0.either)))
+    let h : Unfinished c.loop-i.s = grind arith in
+    sym (rows-unfinished _ _ e.1 (rw e.0 at h))
 
 pub returns : goal.returns
 returns c =

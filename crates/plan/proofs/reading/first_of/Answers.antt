@@ -17,16 +17,16 @@ pub returns-then-test : goal.returns-then-test
 unfolding first_of
 returns-then-test g c = λ sort same.
     let p = c.args.plan.now in
-    let held : c.test.result ≡ sort c.row_at.result.kind = same c.row_at.result.kind c.test.result c.test.ensures in
-    let e : sort (row_at p c.loop-i.i).kind ≡ true = rw (sym c.row_at.ensures, sym held) c.if-test.true in
+    let held : c.test.result ≡ sort (row_at p c.loop-i.i).kind = rw c.row_at.ensures at (same c.row_at.result.kind c.test.result c.test.ensures) in
+    let e : sort (row_at p c.loop-i.i).kind ≡ true = sym held ∙ c.if-test.true in
     sym (first_hit (λ j. sort (row_at p j).kind) c.loop-i.i (row_count p) c.loop-i-test.true e) ∙ c.loop-i.invariant sort same
 
 pub loop-i-preserved : goal.loop-i-preserved
 unfolding first_of
 loop-i-preserved g c = λ sort same.
     let p = c.args.plan.now in
-    let held : c.test.result ≡ sort c.row_at.result.kind = same c.row_at.result.kind c.test.result c.test.ensures in
-    let e : sort (row_at p c.loop-i.i).kind ≡ false = rw (sym c.row_at.ensures, sym held) c.if-test.false in
+    let held : c.test.result ≡ sort (row_at p c.loop-i.i).kind = rw c.row_at.ensures at (same c.row_at.result.kind c.test.result c.test.ensures) in
+    let e : sort (row_at p c.loop-i.i).kind ≡ false = sym held ∙ c.if-test.false in
     sym (first_miss (λ j. sort (row_at p j).kind) c.loop-i.i (row_count p) c.loop-i-test.true e) ∙ c.loop-i.invariant sort same
 
 pub returns : goal.returns

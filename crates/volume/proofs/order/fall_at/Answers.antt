@@ -13,9 +13,9 @@ returns-then-next-volume c = let a = c.args in record {
   upper_bound = omega arith;
 }
 
-pub returns : goal.returns
+pub returns-else-next-volume : goal.returns-else-next-volume
 unfolding fall
-returns c = record {
-  value = c.fall_of.ensures.value ∙ ap₂ fall_of c.word_at.ensures c.word_at-2.ensures;
+returns-else-next-volume c = record {
+  value = c.fall_of.ensures.value ∙ ap₂ fall_of c.word_at.ensures c.word_at-else-next-volume.ensures;
   upper_bound = c.fall_of.ensures.upper_bound;
 }

@@ -17,12 +17,12 @@ returns-then-i-front c =
     let a = c.args in
     rw c.entry.ensures (sym (stream-count a.counts.now a.postings.now a.i (omega arith) (omega arith)))
 
-pub returns-then-j-postings : goal.returns-then-j-postings
-returns-then-j-postings c =
+pub returns-then-i-front-2 : goal.returns-then-i-front-2
+returns-then-i-front-2 c =
     let a = c.args in
     sym (stream_posting a.counts.now a.postings.now a.i _ (omega arith))
 
-pub returns : goal.returns
-returns c =
+pub returns-else-i-front-2 : goal.returns-else-i-front-2
+returns-else-i-front-2 c =
     let a = c.args in
     sym (stream-zero a.counts.now a.postings.now a.i (a.i - c.lead-front.result) (omega arith) (omega arith))

