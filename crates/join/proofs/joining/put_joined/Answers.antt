@@ -24,9 +24,6 @@ most-blocks e n i h = omega arith
 block-long : (xs : List ℕ) (k : ℕ) → 512 * k + 512 ≤ length xs → length (take (512 * k + 512 - 512 * k) (drop (512 * k) xs)) ≡ 512
 block-long xs k h = simp (length-take, length-drop) (omega arith)
 
-less : (n k : ℕ) → k < n → n - (k + 1) < n - k
-less n k h = omega arith
-
 pub front-merge-requires : goal.front-merge-requires
 front-merge-requires c =
     let g = good c.args.sources.now.first.now c.args.sources.now.joinable.first in
@@ -73,10 +70,6 @@ put_made-requires c =
       k_bound = omega (arith, most, more);
       out_len = block-long c.loop-k.out c.loop-k.k (omega (arith, room, same, more));
     }
-
-pub loop-k-smaller : goal.loop-k-smaller
-loop-k-smaller c =
-    less c.args.n c.loop-k.k c.loop-k-test.true
 
 pub loop-k-preserved : goal.loop-k-preserved
 loop-k-preserved c =
