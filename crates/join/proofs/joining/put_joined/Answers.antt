@@ -39,9 +39,6 @@ loop-k-init c =
       refl,
     )
 
-pub slice_bounds-next_block-end : goal.slice_bounds-next_block-end
-slice_bounds-next_block-end c = sym c.loop-k.invariant.2
-
 pub next_block-merge-requires : goal.next_block-merge-requires
 next_block-merge-requires c =
     let n = c.requires.n_value in

@@ -18,11 +18,6 @@ loop-j-init c =
     let a = c.args in
     sym (made_none (head_word a.self.now.first.now a.self.now.second.now) a.from 0 a.words.now)
 
-pub head_word-requires : goal.head_word-requires
-head_word-requires c = record {
-  i_bound = omega arith;
-}
-
 pub loop-j-preserved : goal.loop-j-preserved
 loop-j-preserved c =
     let l = c.loop-j in
