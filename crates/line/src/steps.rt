@@ -5,7 +5,7 @@ ghost use Rattle.grammar.specs.Grammar as grammar;
 ghost use Rattle.line.specs.Inner.States as states;
 
 use grammar::Word;
-use plan::LEAST_UNIT;
+use plan::{Kind, Predicate};
 
 // Where in a pattern the reading is. The number that is being read is none where its first digit is
 // still to come.
@@ -22,23 +22,14 @@ pub enum State {
     Counting(Word, u32, u32, u32, u32, Option<u32>),
 }
 
-// The words of a row.
-#[derive(Clone, Copy, Debug, PartialEq, Eq)]
-pub struct Words {
-    pub kind: u32,
-    pub a: u32,
-    pub b: u32,
-    pub c: u32,
-}
-
 // What a byte makes of a state.
 #[derive(Clone, Copy, Debug, PartialEq, Eq)]
 pub enum Next {
     Goes(State),
     // A row is whole.
-    Emits(Words, State),
+    Emits(Kind, State),
     // The last row is whole, and END follows.
-    Closes(Words),
+    Closes(Kind),
 }
 
 // A number with one more digit, where the byte is one, no zero stands in front and the limit is
@@ -50,12 +41,10 @@ fn grow(number: Option<u32>, byte: u8, most: u32) -> Option<u32>
     if !byte.is_ascii_digit() {
         return None;
     }
-    let digit = u32::from(byte - b'0');
-    let value = match number {
-        None => digit,
-        Some(0) => return None,
-        Some(n) => 10 * n + digit,
-    };
+    if number == Some(0) {
+        return None;
+    }
+    let value = 10 * number.unwrap_or(0) + u32::from(byte - b'0');
     if most < value {
         return None;
     }
@@ -86,66 +75,35 @@ fn most_of(word: Word, count: u32) -> u32
 }
 
 // Behind a whole number at the end of a list or of a condition.
-fn ending(words: Words, byte: u8) -> Option<Next>
-    ensures { result ≡ states.ending_state words byte }
+fn ending(kind: Kind, byte: u8) -> Option<Next>
+    ensures { result ≡ states.ending_state kind byte }
 {
     match byte {
-        b';' => Some(Next::Emits(words, State::Semicolon)),
-        b']' => Some(Next::Closes(words)),
+        b';' => Some(Next::Emits(kind, State::Semicolon)),
+        b']' => Some(Next::Closes(kind)),
         _ => None,
     }
 }
 
-// The row of a list number.
-fn voice(list: u32) -> Words
-    ensures { result ≡ states.voice_words list }
-{
-    Words {
-        kind: 1,
-        a: list,
-        b: 0,
-        c: 0,
-    }
-}
-
 // The row of a condition whose last number is `last`, with the numbers in front of it.
-fn condition(word: Word, a: u32, b: u32, c: u32, last: u32) -> Words
+fn condition(word: Word, a: u32, b: u32, c: u32, last: u32) -> Kind
     requires c_bound { c ≤ 65535 }
     requires last_most { states.LastMost word last }
-    ensures { result ≡ states.condition_words word a b c last }
+    ensures { result ≡ states.condition_kind word a b c last }
 {
-    match word {
-        Word::Near => Words {
-            kind: 2,
+    let predicate = match word {
+        Word::Near => Predicate::Distance { a, b, limit: last },
+        Word::Before => Predicate::Ordered { a, b: last },
+        Word::Same => Predicate::Samepara { a, b: last },
+        Word::Span => Predicate::Window { limit: last },
+        Word::Apart => Predicate::Proximity {
             a,
             b,
-            c: last,
+            least: c as u16,
+            most: last as u16,
         },
-        Word::Before => Words {
-            kind: 3,
-            a,
-            b: last,
-            c: 0,
-        },
-        Word::Same => Words {
-            kind: 4,
-            a,
-            b: last,
-            c: 0,
-        },
-        Word::Span => Words {
-            kind: 5,
-            a: 0,
-            b: 0,
-            c: last,
-        },
-        Word::Apart => Words {
-            kind: 10,
-            a,
-            b,
-            c: c * LEAST_UNIT + last,
-        },
-    }
+    };
+    Kind::Condition(predicate)
 }
 
 // In the list numbers.
@@ -156,11 +114,11 @@ fn in_list(number: Option<u32>, byte: u8) -> Option<Next>
     if let Some(value) = grow(number, byte, 65536) {
         return Some(Next::Goes(State::Listing(Some(value))));
     }
-    let words = voice(number?);
+    let kind = Kind::Voice(number?);
     if byte == b' ' {
-        return Some(Next::Emits(words, State::Listing(None)));
+        return Some(Next::Emits(kind, State::Listing(None)));
     }
-    ending(words, byte)
+    ending(kind, byte)
 }
 
 // Behind `;`.

@@ -9,7 +9,7 @@ ghost use Rattle.lister.specs.Inner.Stored.{Stored};
 ghost use Rattle.lister.specs.Inner.Pages.{page_turn, rows_in, last, Told, Adds, Ready, Ahead};
 
 use super::files::plan_words;
-use super::text::{put_bytes, put_done, put_line, put_rows};
+use super::text::Text;
 use search::{ListError, Listing};
 use volume::Code;
 
@@ -52,7 +52,9 @@ fn put_refusal(code: Code, out: &mut [u8]) -> usize
     requires { 30 ≤ length out.old }
     ensures { Stored out.old 0 (line refused_word (code.number ∷ code.at ∷ [])) out.new result }
 {
-    put_line(b"refused", &[code.number, code.at], 0, out)
+    let mut text = Text { out, end: 0 };
+    text.put_line(b"refused", &[code.number, code.at]);
+    text.end
 }
 
 // The number and the place of a listing call's error.
@@ -82,14 +84,18 @@ fn answer_text(
 {
     match listed {
         Ok(listing) => {
-            let end = put_rows(page, listing.rows as usize, width, 0, out);
+            let mut text = Text { out, end: 0 };
+            text.put_rows(page, listing.rows as usize, width);
             let tally = tally + u64::from(listing.tally);
             match listing.next {
                 Some(doc) => Turn {
-                    bytes: end,
+                    bytes: text.end,
                     next: Some(Start { doc, tally }),
                 },
-                None => Turn::last(put_done(tally, end, out)),
+                None => {
+                    text.put_done(tally);
+                    Turn::last(text.end)
+                }
             }
         }
         Err(error) => Turn::last(put_refusal(code_of(error), out)),
@@ -130,7 +136,9 @@ pub fn turn_text(volume: &[u8], file: &[u8], start: Start, out: &mut [u8]) -> Tu
     ensures ahead { Ahead start.doc (length out.old) result }
 {
     if VOLUME < volume.len() {
-        return Turn::last(put_bytes(b"file too long\n", 0, out));
+        let mut text = Text { out, end: 0 };
+        text.put_bytes(b"file too long\n");
+        return Turn::last(text.end);
     }
     let mut words = [0u32; plan::MOST_WORDS];
     let n = plan_words(file, &mut words);

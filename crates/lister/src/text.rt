@@ -1,86 +1,99 @@
-// Text, stored in a lent buffer from an index on. Each function answers the index behind it.
+// Text, added to what stands in a lent buffer.
 //
 // No `write!` stands here: the program uses no heap, and a clause names each byte of the buffer.
 ghost use Rattle.std.specs.Prelude.{◌≡◌, ◌∷◌, [], map, ◌+◌, ◌*◌, ◌≤◌, length};
 ghost use Rattle.seq.specs.Lists.{joined};
 ghost use Rattle.lister.specs.Text.{spaced, line, scene_word, done_word};
-ghost use Rattle.lister.specs.Inner.Stored.{Stored};
 ghost use Rattle.lister.specs.Inner.Pages.{row_lines};
+ghost use Rattle.lister.specs.Inner.Stored.{Added};
 
 use itoa::Buffer;
 
-// These bytes.
-pub fn put_bytes(bytes: &[u8], at: usize, out: &mut [u8]) -> usize
-    requires { at + length bytes.now ≤ length out.old }
-    ensures { Stored out.old at bytes.now out.new result }
-{
-    let end = at + bytes.len();
-    out[at..end].copy_from_slice(bytes);
-    end
+// A lent buffer, and the index behind the text in it. Each function says that the buffer stays the
+// same one: without that the lender knows nothing of its bytes.
+#[derive(Drop)]
+pub struct Text<'a> {
+    pub out: &'a mut [u8],
+    pub end: usize,
 }
 
-// A space and a number.
-fn put_number(n: u64, at: usize, out: &mut [u8]) -> usize
-    requires { at + length (spaced n) ≤ length out.old }
-    ensures { Stored out.old at (spaced n) out.new result }
-{
-    let mut digits = Buffer::new();
-    out[at] = b' ';
-    put_bytes(digits.format(n).as_bytes(), at + 1, out)
-}
-
-// A space and a number, for each of several.
-fn put_numbers(ns: &[u32], at: usize, out: &mut [u8]) -> usize
-    requires { at + length (joined (map spaced ns.now)) ≤ length out.old }
-    ensures { Stored out.old at (joined (map spaced ns.now)) out.new result }
-{
-    let mut end = at;
-    for &n in ns {
-        end = put_number(u64::from(n), end, out);
+impl<'a> Text<'a> {
+    // These bytes.
+    pub fn put_bytes(&mut self, bytes: &[u8])
+        requires { self.old.end + length bytes.now ≤ length self.old.out.now }
+        ensures added { Added bytes.now self.old self.new }
+        ensures same { self.new.out.ghost_name ≡ self.old.out.ghost_name }
+    {
+        let end = self.end + bytes.len();
+        self.out[self.end..end].copy_from_slice(bytes);
+        self.end = end;
     }
-    end
-}
 
-// A line: a word and numbers.
-pub fn put_line(word: &[u8], ns: &[u32], at: usize, out: &mut [u8]) -> usize
-    requires { at + length (line word.now ns.now) ≤ length out.old }
-    ensures { Stored out.old at (line word.now ns.now) out.new result }
-{
-    let first = put_bytes(word, at, out);
-    let end = put_numbers(ns, first, out);
-    put_bytes(b"\n", end, out)
-}
-
-// The last line of a listing: the sum of the tallies. A `put_line` over two widths of numbers would
-// need a bound and a clause on their conversion, for one call each.
-pub fn put_done(tally: u64, at: usize, out: &mut [u8]) -> usize
-    requires { at + 26 ≤ length out.old }
-    ensures { Stored out.old at (line done_word (tally ∷ [])) out.new result }
-{
-    let first = put_bytes(b"done", at, out);
-    let end = put_number(tally, first, out);
-    put_bytes(b"\n", end, out)
-}
-
-// The line of a row.
-fn put_row(row: &[u32], at: usize, out: &mut [u8]) -> usize
-    requires { at + length (line scene_word row.now) ≤ length out.old }
-    ensures { Stored out.old at (line scene_word row.now) out.new result }
-{
-    put_line(b"scene", row, at, out)
-}
-
-// The lines of the n rows at the front of a page, each so many words wide.
-pub fn put_rows(page: &[u32], n: usize, width: usize, at: usize, out: &mut [u8]) -> usize
-    requires width_in_bounds { n * width ≤ length page.now }
-    requires width_in_bounds_2 { at + n * (6 + 11 * width) ≤ length out.old }
-    ensures stored { Stored out.old at (row_lines width page.now n) out.new result }
-    ensures upper_bound { result ≤ at + n * (6 + 11 * width) }
-{
-    let mut end = at;
-    for i in 0..n {
-        let first = i * width;
-        end = put_row(&page[first..first + width], end, out);
+    // A space and a number.
+    fn put_number(&mut self, n: u64)
+        requires { self.old.end + length (spaced n) ≤ length self.old.out.now }
+        ensures added { Added (spaced n) self.old self.new }
+        ensures same { self.new.out.ghost_name ≡ self.old.out.ghost_name }
+    {
+        let mut digits = Buffer::new();
+        self.put_bytes(b" ");
+        self.put_bytes(digits.format(n).as_bytes());
     }
-    end
+
+    // A space and a number, for each of several.
+    fn put_numbers(&mut self, ns: &[u32])
+        requires { self.old.end + length (joined (map spaced ns.now)) ≤ length self.old.out.now }
+        ensures added { Added (joined (map spaced ns.now)) self.old self.new }
+        ensures same { self.new.out.ghost_name ≡ self.old.out.ghost_name }
+    {
+        for &n in ns {
+            self.put_number(u64::from(n));
+        }
+    }
+
+    // A line: a word and numbers.
+    pub fn put_line(&mut self, word: &[u8], ns: &[u32])
+        requires { self.old.end + length (line word.now ns.now) ≤ length self.old.out.now }
+        ensures added { Added (line word.now ns.now) self.old self.new }
+        ensures same { self.new.out.ghost_name ≡ self.old.out.ghost_name }
+    {
+        self.put_bytes(word);
+        self.put_numbers(ns);
+        self.put_bytes(b"\n");
+    }
+
+    // The last line of a listing: the sum of the tallies. A `put_line` over two widths of numbers
+    // would need a bound and a clause on their conversion, for one call each.
+    pub fn put_done(&mut self, tally: u64)
+        requires { self.old.end + 26 ≤ length self.old.out.now }
+        ensures added { Added (line done_word (tally ∷ [])) self.old self.new }
+        ensures same { self.new.out.ghost_name ≡ self.old.out.ghost_name }
+    {
+        self.put_bytes(b"done");
+        self.put_number(tally);
+        self.put_bytes(b"\n");
+    }
+
+    // The line of a row.
+    fn put_row(&mut self, row: &[u32])
+        requires { self.old.end + length (line scene_word row.now) ≤ length self.old.out.now }
+        ensures added { Added (line scene_word row.now) self.old self.new }
+        ensures same { self.new.out.ghost_name ≡ self.old.out.ghost_name }
+    {
+        self.put_line(b"scene", row);
+    }
+
+    // The lines of the n rows at the front of a page, each so many words wide.
+    pub fn put_rows(&mut self, page: &[u32], n: usize, width: usize)
+        requires width_in_bounds { n * width ≤ length page.now }
+        requires width_in_bounds_2 { self.old.end + n * (6 + 11 * width) ≤ length self.old.out.now }
+        ensures added { Added (row_lines width page.now n) self.old self.new }
+        ensures upper_bound { self.new.end ≤ self.old.end + n * (6 + 11 * width) }
+        ensures same { self.new.out.ghost_name ≡ self.old.out.ghost_name }
+    {
+        for i in 0..n {
+            let first = i * width;
+            self.put_row(&page[first..first + width]);
+        }
+    }
 }

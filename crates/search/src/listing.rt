@@ -7,6 +7,7 @@ ghost use Rattle.plan.specs.Check.{Accepted, sizes};
 ghost use Rattle.fulltext.specs.Documents.{postings_in};
 ghost use Rattle.search.specs.Answers.{said_listed};
 ghost use Rattle.search.specs.Search.{Kept};
+ghost use Rattle.matcher.specs.Inner.Cursors.{ats_of, ends_of};
 ghost use Rattle.matcher.specs.Inner.Tables.{Cursors};
 ghost use Rattle.search.specs.Inner.Walk.{Walks};
 
@@ -19,47 +20,41 @@ use plan::{MOST_FOUND_SETS, MOST_PATTERNS, MOST_VARS, Outline, answer_of, lay_ou
 use volume::{BLOCK_WORDS, Posting};
 
 // How many postings the lists of all variables have from document `start` up to document `doc`, doc
-// not counted. `ats` has the index of each list's first posting in document `start` or a later one.
-fn tally(volume: &[u8], plan: &[u32], start: u32, doc: u32, ats: &[usize], ends: &[usize]) -> u32
+// not counted. `firsts` has for each variable a cursor at its list's first posting in document
+// `start` or a later one.
+fn tally(volume: &[u8], plan: &[u32], start: u32, doc: u32, firsts: &[Cursor]) -> u32
     requires accepted { Accepted volume.now plan.now }
-    requires ats_len { length ats.now ≡ (sizes plan.now).vars }
-    requires ats_in_bounds { length ats.now ≤ length ends.now }
+    requires firsts_len { length firsts.now ≡ (sizes plan.now).vars }
     requires start_le_doc { start ≤ doc }
     requires doc_bound { doc ≤ 65536 }
-    requires cursors { Cursors volume.now plan.now start ats.now ends.now }
+    requires cursors { Cursors volume.now plan.now start (ats_of firsts.now) (ends_of firsts.now) }
     ensures { result ≡ postings_in (lists_of volume.now) (rows_of plan.now) start doc }
 {
     let mut sum: usize = 0;
-    for x in 0..ats.len() {
-        let cursor = Cursor {
-            at: ats[x],
-            end: ends[x],
-        };
-        let moved = cursor.seek(volume, doc);
-        sum += moved.at - ats[x];
+    for &cursor in firsts {
+        sum += cursor.seek(volume, doc).at - cursor.at;
     }
     sum as u32
 }
 
-// Lists the true documents from `start` on, with the cursors of all variables at `ats`, where
-// `firsts` has them at document `start`.
+// Lists the true documents from `start` on, with the cursors of all variables, which stand where
+// `firsts` has them, at document `start`.
 fn list_docs(
     volume: &[u8],
     plan: &[u32],
     table: &[Outline],
     orders: &[usize],
     start: u32,
-    firsts: &[usize],
-    ends: &[usize],
-    ats: &mut [usize],
+    firsts: &[Cursor],
+    cursors: &mut [Cursor],
     positions: &mut [u32],
     out: &mut [u32],
 ) -> Listing
-    requires walks { Walks volume.now plan.now table.now orders.now ends.now }
+    requires walks { Walks volume.now plan.now table.now orders.now (ends_of firsts.now) }
     requires firsts_len { length firsts.now ≡ (sizes plan.now).vars }
     requires start_bound { start ≤ 65535 }
-    requires cursors { Cursors volume.now plan.now start firsts.now ends.now }
-    requires ats_value { ats.old ≡ firsts.now }
+    requires firsts { Cursors volume.now plan.now start (ats_of firsts.now) (ends_of firsts.now) }
+    requires cursors_value { cursors.old ≡ firsts.now }
     requires plan_in_bounds { (sizes plan.now).vars ≤ length positions.old }
     requires plan_in_bounds_2 { row_words (sizes plan.now).patterns (sizes plan.now).vars ≤ length out.old }
     ensures { Kept volume.now plan.now start
@@ -72,9 +67,9 @@ fn list_docs(
     let starts = list.seek(volume, start);
     let blocks = blocks_of(starts);
     let mut block = starts.at / BLOCK_WORDS;
-    let mut paras: [usize; MOST_VARS] = [0; MOST_VARS];
-    let mut docs: [u32; MOST_PATTERNS] = [0; MOST_PATTERNS];
-    let mut known: [Option<bool>; MOST_FOUND_SETS] = [None; MOST_FOUND_SETS];
+    let mut paras = [0; MOST_VARS];
+    let mut docs = [0; MOST_PATTERNS];
+    let mut known = [None; MOST_FOUND_SETS];
     let mut rows: usize = 0;
     let mut from = start;
     loop {
@@ -89,13 +84,12 @@ fn list_docs(
             table,
             orders,
             walk,
-            ats,
-            ends,
+            cursors,
             positions,
             &mut docs[..patterns],
             &mut paras,
         ) else {
-            let tally = tally(volume, plan, start, Posting::DOCS, firsts, ends);
+            let tally = tally(volume, plan, start, Posting::DOCS, firsts);
             return Listing {
                 rows: rows as u32,
                 tally,
@@ -108,7 +102,7 @@ fn list_docs(
             continue;
         }
         if rows == room {
-            let tally = tally(volume, plan, start, doc, firsts, ends);
+            let tally = tally(volume, plan, start, doc, firsts);
             return Listing {
                 rows: rows as u32,
                 tally,
@@ -148,16 +142,15 @@ fn list_from(
     ensures { Kept volume.now plan.now start
         (record { lent = out.old; says = said_listed (Ok result); back = out.new }) }
 {
-    let mut outlines: [Outline; MOST_PATTERNS] = [Outline::NONE; MOST_PATTERNS];
+    let mut outlines = [Outline::NONE; MOST_PATTERNS];
     lay_out(plan, patterns, &mut outlines);
     let table = &outlines[..patterns];
-    let mut firsts: [usize; MOST_VARS] = [0; MOST_VARS];
-    let mut ends: [usize; MOST_VARS] = [0; MOST_VARS];
-    set_cursors(volume, plan, table, start, &mut firsts, &mut ends);
-    let mut orders: [usize; MOST_VARS] = [0; MOST_VARS];
+    let mut firsts = [Cursor::NONE; MOST_VARS];
+    set_cursors(volume, plan, table, start, &mut firsts);
+    let mut orders = [0; MOST_VARS];
     set_orders(volume, plan, table, &mut orders);
-    let mut ats = firsts;
-    let mut positions: [u32; MOST_VARS] = [0; MOST_VARS];
+    let mut cursors = firsts;
+    let mut positions = [0; MOST_VARS];
     list_docs(
         volume,
         plan,
@@ -165,8 +158,7 @@ fn list_from(
         &orders,
         start,
         &firsts[..vars],
-        &ends,
-        &mut ats[..vars],
+        &mut cursors[..vars],
         &mut positions,
         out,
     )

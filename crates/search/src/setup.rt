@@ -6,6 +6,7 @@ ghost use Rattle.volume.specs.Check as volumes;
 ghost use Rattle.plan.specs.Limits.{most_vars};
 ghost use Rattle.plan.specs.Check.{Accepted, sizes};
 ghost use Rattle.plan.specs.Inner.Outline.{Tabled};
+ghost use Rattle.matcher.specs.Inner.Cursors.{ats_of, ends_of};
 ghost use Rattle.matcher.specs.Inner.Tables.{cursor_on, Cursors};
 ghost use Rattle.search.specs.Inner.Setup.{ListsUsed, RarestEach};
 
@@ -55,27 +56,23 @@ pub fn set_cursors(
     plan: &[u32],
     table: &[Outline],
     start: u32,
-    ats: &mut [usize],
-    ends: &mut [usize],
+    cursors: &mut [Cursor],
 )
     requires accepted { Accepted volume.now plan.now }
     requires tabled { Tabled plan.now table.now }
     requires table_len { length table.now ≡ (sizes plan.now).patterns }
     requires start_bound { start ≤ 65535 }
-    requires most_vars_in_bounds { most_vars ≤ length ats.old }
-    requires most_vars_in_bounds_2 { most_vars ≤ length ends.old }
-    ensures { Cursors volume.now plan.now start ats.new ends.new }
+    requires most_vars_in_bounds { most_vars ≤ length cursors.old }
+    ensures { Cursors volume.now plan.now start (ats_of cursors.new) (ends_of cursors.new) }
 {
-    let mut starts: [usize; MAX_LISTS + 1] = [0; MAX_LISTS + 1];
+    let mut starts = [0; MAX_LISTS + 1];
     let used = lists_used(plan, table);
     volume::list_starts(volume, used, &mut starts);
     for &outline in table {
         let row = outline.condition - outline.vars;
         for i in 0..outline.vars {
-            let list = list_at(plan, row + i);
-            let cursor = cursor_on(volume, &starts, list as usize, start);
-            ats[outline.first + i] = cursor.at;
-            ends[outline.first + i] = cursor.end;
+            let list = list_at(plan, row + i) as usize;
+            cursors[outline.first + i] = cursor_on(volume, &starts, list, start);
         }
     }
 }

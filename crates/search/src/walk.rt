@@ -2,7 +2,7 @@
 // there.
 ghost use Rattle.std.specs.Prelude.{◌≡◌, ℕ, ◌<◌, ◌≤◌, length, get_or, IfSome};
 ghost use Rattle.plan.specs.Check.{sizes};
-ghost use Rattle.matcher.specs.Inner.Cursors.{AtDocument};
+ghost use Rattle.matcher.specs.Inner.Cursors.{ats_of, ends_of, AtDocument};
 ghost use Rattle.search.specs.Inner.Walk.{Candidate, Pending, Brought, LeastDoc, Walks, Ready, Settled, SettledAll};
 ghost use Rattle.search.specs.Inner.Walk.{Walking, seen_or_end, Visited};
 
@@ -36,20 +36,20 @@ fn next_docs(
     orders: &[usize],
     fresh: bool,
     doc: u32,
-    ats: &mut [usize],
-    ends: &[usize],
+    cursors: &mut [Cursor],
     positions: &mut [u32],
     docs: &mut [u32],
 )
-    requires walks { Walks volume.now plan.now table.now orders.now ends.now }
+    requires walks { Walks volume.now plan.now table.now orders.now (ends_of cursors.old) }
     requires docs_len { length docs.old ≡ (sizes plan.now).patterns }
-    requires plan_in_bounds { (sizes plan.now).vars ≤ length ats.old }
+    requires plan_in_bounds { (sizes plan.now).vars ≤ length cursors.old }
     requires plan_in_bounds_2 { (sizes plan.now).vars ≤ length positions.old }
     requires doc_bound { doc ≤ 65536 }
     requires by_index { (k : ℕ) → k < (sizes plan.now).patterns
-        → Pending volume.now plan.now ats.old ends.now positions.old k doc (get_or docs.old k 0) fresh }
-    ensures { Brought volume.now plan.now ends.now ats.old positions.old
-        docs.old doc ats.new positions.new docs.new }
+        → Pending volume.now plan.now (ats_of cursors.old) (ends_of cursors.old) positions.old k doc (get_or docs.old k 0) fresh }
+    ensures brought { Brought volume.now plan.now (ends_of cursors.old) (ats_of cursors.old) positions.old
+        docs.old doc (ats_of cursors.new) positions.new docs.new }
+    ensures ends_unchanged { ends_of cursors.new ≡ ends_of cursors.old }
 {
     for (k, &outline) in table.iter().enumerate() {
         if !fresh && doc <= docs[k] {
@@ -59,8 +59,7 @@ fn next_docs(
         docs[k] = align(
             volume,
             &orders[first..],
-            ats,
-            ends,
+            cursors,
             positions,
             first,
             outline.vars,
@@ -85,15 +84,16 @@ fn settle(
     outline: Outline,
     document: Document,
     orders: &[usize],
-    ends: &[usize],
-    ats: &mut [usize],
+    cursors: &mut [Cursor],
     positions: &mut [u32],
     paras: &mut [usize],
 ) -> bool
-    requires ready { Ready volume.now plan.now outline document orders.now ends.now ats.old positions.old }
+    requires ready { Ready volume.now plan.now outline document orders.now (ends_of cursors.old) (ats_of cursors.old)
+        positions.old }
     requires plan_in_bounds { (sizes plan.now).vars ≤ length paras.old }
-    ensures settled { Settled volume.now plan.now ends.now outline.pattern document.doc
-        ats.old positions.old result ats.new positions.new }
+    ensures settled { Settled volume.now plan.now (ends_of cursors.old) outline.pattern document.doc
+        (ats_of cursors.old) positions.old result (ats_of cursors.new) positions.new }
+    ensures ends_unchanged { ends_of cursors.new ≡ ends_of cursors.old }
     ensures paras_len_unchanged { length paras.new ≡ length paras.old }
 {
     if outline.condition == outline.last {
@@ -107,8 +107,7 @@ fn settle(
         document,
         0,
         &orders[first..],
-        &ends[first..],
-        &mut ats[first..],
+        &mut cursors[first..],
         &mut positions[first..],
         &mut paras[first..],
     )
@@ -123,22 +122,22 @@ fn settle_all(
     table: &[Outline],
     document: Document,
     orders: &[usize],
-    ends: &[usize],
-    ats: &mut [usize],
+    cursors: &mut [Cursor],
     positions: &mut [u32],
     docs: &[u32],
     paras: &mut [usize],
 ) -> u32
-    requires walks { Walks volume.now plan.now table.now orders.now ends.now }
+    requires walks { Walks volume.now plan.now table.now orders.now (ends_of cursors.old) }
     requires at_document { AtDocument volume.now document }
     requires docs_len { length docs.now ≡ (sizes plan.now).patterns }
-    requires plan_in_bounds { (sizes plan.now).vars ≤ length ats.old }
+    requires plan_in_bounds { (sizes plan.now).vars ≤ length cursors.old }
     requires plan_in_bounds_2 { (sizes plan.now).vars ≤ length positions.old }
     requires by_index { (k : ℕ) → k < (sizes plan.now).patterns
-        → Candidate volume.now plan.now ats.old ends.now positions.old k document.doc (get_or docs.now k 0) }
+        → Candidate volume.now plan.now (ats_of cursors.old) (ends_of cursors.old) positions.old k document.doc (get_or docs.now k 0) }
     requires plan_in_bounds_3 { (sizes plan.now).vars ≤ length paras.old }
-    ensures settled_all { SettledAll volume.now plan.now ends.now docs.now document.doc
-        ats.old positions.old result ats.new positions.new }
+    ensures settled_all { SettledAll volume.now plan.now (ends_of cursors.old) docs.now document.doc
+        (ats_of cursors.old) positions.old result (ats_of cursors.new) positions.new }
+    ensures ends_unchanged { ends_of cursors.new ≡ ends_of cursors.old }
     ensures paras_len_unchanged { length paras.new ≡ length paras.old }
 {
     let mut bits: u32 = 0;
@@ -146,7 +145,7 @@ fn settle_all(
     for (k, &outline) in table.iter().enumerate() {
         if docs[k] == document.doc
             && settle(
-                volume, plan, outline, document, orders, ends, ats, positions, paras,
+                volume, plan, outline, document, orders, cursors, positions, paras,
             )
         {
             bits += weight;
@@ -165,23 +164,23 @@ pub fn visit(
     table: &[Outline],
     orders: &[usize],
     walk: Walk,
-    ats: &mut [usize],
-    ends: &[usize],
+    cursors: &mut [Cursor],
     positions: &mut [u32],
     docs: &mut [u32],
     paras: &mut [usize],
 ) -> Option<Seen>
-    requires walks { Walks volume.now plan.now table.now orders.now ends.now }
-    requires walking { Walking volume.now plan.now ends.now ats.old positions.old docs.old walk.from walk.fresh
+    requires walks { Walks volume.now plan.now table.now orders.now (ends_of cursors.old) }
+    requires walking { Walking volume.now plan.now (ends_of cursors.old) (ats_of cursors.old) positions.old docs.old walk.from walk.fresh
         walk.starts }
     requires plan_in_bounds { (sizes plan.now).vars ≤ length paras.old }
-    ensures visited { Visited volume.now plan.now ends.now walk.from (seen_or_end result)
-        ats.new positions.new docs.new walk.starts }
+    ensures visited { Visited volume.now plan.now (ends_of cursors.old) walk.from (seen_or_end result)
+        (ats_of cursors.new) positions.new docs.new walk.starts }
+    ensures ends_unchanged { ends_of cursors.new ≡ ends_of cursors.old }
     ensures document { IfSome result (λ seen. seen.doc < 65536) }
     ensures paras_len_unchanged { length paras.new ≡ length paras.old }
 {
     next_docs(
-        volume, plan, table, orders, walk.fresh, walk.from, ats, ends, positions, docs,
+        volume, plan, table, orders, walk.fresh, walk.from, cursors, positions, docs,
     );
     let doc = least_of(docs);
     if doc == Posting::DOCS {
@@ -190,7 +189,7 @@ pub fn visit(
     let starts = walk.starts;
     let document = Document { doc, starts };
     let found = settle_all(
-        volume, plan, table, document, orders, ends, ats, positions, docs, paras,
+        volume, plan, table, document, orders, cursors, positions, docs, paras,
     );
     Some(Seen { doc, found })
 }

@@ -1,19 +1,18 @@
 -- Where the reading of a pattern is, for the contracts inside the crate. Assumes nothing.
 --     NumberMost, LastMost, StateMost     numbers in the grammar's limits
 --     grown_by, step_state                  what a byte makes of a number, and of a state
---     voice_words, condition_words, threshold_words     the words of rows
+--     condition_kind                        the rows of conditions
 --     state_of                             the state of a pattern so far
-use Rattle.std.specs.Prelude.{ℕ, ◌+◌, ◌-◌, ◌*◌, ◌≤◌, ◌<◌, cond, length, get_or, eqb, ltb, Option, Some, None}
+use Rattle.std.specs.Prelude.{ℕ, ◌+◌, ◌-◌, ◌≤◌, ◌<◌, cond, length, get_or, eqb, ltb, Option, Some, None}
 use Rattle.grammar.specs.declared.tokens.Word.{Word}
 use Rattle.grammar.specs.declared.tokens.Word.TheVariants as word
 use Rattle.line.specs.declared.steps.State.{State}
 use Rattle.line.specs.declared.steps.State.TheVariants.{Listing, Semicolon, Lettered, Counting}
 use Rattle.line.specs.declared.steps.Next.{Next}
 use Rattle.line.specs.declared.steps.Next.TheVariants.{Goes, Emits, Closes}
-use Rattle.line.specs.declared.steps.Words.{Words}
-use Rattle.plan.specs.declared.row.Row.{Row}
-use Rattle.plan.specs.Limits.{least_unit}
-use Rattle.plan.specs.Rows.{words_of}
+use Rattle.plan.specs.declared.row.Predicate.TheVariants.{Distance, Ordered, Samepara, Window, Proximity}
+use Rattle.plan.specs.declared.row.Kind.{Kind}
+use Rattle.plan.specs.declared.row.Kind.TheVariants.{Voice, Condition}
 use Rattle.grammar.specs.Grammar.{arity, most_of}
 use Rattle.grammar.specs.Reading as reading
 use Rattle.grammar.specs.Reading.{grown, grows}
@@ -42,41 +41,24 @@ counting w k a b c x = Counting w k a b c x
 abbrev pub grown_by : ℕ → Option ℕ → ℕ → Option ℕ
 grown_by most x b = cond (grows most x b) (Some (grown x b)) None
 
--- the words of a row
-abbrev pub words_in : Row → Words
-words_in r = record {
-  kind = get_or (words_of r.kind) 0 0;
-  a = get_or (words_of r.kind) 1 0;
-  b = get_or (words_of r.kind) 2 0;
-  c = get_or (words_of r.kind) 3 0;
-}
-
--- the words of a list number
-abbrev pub voice_words : ℕ → Words
-voice_words list = record { kind = 1; a = list; b = 0; c = 0 }
-
--- the words of a condition with numbers a, b and c in front of its last one
-abbrev pub condition_words : Word → ℕ → ℕ → ℕ → ℕ → Words
-condition_words word.Near a b c n = record { kind = 2; a = a; b = b; c = n }
-condition_words word.Before a b c n = record { kind = 3; a = a; b = n; c = 0 }
-condition_words word.Same a b c n = record { kind = 4; a = a; b = n; c = 0 }
-condition_words word.Span a b c n = record { kind = 5; a = 0; b = 0; c = n }
-condition_words word.Apart a b c n = record { kind = 10; a = a; b = b; c = c * least_unit + n }
-
--- the words of AT LEAST
-abbrev pub threshold_words : ℕ → ℕ → Words
-threshold_words least of = record { kind = 11; a = least; b = of; c = 0 }
+-- the kind of a condition with numbers a, b and c in front of its last one
+abbrev pub condition_kind : Word → ℕ → ℕ → ℕ → ℕ → Kind
+condition_kind word.Near a b c n = Condition (Distance a b n)
+condition_kind word.Before a b c n = Condition (Ordered a n)
+condition_kind word.Same a b c n = Condition (Samepara a n)
+condition_kind word.Span a b c n = Condition (Window n)
+condition_kind word.Apart a b c n = Condition (Proximity a b c n)
 
 -- behind a whole number at the end of a list or of a condition
-abbrev pub ending_state : Words → ℕ → Option Next
-ending_state ws b = cond (eqb b 59) (Some (Emits ws Semicolon)) (cond (eqb b 93) (Some (Closes ws)) None)
+abbrev pub ending_state : Kind → ℕ → Option Next
+ending_state k b = cond (eqb b 59) (Some (Emits k Semicolon)) (cond (eqb b 93) (Some (Closes k)) None)
 
 -- a byte in the list numbers
 abbrev pub step_listing : Option ℕ → ℕ → Option Next
 step_listing None b = cond (grows 65536 None b) (Some (Goes (Listing (Some (grown None b))))) None
 step_listing (Some n) b =
     cond (grows 65536 (Some n) b) (Some (Goes (Listing (Some (grown (Some n) b)))))
-    (cond (eqb b 32) (Some (Emits (voice_words n) (Listing None))) (ending_state (voice_words n) b))
+    (cond (eqb b 32) (Some (Emits (Voice n) (Listing None))) (ending_state (Voice n) b))
 
 -- a byte behind `;`
 abbrev pub step_semicolon : ℕ → Option Next
@@ -98,7 +80,7 @@ abbrev pub step_counting : Word → ℕ → ℕ → ℕ → ℕ → Option ℕ �
 step_counting w k x y z None b = cond (grows (most_of w k) None b) (Some (Goes (Counting w k x y z (Some (grown None b))))) None
 step_counting w k x y z (Some n) b =
     cond (grows (most_of w k) (Some n) b) (Some (Goes (Counting w k x y z (Some (grown (Some n) b)))))
-    (cond (ltb (k + 1) (arity w)) (another_state w k x y z n b) (ending_state (condition_words w x y z n) b))
+    (cond (ltb (k + 1) (arity w)) (another_state w k x y z n b) (ending_state (condition_kind w x y z n) b))
 
 -- what a byte makes of a state
 abbrev pub step_state : State → ℕ → Option Next

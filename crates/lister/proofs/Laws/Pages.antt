@@ -1,5 +1,6 @@
 -- The laws of `specs/Inner/Pages.antt`. No contract cites this file.
 --     told-only, told-done, told_more     a turn's text is stored
+--     told-lent               the same bytes afterwards, behind the reference that was lent
 --     at_done, at_more        what DONE and MORE say of a page
 --     blank, sized            a page of zeros
 --     IsTurn, is-turn         a listing call's answer and its page, as a turn
@@ -53,6 +54,10 @@ module _ {out out' : List ℕ} {end : ℕ} where
   pub told-done : {lines : List ℕ} (tally k : ℕ) → Stored out 0 lines out' end → {out'' : List ℕ} {end' : ℕ} → Stored out' end (line done_word ((tally + k) ∷ [])) out'' end'
       → Told (turn_of lines (tally + k) done) out out'' (last end') × Adds tally (length out) (last end')
   told-done tally k s t = let all = stored_more s (line done_word ((tally + k) ∷ [])) t in (record { answer = ap last (stored-front all).0; laid = all.laid }, (all.fits, tt))
+
+-- the same bytes afterwards
+pub told-lent : {t : Turn} {out out' out'' : List ℕ} {r : pages.Turn} → out'' ≡ out' → Told t out out' r → Told t out out'' r
+told-lent e told = record { answer = told.answer; laid = e ∙ told.laid }
 
 -- rows of one width, joined, are cut into rows again
 rows-lines : (w : Work) → ((d : ℕ) → length (w.row_of d) ≡ w.width) → (ds rest : List ℕ) → row_lines w.width (rows_of_docs w ds ++ rest) (length ds) ≡ doc_lines w ds

@@ -1,5 +1,7 @@
 -- The laws of `specs/Inner/Stored.antt`: what is stored piece by piece. No contract cites this file.
 --     stored-none, stored_one, stored_more     nothing is stored, one element, and more behind it
+--     stored-size                  the buffer keeps its length
+--     stored-lent                  the same bytes afterwards, behind the reference that was lent
 --     stored-front                 what is stored at the front of a buffer
 --     length-pieces, pieces_room, pieces_more     pieces g 0, g 1, .. are stored one behind the other
 -- Assumes nothing.
@@ -59,7 +61,8 @@ module _ {out : List ℕ} {at : ℕ} {xs out' : List ℕ} {end : ℕ} (s : Store
   room : at + length xs ≤ length out
   room = let e = s.behind in let f = s.fits in omega arith
 
-  stored-size : length out' ≡ length out
+  -- the buffer keeps its length
+  pub stored-size : length out' ≡ length out
   stored-size = ap length s.laid ∙ length-put out at xs room
 
   -- more text is stored behind it
@@ -69,6 +72,10 @@ module _ {out : List ℕ} {at : ℕ} {xs out' : List ℕ} {end : ℕ} (s : Store
     behind = let a = t.behind in let b = s.behind in let l = length-append xs ys in omega arith;
     fits = let a = t.fits in let b = stored-size in omega arith;
   }
+
+-- the same bytes afterwards
+pub stored-lent : {out : List ℕ} {at : ℕ} {xs out' out'' : List ℕ} {end : ℕ} → out'' ≡ out' → Stored out at xs out' end → Stored out at xs out'' end
+stored-lent e s = record { laid = e ∙ s.laid; behind = s.behind; fits = s.fits }
 
 -- what is stored at the front of a buffer
 pub stored-front : {out xs out' : List ℕ} {end : ℕ} → Stored out 0 xs out' end → (end ≡ length xs) × (take end out' ≡ xs)

@@ -1,4 +1,5 @@
 -- How the cursors of a pattern leap to one document. No contract cites this file.
+--     Came, came               the posting to which a cursor has come
 --     Leaping                  where the leaping stands: the first i of the order are in document d, and no document before it has each
 --     leap-first               before the first leap
 --     leap-stretch             the words that the next cursor seeks in
@@ -8,6 +9,7 @@
 -- Assumes nothing.
 use Prim.Native.Nat.{ℕ, ◌+◌, ◌-◌, ◌*◌, ◌<◌, ◌≤◌}
 use native.Mathlib.Omega.{arith}
+use Rattle.std.proofs.Common.{Some}
 use mathlib.Core.Path.{◌≡◌, refl, sym, ap, subst, ◌∙◌}
 use mathlib.Core.Logic.{◌⊎◌, ⊎_elim, ◌≢◌}
 use mathlib.Core.List.{List}
@@ -18,10 +20,14 @@ use Rattle.seq.proofs.Laws.Decides.{decided, eqb_decides}
 use Rattle.volume.specs.Posting.{doc_of, pos_of}
 use Rattle.volume.specs.Layout.{word}
 use Rattle.fulltext.specs.Positions.{limit}
-use Rattle.matcher.specs.Inner.Cursors.{seek_from, Stretch}
+use Rattle.block.specs.Bytes.{IsBytes}
+use Rattle.volume.specs.declared.posting.Posting.{Posting}
+use Rattle.volume.proofs.Laws.Stream.{word_lt}
+use Rattle.matcher.specs.declared.cursor.Reached.{Reached}
+use Rattle.matcher.specs.Inner.Cursors.{seek_from, Stretch, Arrived}
 use Rattle.matcher.specs.Inner.Order.{Order}
 use Rattle.search.specs.Inner.Walk.{Among, Has, Moved, Aligned}
-use Rattle.matcher.proofs.Laws.Cursors.{seek_ge, seek-le, seek-at, seek-below}
+use Rattle.matcher.proofs.Laws.Cursors.{seek_ge, seek-le, seek-at, seek-below, arrived-some}
 
 -- two numbers are the same or not
 same_or : (a b : ℕ) → (a ≡ b) ⊎ (a ≢ b)
@@ -34,6 +40,21 @@ moved_later v d r i j e h m = record { forward = m.forward; to = m.to; passed = 
 -- a cursor at i, of a list that ends at e, stands in document d, at position q
 abbrev In : List ℕ → ℕ → ℕ → ℕ → ℕ → Type 0
 In v d i e q = (i < e) × ((doc_of (word v i) ≡ d) × (q ≡ pos_of (word v i)))
+
+-- a cursor has come to the posting at stream index `at`, in front of e: its position and its document
+pub record Came (v : List ℕ) (e at q d : ℕ) : Type 0 where
+  pub inside : at < e
+  pub pos-is : q ≡ pos_of (word v at)
+  pub doc-is : doc_of (word v at) ≡ d
+  pub small : d ≤ 65535
+
+pub came : (v : List ℕ) → IsBytes v → {target i e : ℕ} {r : Reached} {p : Posting} → Arrived v target i e r → r.posting ≡ Some p
+    → (q d : ℕ) → q ≡ pos_of p.bits → d ≡ doc_of p.bits → Came v e r.at q d
+came v bytes {target} {i} {e} {r} {p} a h q d x y =
+    let there = arrived-some a h in
+    let w = word_lt v r.at bytes in
+    let b = there.1 in
+    record { inside = there.0; pos-is = x ∙ ap pos_of b; doc-is = sym (y ∙ ap doc_of b); small = omega arith }
 
 module _ (v order ends olds ps₀ : List ℕ) (first n doc : ℕ) where
   pub record Leaping (d i : ℕ) (ats ps : List ℕ) : Type 0 where

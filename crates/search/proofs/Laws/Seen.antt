@@ -31,10 +31,10 @@ use Rattle.matcher.specs.declared.cursor.Cursor.{Cursor}
 use Rattle.fulltext.specs.Positions.{limit}
 use Rattle.fulltext.specs.Documents.{found, matching, work_of, work}
 use Rattle.fulltext.proofs.Laws.Skips.{matching-none}
-use Rattle.matcher.specs.Inner.Cursors.{seek_from, sought, Stretch, list_end, list_cursor, Stands, AtDocument}
+use Rattle.matcher.specs.Inner.Cursors.{no_cursor, ats_of, ends_of, seek_from, sought, Stretch, list_end, list_cursor, Stands, AtDocument}
 use Rattle.plan.specs.Inner.Outline.{no_outline, Tabled}
 use Rattle.matcher.specs.Inner.Tables.{var_at, Placed, Cursors}
-use Rattle.matcher.proofs.Laws.Cursors.{seek_ge, seek-le, seek-below}
+use Rattle.matcher.proofs.Laws.Cursors.{seek_ge, seek-le, seek-below, ats-at, ends-at}
 use Rattle.matcher.proofs.Laws.Volume.{list-stretch}
 use Rattle.plan.proofs.Laws.Outline.{vars-within}
 use Rattle.plan.specs.Inner.Stack.{found_bits}
@@ -70,8 +70,11 @@ pub tabled-part : (p : List ℕ) (table : List Outline) (n : ℕ) → n ≡ (siz
 tabled-part p table n e t k h = rw (get_or-take n table k no_outline (omega arith)) (t k h)
 
 -- the part of the cursors that has one for each variable
-pub cursors-part : (v p : List ℕ) (d : ℕ) (ats ends : List ℕ) (n : ℕ) → n ≡ (sizes p).vars → Cursors v p d ats ends → Cursors v p d (take n ats) ends
-cursors-part v p d ats ends n e c x h = rw (get_or-take n ats x 0 (omega arith)) (c x h)
+pub cursors-part : (v p : List ℕ) (d : ℕ) (cs : List Cursor) (n : ℕ) → n ≡ (sizes p).vars → Cursors v p d (ats_of cs) (ends_of cs)
+    → Cursors v p d (ats_of (take n cs)) (ends_of (take n cs))
+cursors-part v p d cs n e c x h =
+    let t = get_or-take n cs x no_cursor (omega arith) in
+    rw (ats-at (take n cs) x, ends-at (take n cs) x, t) (rw (ats-at cs x, ends-at cs x) at (c x h))
 
 -- whether a document is true
 pub seen_true : (v p : List ℕ) (bits doc : ℕ) (r : Bool) → ((found : Pattern → Bool) → bits ≡ found_bits found p → r ≡ answer found (rows_of p)) → bits ≡ found_bits (found (lists_of v) doc) p → (work v p).is_true doc ≡ r

@@ -11,7 +11,9 @@ use Rattle.plan.proofs.Laws.Stack.{found-small, remembers-first, remembers-next}
 use Rattle.fulltext.specs.Positions.{limit}
 use Rattle.fulltext.specs.Documents.{work}
 use Rattle.fulltext.proofs.Laws.Counts.{work-even}
-use Rattle.matcher.specs.Inner.Cursors.{sought}
+use Rattle.matcher.specs.Inner.Cursors.{sought, ats_of, ends_of}
+use Rattle.search.specs.Inner.Walk.{Visited}
+use Rattle.matcher.proofs.Laws.Cursors.{length-ats}
 use Rattle.matcher.proofs.Laws.Blocks.{blocks-whole}
 use Rattle.search.proofs.Laws.Loop.{Progress, same_size}
 use Rattle.search.proofs.Laws.Seen.{at-document, starts-stretch, block-first, walking-first, seen_true}
@@ -34,21 +36,27 @@ few : (c : Start)
     × (row_words (sizes c.args.plan.now).patterns (sizes c.args.plan.now).vars ≤ most_row_words)
 few c = visit-few _ _ _ _ _ c.requires.walks
 
+-- what is seen of the next document, with the ends of all variables' lists
+visited : (c : In-Some) → let a = c.args in
+    Visited a.volume.now a.plan.now (ends_of a.firsts.now) c.loop-seen.from c.in-Some.seen (ats_of c.visit.new.cursors) c.visit.new.positions c.visit.new.docs
+    c.seek-starts.result
+visited c = rw c.loop-seen.invariant.1.1.0 at c.in-Some.ensures.visited
+
 -- the rows laid when the next document is reached, or the end
 reached : (c : In-Some) →
     Progress (work c.args.volume.now c.args.plan.now) c.args.start c.args.out.now c.in-Some.seen.doc c.loop-seen.rows c.loop-seen.out
-reached c = visit-reached _ _ _ _ _ _ _ _ _ _ _ c.in-Some.ensures.visited _ _ c.loop-seen.invariant.0.progress
+reached c = visit-reached _ _ _ _ _ _ _ _ _ _ _ (visited c) _ _ c.loop-seen.invariant.0.progress
 
 ended : (c : In_default) → Progress (work c.args.volume.now c.args.plan.now) c.args.start c.args.out.now limit c.loop-seen.rows c.loop-seen.out
-ended c = visit-reached _ _ _ _ _ _ _ _ _ _ _ (rw c.in_default.is at c.visit.ensures.visited) _ _ c.loop-seen.invariant.0.progress
+ended c = visit-reached _ _ _ _ _ _ _ _ _ _ _ (rw (c.in_default.is, c.loop-seen.invariant.1.1.0) at c.visit.ensures.visited) _ _ c.loop-seen.invariant.0.progress
 
 -- the arrays keep their lengths
 docs-size : (c : After-visit) →
     length c.visit.new.docs ≡ length (take (length c.args.table.now) c.loop-seen.docs)
 docs-size c = c.visit.auto.docs
 
-ats-size : (c : After-visit) → length c.visit.new.ats ≡ length c.args.ats.now
-ats-size c = c.visit.auto.ats ∙ c.loop-seen.invariant.1.1.0
+ends_same : (c : After-visit) → ends_of c.visit.new.cursors ≡ ends_of c.args.firsts.now
+ends_same c = c.visit.ensures.ends_unchanged ∙ c.loop-seen.invariant.1.1.0
 
 positions-size : (c : After-visit)
     → length c.visit.new.positions ≡ length c.args.positions.now
@@ -102,12 +110,12 @@ loop-seen-init c =
     let s = c.starts_of-list.ensures in
     let at = c.seek-starts.ensures.value ∙ ap (sought c.args.volume.now (c.args.start * 65536)) s in (
       visiting-first _ _ _ _ _ _ _ _ _ low
-          (walking-first _ _ _ _ _ p.walks _ c.args.firsts.now _ _ _ low (omega arith) p.plan_in_bounds p.cursors
-          p.ats_value
+          (walking-first _ _ _ _ _ p.walks _ (ats_of c.args.firsts.now) _ _ _ low (omega (arith, length-ats c.args.firsts.now)) p.plan_in_bounds p.firsts
+          (ap ats_of p.cursors_value)
           (length-take-le (length c.args.table.now) _ (omega arith) ∙ m) _ at),
       (
         refl,
-        (refl, (refl, (remembers-first c.args.plan.now most_found_sets, (refl, (refl, block-first _ _ _ _ _ p.walks _ _ at))))),
+        (ap ends_of p.cursors_value, (refl, (remembers-first c.args.plan.now most_found_sets, (refl, (refl, block-first _ _ _ _ _ p.walks _ _ at))))),
       ),
     )
 
@@ -133,31 +141,25 @@ visit-requires c =
     let m = (given _ _ c.requires.walks.accepted).most-vars in
     let l = c.loop-seen.invariant.1.1.1.1.1.1.0 in
     record {
-      walks = c.requires.walks;
-      walking = c.loop-seen.invariant.0.walking;
+      walks = rw c.loop-seen.invariant.1.1.0 c.requires.walks;
+      walking = rw c.loop-seen.invariant.1.1.0 c.loop-seen.invariant.0.walking;
       plan_in_bounds = omega arith;
     }
 
 pub tally-tally-requires : goal.tally-tally-requires
 tally-tally-requires c =
     let p = c.requires in
-    let e = p.firsts_len in
-    let r = p.walks.ends-room in
     let d = p.start_bound in
     record {
       accepted = p.walks.accepted;
-      ats_len = e;
-      ats_in_bounds = omega arith;
+      firsts_len = p.firsts_len;
       start_le_doc = omega arith;
       doc_bound = omega arith;
-      cursors = p.cursors;
+      cursors = p.firsts;
     }
 
 pub overflow_cast-result : goal.overflow_cast-result
 overflow_cast-result c = let n = visit-rows _ _ _ _ _ _ _ (ended (goal.at.overflow_cast-result c).In_default) in omega arith
-
-pub shape_of-ats-in_default : goal.shape_of-ats-in_default
-shape_of-ats-in_default c = ats-size (goal.at.shape_of-ats-in_default c).After-visit
 
 pub shape_of-positions-in_default : goal.shape_of-positions-in_default
 shape_of-positions-in_default c = positions-size (goal.at.shape_of-positions-in_default c).After-visit
@@ -198,34 +200,28 @@ pub loop-seen-preserved-then-not-answer_of : goal.loop-seen-preserved-then-not-a
 loop-seen-preserved-then-not-answer_of c =
     let within = c.loop-seen.invariant.1.1.1.1.1.1.1 in (
       visiting-part _ _ _ _ _ _ _ _ _ _ _ _ _ _ (many (goal.at.loop-seen-preserved-then-not-answer_of c).Start)
-          (visit-passed _ _ _ _ _ _ _ _ _ _ _ c.in-Some.ensures.visited _ _ c.loop-seen.invariant.0.progress c.in-Some.ensures.document
+          (visit-passed _ _ _ _ _ _ _ _ _ _ _ (visited (goal.at.loop-seen-preserved-then-not-answer_of c).In-Some) _ _ c.loop-seen.invariant.0.progress c.in-Some.ensures.document
           (told (goal.at.loop-seen-preserved-then-not-answer_of c).After-answer_of ∙ c.if-not-answer_of.true)),
       (
         part_length c.loop-seen.docs c.visit.new.docs (length c.args.table.now)
             most_patterns (docs-size (goal.at.loop-seen-preserved-then-not-answer_of c).After-visit) c.loop-seen.invariant.1.0,
-        (ats-size (goal.at.loop-seen-preserved-then-not-answer_of c).After-visit, (known-size (goal.at.loop-seen-preserved-then-not-answer_of c).After-answer_of, (remembers (goal.at.loop-seen-preserved-then-not-answer_of c).After-answer_of, (positions-size (goal.at.loop-seen-preserved-then-not-answer_of c).After-visit, (paras-size (goal.at.loop-seen-preserved-then-not-answer_of c).After-visit, within))))),
+        (ends_same (goal.at.loop-seen-preserved-then-not-answer_of c).After-visit, (known-size (goal.at.loop-seen-preserved-then-not-answer_of c).After-answer_of, (remembers (goal.at.loop-seen-preserved-then-not-answer_of c).After-answer_of, (positions-size (goal.at.loop-seen-preserved-then-not-answer_of c).After-visit, (paras-size (goal.at.loop-seen-preserved-then-not-answer_of c).After-visit, within))))),
       ),
     )
 
 pub tally-tally-requires-then-rows-room : goal.tally-tally-requires-then-rows-room
 tally-tally-requires-then-rows-room c =
     let p = c.requires in
-    let e = p.firsts_len in
-    let r = p.walks.ends-room in
     record {
       accepted = p.walks.accepted;
-      ats_len = e;
-      ats_in_bounds = omega arith;
+      firsts_len = p.firsts_len;
       start_le_doc = (reached (goal.at.tally-tally-requires-then-rows-room c).In-Some).from;
       doc_bound = c.in-Some.ensures.visited.most;
-      cursors = p.cursors;
+      cursors = p.firsts;
     }
 
 pub overflow_cast-result-then-rows-room : goal.overflow_cast-result-then-rows-room
 overflow_cast-result-then-rows-room c = let n = visit-rows _ _ _ _ _ _ _ (reached (goal.at.overflow_cast-result-then-rows-room c).In-Some) in omega arith
-
-pub shape_of-ats-then-rows-room : goal.shape_of-ats-then-rows-room
-shape_of-ats-then-rows-room c = ats-size (goal.at.shape_of-ats-then-rows-room c).After-visit
 
 pub shape_of-positions-then-rows-room : goal.shape_of-positions-then-rows-room
 shape_of-positions-then-rows-room c = positions-size (goal.at.shape_of-positions-then-rows-room c).After-visit
@@ -252,9 +248,9 @@ write_row-block-requires c =
     let walking = c.loop-seen.invariant.0.walking in
     let w = wide (goal.at.write_row-block-requires c).After-row_words-width in
     -- the row has as many words as a row of the plan
-    let l = visit-wide _ _ _ _ _ c.requires.walks _ _ _ _ _ _ c.in-Some.ensures.visited c.in-Some.ensures.document _ (many (goal.at.write_row-block-requires c).Start) in
+    let l = visit-wide _ _ _ _ _ c.requires.walks _ _ _ _ _ _ (visited (goal.at.write_row-block-requires c).In-Some) c.in-Some.ensures.document _ (many (goal.at.write_row-block-requires c).Start) in
     let r = visit-room _ _ _ _ _ _ c.loop-seen.rows _ w c.loop-seen.invariant.0.progress (λ e. omega arith) in
-    let reach = (c.in-Some.ensures.visited.walking c.in-Some.ensures.document).positions-room in
+    let reach = ((visited (goal.at.write_row-block-requires c).In-Some).walking c.in-Some.ensures.document).positions-room in
     let m = many (goal.at.write_row-block-requires c).Start in
     let t = c.requires.walks.table-length in record {
       accepted = (given _ _ c.requires.walks.accepted).volume-accepted;
@@ -262,7 +258,7 @@ write_row-block-requires c =
       whole = rw c.blocks_of-blocks.ensures (blocks-whole _);
       block_bound = c.loop-seen.invariant.1.1.1.1.1.1.1;
       by_index = λ k h. let v = walk-within _ _ _ _ _ c.requires.walks k (omega arith) in omega arith;
-      by_index_2 = visit-small _ _ _ _ _ c.requires.walks _ _ _ _ _ _ c.in-Some.ensures.visited c.in-Some.ensures.document _ (many (goal.at.write_row-block-requires c).Start);
+      by_index_2 = visit-small _ _ _ _ _ c.requires.walks _ _ _ _ _ _ (visited (goal.at.write_row-block-requires c).In-Some) c.in-Some.ensures.document _ (many (goal.at.write_row-block-requires c).Start);
       row_in_bounds = omega arith;
     }
 
@@ -279,12 +275,12 @@ pub loop-seen-preserved : goal.loop-seen-preserved
 loop-seen-preserved c =
     let wrote = c.write_row-block.ensures in (
       visiting-part _ _ _ _ _ _ _ _ _ _ _ _ _ _ (many (goal.at.loop-seen-preserved c).Start)
-          (visit-put _ _ _ _ _ _ _ _ _ _ _ c.in-Some.ensures.visited _ _ c.loop-seen.invariant.0.progress c.in-Some.ensures.document
+          (visit-put _ _ _ _ _ _ _ _ _ _ _ (visited (goal.at.loop-seen-preserved c).In-Some) _ _ c.loop-seen.invariant.0.progress c.in-Some.ensures.document
           (told (goal.at.loop-seen-preserved c).After-answer_of ∙ c.if-not-answer_of.false) _ (wide (goal.at.loop-seen-preserved c).After-row_words-width)
           (λ e. omega arith) _ _ c.requires.walks _ (many (goal.at.loop-seen-preserved c).Start) _ wrote.out_after),
       (
         part_length c.loop-seen.docs c.visit.new.docs (length c.args.table.now)
             most_patterns (docs-size (goal.at.loop-seen-preserved c).After-visit) c.loop-seen.invariant.1.0,
-        (ats-size (goal.at.loop-seen-preserved c).After-visit, (known-size (goal.at.loop-seen-preserved c).After-answer_of, (remembers (goal.at.loop-seen-preserved c).After-answer_of, (positions-size (goal.at.loop-seen-preserved c).After-visit, (paras-size (goal.at.loop-seen-preserved c).After-visit, wrote.result_bound))))),
+        (ends_same (goal.at.loop-seen-preserved c).After-visit, (known-size (goal.at.loop-seen-preserved c).After-answer_of, (remembers (goal.at.loop-seen-preserved c).After-answer_of, (positions-size (goal.at.loop-seen-preserved c).After-visit, (paras-size (goal.at.loop-seen-preserved c).After-visit, wrote.result_bound))))),
       ),
     )

@@ -5,14 +5,15 @@ use mathlib.Core.Path.{◌≡◌}
 use lib.ListN.{length, take}
 use Rattle.plan.specs.Limits.{most_patterns, most_vars}
 use Rattle.volume.specs.Layout.{stream_length}
+use Rattle.matcher.specs.Inner.Cursors.{ats_of, ends_of}
 use Rattle.plan.specs.Inner.Stack.{most_found_sets, Remembers}
 use Rattle.search.proofs.Laws.Visits.{Visiting}
 use Rattle.search.proofs.listing.list_docs.Given as goal
 
 abbrev pub invariant-loop-seen : goal.invariant-loop-seen
-invariant-loop-seen l = Visiting l.volume l.plan l.ends l.start l.initial.out l.ats l.positions (take l.patterns l.docs) l.out l.from l.rows l.starts
+invariant-loop-seen l = Visiting l.volume l.plan (ends_of l.firsts) l.start l.initial.out (ats_of l.cursors) l.positions (take l.patterns l.docs) l.out l.from l.rows l.starts
     × ((length l.docs ≡ most_patterns)
-    × ((length l.ats ≡ length l.initial.ats)
+    × ((ends_of l.cursors ≡ ends_of l.firsts)
     × ((length l.known ≡ most_found_sets)
     × (Remembers l.plan l.known
     × ((length l.positions ≡ length l.initial.positions) × ((length l.paras ≡ most_vars) × (126 * l.block ≤ stream_length l.volume)))))))

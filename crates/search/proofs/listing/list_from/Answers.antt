@@ -7,6 +7,7 @@ use lib.Seq.{length-take-le}
 use Rattle.plan.specs.Limits.{most_patterns, most_vars}
 use Rattle.plan.specs.Check.{sizes}
 use Rattle.plan.proofs.Laws.Accepted.{given}
+use Rattle.matcher.proofs.Laws.Cursors.{length-ends}
 use Rattle.search.proofs.Laws.Orders.{ordered}
 use Rattle.search.proofs.Laws.Seen.{tabled-part, cursors-part}
 use Rattle.search.proofs.listing.list_from.Goals as goal
@@ -26,8 +27,8 @@ few c =
 table-size : (c : After-lay_out) → length c.lay_out.new.table ≡ most_patterns
 table-size c = c.lay_out.auto.table
 
-firsts-size : (c : After-set_cursors) → length c.set_cursors.new.ats ≡ most_vars
-firsts-size c = c.set_cursors.auto.ats
+firsts-size : (c : After-set_cursors) → length c.set_cursors.new.cursors ≡ most_vars
+firsts-size c = c.set_cursors.auto.cursors
 
 -- the outlines of the plan's patterns
 table-length : (c : After-lay_out) → length (take c.args.patterns c.lay_out.new.table) ≡ (sizes c.args.plan.now).patterns
@@ -61,7 +62,6 @@ set_cursors-requires c =
       table_len = table-length (goal.at.set_cursors-requires c).After-lay_out;
       start_bound = p.start_bound;
       most_vars_in_bounds = omega arith;
-      most_vars_in_bounds_2 = omega arith;
     }
 
 pub set_orders-requires : goal.set_orders-requires
@@ -80,34 +80,45 @@ slice_bounds-firsts-end c =
     let t = firsts-size (goal.at.slice_bounds-firsts-end c).After-set_cursors in
     omega arith
 
-pub slice_bounds-ats-end : goal.slice_bounds-ats-end
-slice_bounds-ats-end c =
-    let m = (few (goal.at.slice_bounds-ats-end c).Start).1 in
-    let t = firsts-size (goal.at.slice_bounds-ats-end c).After-set_cursors in
+pub slice_bounds-cursors-end : goal.slice_bounds-cursors-end
+slice_bounds-cursors-end c =
+    let m = (few (goal.at.slice_bounds-cursors-end c).Start).1 in
+    let t = firsts-size (goal.at.slice_bounds-cursors-end c).After-set_cursors in
     omega arith
+
+pub slice_bounds-list_docs-end-2 : goal.slice_bounds-list_docs-end-2
+slice_bounds-list_docs-end-2 c =
+    let m = (few (goal.at.slice_bounds-list_docs-end-2 c).Start).1 in
+    let t = firsts-size (goal.at.slice_bounds-list_docs-end-2 c).After-set_cursors in
+    sym (length-take-le c.args.vars _ (omega arith))
+
+pub slice_bounds-list_docs-end-3 : goal.slice_bounds-list_docs-end-3
+slice_bounds-list_docs-end-3 c =
+    let m = (few (goal.at.slice_bounds-list_docs-end-3 c).Start).1 in
+    let t = firsts-size (goal.at.slice_bounds-list_docs-end-3 c).After-set_cursors in
+    sym (length-take-le c.args.vars _ (omega arith))
 
 pub list_docs-requires : goal.list_docs-requires
 list_docs-requires c =
     let p = c.requires in
-    let e = p.patterns_value in
     let f = p.vars_value in
-    let m = few (goal.at.list_docs-requires c).Start in
-    let many = m.1 in
+    let many = (few (goal.at.list_docs-requires c).Start).1 in
     let r = firsts-size (goal.at.list_docs-requires c).After-set_cursors in
-    let g = c.set_cursors.auto.ends in
-    let firsts : length (take c.args.vars c.set_cursors.new.ats) ≡ c.args.vars = length-take-le c.args.vars _ (omega arith) in
+    let firsts = take c.args.vars c.set_cursors.new.cursors in
+    let n : length firsts ≡ c.args.vars = length-take-le c.args.vars _ (omega arith) in
+    let e = length-ends firsts in
     record {
       walks = record {
         accepted = p.accepted;
-        tabled = tabled-part _ _ _ e c.lay_out.ensures;
+        tabled = tabled-part _ _ _ p.patterns_value c.lay_out.ensures;
         table-length = table-length (goal.at.list_docs-requires c).After-lay_out;
         ends-room = omega arith;
         ordered = ordered _ _ _ c.set_orders.ensures.rarest_each;
       };
-      firsts_len = firsts ∙ f;
+      firsts_len = n ∙ f;
       start_bound = p.start_bound;
-      cursors = cursors-part _ _ _ c.set_cursors.new.ats c.set_cursors.new.ends _ f c.set_cursors.ensures;
-      ats_value = refl;
+      firsts = cursors-part _ _ _ c.set_cursors.new.cursors _ f c.set_cursors.ensures;
+      cursors_value = refl;
       plan_in_bounds = omega arith;
       plan_in_bounds_2 = omega arith;
     }

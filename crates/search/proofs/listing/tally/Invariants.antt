@@ -1,6 +1,6 @@
--- The loop's invariant: `sum` is the postings of the first x variables (`Tallied`).
+-- The loop's invariant: `sum` is the postings of the variables in front (`Tallied`).
 use Rattle.search.proofs.Laws.Tally.{Tallied}
 use Rattle.search.proofs.listing.tally.Given as goal
 
-abbrev pub invariant-loop-x : goal.invariant-loop-x
-invariant-loop-x l = Tallied l.volume l.plan l.start l.doc l.sum l.x
+abbrev pub invariant-loop-cursor : goal.invariant-loop-cursor
+invariant-loop-cursor l = Tallied l.volume l.plan l.start l.doc l.sum l.cursor-index

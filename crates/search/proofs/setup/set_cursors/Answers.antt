@@ -9,7 +9,9 @@ use Rattle.plan.specs.Check.{sizes}
 use Rattle.plan.specs.Inner.Outline.{vars_before, outline_at}
 use Rattle.plan.proofs.Laws.Accepted.{given}
 use Rattle.plan.proofs.Laws.Outline.{vars_before-next, outlined}
+use Rattle.matcher.specs.Inner.Cursors.{ats_of, ends_of}
 use Rattle.matcher.specs.Inner.Tables.{var_at, cursor_on}
+use Rattle.matcher.proofs.Laws.Cursors.{length-ats, length-ends, ats-set, ends-set}
 use Rattle.matcher.proofs.Laws.Placed.{Voiced, voiced-list}
 use Rattle.matcher.proofs.Laws.Placed.{placing-first, placing_as, placing-next, placing-done}
 use Rattle.search.proofs.Laws.Setup.{used-within, voice-at, voice-few, voice-place}
@@ -67,7 +69,7 @@ list_starts-requires c =
 pub loop-outline-init : goal.loop-outline-init
 loop-outline-init c =
     let a = c.args in
-    placing-first a.volume.now a.plan.now a.start a.ats.now a.ends.now
+    placing-first a.volume.now a.plan.now a.start (ats_of a.cursors.now) (ends_of a.cursors.now)
 
 pub overflow_sub-row : goal.overflow_sub-row
 overflow_sub-row c = let o = (outlined c.args.table.now c.requires.tabled c.loop-outline.outline-index (omega arith) refl).room in omega arith
@@ -77,8 +79,9 @@ loop-i-init c =
     let l = c.loop-outline in
     let a = c.args in
     let p = a.plan.now in
-    placing_as a.volume.now p a.start (length a.ats.now) (length a.ends.now) (vars_before p l.outline-index) (length l.ats) (length l.ends)
-    (vars_before p l.outline-index + 0) l.ats l.ends l.invariant (sym l.invariant.same_ats) (sym l.invariant.same_ends) (omega arith)
+    placing_as a.volume.now p a.start (length (ats_of a.cursors.now)) (length (ends_of a.cursors.now)) (vars_before p l.outline-index)
+    (length (ats_of l.cursors)) (length (ends_of l.cursors)) (vars_before p l.outline-index + 0) (ats_of l.cursors) (ends_of l.cursors) l.invariant
+    (sym l.invariant.same_ats) (sym l.invariant.same_ends) (omega arith)
 
 pub overflow_add-row : goal.overflow_add-row
 overflow_add-row c =
@@ -105,15 +108,15 @@ read c =
 pub slice_bounds-cursor_on-end : goal.slice_bounds-cursor_on-end
 slice_bounds-cursor_on-end c = sym c.list_starts.ensures.starts_len_unchanged
 
-pub cursor_on-cursor-requires : goal.cursor_on-cursor-requires
-cursor_on-cursor-requires c =
+pub cursor_on-requires : goal.cursor_on-requires
+cursor_on-requires c =
     let begun = c.list_starts.ensures in
     let g = given _ _ c.requires.accepted in
-    let t = turn (goal.at.cursor_on-cursor-requires c).In-loop-i in
-    let p = place (goal.at.cursor_on-cursor-requires c).In-loop-i in
-    let list = read (goal.at.cursor_on-cursor-requires c).After-list_at-list in
+    let t = turn (goal.at.cursor_on-requires c).In-loop-i in
+    let p = place (goal.at.cursor_on-requires c).In-loop-i in
+    let list = read (goal.at.cursor_on-requires c).After-list_at-list in
     let above = c.lists_used-used.ensures.above _ p.1 in
-    let few = few-used (goal.at.cursor_on-cursor-requires c).After-lists_used-used in record {
+    let few = few-used (goal.at.cursor_on-requires c).After-lists_used-used in record {
       accepted = g.volume-accepted;
       list_bound = rw list t.there;
       list_in_bounds = omega arith;
@@ -121,31 +124,29 @@ cursor_on-cursor-requires c =
       list_value_2 = begun.by_index _ (omega arith);
     }
 
-pub overflow_add-ats : goal.overflow_add-ats
-overflow_add-ats c = let t = room (goal.at.overflow_add-ats c).In-loop-i in omega arith
+pub overflow_add-outline : goal.overflow_add-outline
+overflow_add-outline c = let t = room (goal.at.overflow_add-outline c).In-loop-i in omega arith
 
-pub offset_bounds-ats-outline : goal.offset_bounds-ats-outline
-offset_bounds-ats-outline c = let t = room (goal.at.offset_bounds-ats-outline c).In-loop-i in omega arith
-
-pub bounds-ats-outline : goal.bounds-ats-outline
-bounds-ats-outline c =
-    let t = room (goal.at.bounds-ats-outline c).In-loop-i in
+-- there is a cursor for the variable
+reach : (c : In-loop-i) → let x = (outline_at c.args.table.now c.loop-outline.outline-index).first + c.loop-i.i in
+    (x < length c.loop-i.cursors) × ((x < length (ats_of c.loop-outline.cursors)) × (x < length (ends_of c.loop-outline.cursors)))
+reach c =
+    let t = room c in
     let w = c.requires.most_vars_in_bounds in
     let l = c.loop-i.invariant.same_ats ∙ c.loop-outline.invariant.same_ats in
-    omega arith
+    let m = c.loop-i.invariant.same_ends ∙ c.loop-outline.invariant.same_ends in
+    let a = length-ats c.args.cursors.now in
+    let b = length-ats c.loop-i.cursors in
+    let d = length-ends c.args.cursors.now in
+    let e = c.loop-outline.invariant.same_ats in
+    let f = c.loop-outline.invariant.same_ends in
+    (omega arith, (omega arith, omega arith))
 
-pub overflow_add-ends : goal.overflow_add-ends
-overflow_add-ends c = let t = room (goal.at.overflow_add-ends c).In-loop-i in omega arith
+pub offset_bounds-cursors-outline : goal.offset_bounds-cursors-outline
+offset_bounds-cursors-outline c = let t = room (goal.at.offset_bounds-cursors-outline c).In-loop-i in omega arith
 
-pub offset_bounds-ends-outline : goal.offset_bounds-ends-outline
-offset_bounds-ends-outline c = let t = room (goal.at.offset_bounds-ends-outline c).In-loop-i in omega arith
-
-pub bounds-ends-outline : goal.bounds-ends-outline
-bounds-ends-outline c =
-    let t = room (goal.at.bounds-ends-outline c).In-loop-i in
-    let w = c.requires.most_vars_in_bounds_2 in
-    let l = c.loop-i.invariant.same_ends ∙ c.loop-outline.invariant.same_ends in
-    omega arith
+pub bounds-cursors-outline : goal.bounds-cursors-outline
+bounds-cursors-outline c = let t = reach (goal.at.bounds-cursors-outline c).In-loop-i in omega arith
 
 pub loop-i-preserved : goal.loop-i-preserved
 loop-i-preserved c =
@@ -153,17 +154,14 @@ loop-i-preserved c =
     let outer = c.loop-outline in
     let a = c.args in
     let v = a.volume.now in
-    let t = room (goal.at.loop-i-preserved c).In-loop-i in
+    let t = reach (goal.at.loop-i-preserved c).In-loop-i in
     let p = place (goal.at.loop-i-preserved c).In-loop-i in
-    let ats-same = outer.invariant.same_ats in
-    let ends_same = outer.invariant.same_ends in
     let x = vars_before a.plan.now outer.outline-index + l.i in
     let list = read (goal.at.loop-i-preserved c).After-list_at-list in
     let e : x + 1 ≡ vars_before a.plan.now outer.outline-index + (l.i + 1) = omega arith in
-    let next = placing-next v a.plan.now a.start (length outer.ats) (length outer.ends) l.ats l.ends x l.invariant in
-    let seeks = c.cursor_on-cursor.ensures ∙ ap (λ (list : ℕ). cursor_on v list a.start) list in
-    rw (p.0, ← e)
-    (next (omega (arith, t, p, c.requires.most_vars_in_bounds, ats-same)) (omega (arith, t, p, c.requires.most_vars_in_bounds_2, ends_same)) c.cursor_on-cursor.result seeks)
+    let next = placing-next v a.plan.now a.start (length (ats_of outer.cursors)) (length (ends_of outer.cursors)) (ats_of l.cursors) (ends_of l.cursors) x l.invariant in
+    let seeks = c.cursor_on.ensures ∙ ap (λ (list : ℕ). cursor_on v list a.start) list in
+    rw (p.0, ← e, ats-set l.cursors x _, ends-set l.cursors x _) (next (omega (arith, t, p)) (omega (arith, t, p)) c.cursor_on.result seeks)
 
 pub loop-outline-preserved : goal.loop-outline-preserved
 loop-outline-preserved c =
@@ -175,11 +173,13 @@ loop-outline-preserved c =
     let h : k < (sizes p).patterns = omega arith in
     let m = (outlined a.table.now c.requires.tabled k h refl).vars_are in
     let next = vars_before-next p k h in
-    placing_as a.volume.now p a.start (length outer.ats) (length outer.ends) (vars_before p k + l.i) (length a.ats.now) (length a.ends.now)
-    (vars_before p (k + 1)) l.ats l.ends l.invariant outer.invariant.same_ats outer.invariant.same_ends (omega arith)
+    placing_as a.volume.now p a.start (length (ats_of outer.cursors)) (length (ends_of outer.cursors)) (vars_before p k + l.i)
+    (length (ats_of a.cursors.now)) (length (ends_of a.cursors.now)) (vars_before p (k + 1)) (ats_of l.cursors) (ends_of l.cursors) l.invariant
+    outer.invariant.same_ats outer.invariant.same_ends (omega arith)
 
 pub returns : goal.returns
 returns c =
     let l = c.loop-outline in
     let a = c.args in
-    placing-done a.volume.now a.plan.now a.start (length a.ats.now) (length a.ends.now) l.ats l.ends l.outline-index l.invariant (omega arith)
+    placing-done a.volume.now a.plan.now a.start (length (ats_of a.cursors.now)) (length (ends_of a.cursors.now)) (ats_of l.cursors)
+    (ends_of l.cursors) l.outline-index l.invariant (omega arith)

@@ -1,11 +1,12 @@
 use Prim.Native.Nat.{◌<◌, ◌≤◌}
 use native.Mathlib.Omega.{arith}
-use mathlib.Core.Path.{◌≡◌}
+use mathlib.Core.Path.{◌≡◌, refl, ◌∙◌}
 use mathlib.Core.Bool.{true}
 use mathlib.Core.Logic.{◌⊎◌, inl, inr}
 use lib.ListN.{length, get_or}
 use Rattle.plan.specs.Check.{sizes}
 use Rattle.plan.specs.Inner.Outline.{outline_at}
+use Rattle.matcher.specs.Inner.Cursors.{ats_of}
 use Rattle.search.proofs.Laws.Walk.{walk-within, walk-few, walk_first, walk-order, walk-stretch, bringing-first, bringing-kept, bringing-due, bringing-next}
 use Rattle.search.proofs.walk.next_docs.Goals as goal
 use Rattle.search.proofs.walk.next_docs.Goals.{In-loop-k, Joined-else-not-fresh, else-not-fresh-via-then-not-fresh+else-doc-docs, else-not-fresh-via-else-not-fresh}
@@ -28,20 +29,22 @@ due c =
 
 pub loop-k-init : goal.loop-k-init
 loop-k-init c =
-    bringing-first _ _ _ _ _ _ _ _ c.requires.by_index
+    (bringing-first _ _ _ _ _ _ _ _ c.requires.by_index, refl)
 
 pub bounds-docs-k : goal.bounds-docs-k
 bounds-docs-k c =
     let r = c.requires.docs_len in
-    let l = c.loop-k.invariant.docs-length in
+    let l = c.loop-k.invariant.0.docs-length in
     let i = inside (goal.at.bounds-docs-k c).In-loop-k in
     omega arith
 
 pub loop-k-preserved-then-doc-docs : goal.loop-k-preserved-then-doc-docs
 loop-k-preserved-then-doc-docs c =
-    let l = c.loop-k in
-    bringing-kept _ _ _ _ _ _ _ _ l.ats l.positions l.docs l.k l.invariant (inside (goal.at.loop-k-preserved-then-doc-docs c).In-loop-k)
-    (c.if-not-fresh.true) c.if-doc-docs.true
+    let l = c.loop-k in (
+      bringing-kept _ _ _ _ _ _ _ _ (ats_of l.cursors) l.positions l.docs l.k l.invariant.0 (inside (goal.at.loop-k-preserved-then-doc-docs c).In-loop-k)
+          c.if-not-fresh.true c.if-doc-docs.true,
+      l.invariant.1,
+    )
 
 pub offset_bounds-orders-first : goal.offset_bounds-orders-first
 offset_bounds-orders-first c =
@@ -65,46 +68,43 @@ align-requires c =
     let i = inside (goal.at.align-requires c).In-loop-k in
     let t = walk-within _ _ _ _ _ w l.k i in
     let f = walk-few _ _ _ _ _ w l.k i in
-    let n = l.invariant.ats-length in
-    let m = l.invariant.positions-length in
+    let n = l.auto.cursors in
+    let m = l.invariant.0.positions-length in
     let r = c.requires.plan_in_bounds in
     let s = c.requires.plan_in_bounds_2 in
-    let e = w.ends-room in
-    let stood = bringing-due _ _ _ _ _ _ _ _ l.ats l.positions l.docs l.k l.invariant i (due (goal.at.align-requires c).Joined-else-not-fresh) in
+    let stood = bringing-due _ _ _ _ _ _ _ _ (ats_of l.cursors) l.positions l.docs l.k l.invariant.0 i (due (goal.at.align-requires c).Joined-else-not-fresh) in
     record {
       n_in_bounds = omega arith;
       n_in_bounds_2 = omega arith;
-      n_in_bounds_3 = omega arith;
       le_n = f.0;
       n_le_most_pattern_vars = f.1;
       doc_bound = c.requires.doc_bound;
       order = walk-order _ _ _ _ _ w l.k i;
-      by_index = walk-stretch _ _ _ _ _ w l.k i l.ats c.args.doc stood;
+      by_index = rw l.invariant.1 (walk-stretch _ _ _ _ _ w l.k i (ats_of l.cursors) c.args.doc stood);
     }
 
 pub bounds-docs-k-in-loop-k : goal.bounds-docs-k-in-loop-k
 bounds-docs-k-in-loop-k c =
     let r = c.requires.docs_len in
-    let l = c.loop-k.invariant.docs-length in
+    let l = c.loop-k.invariant.0.docs-length in
     let i = inside (goal.at.bounds-docs-k-in-loop-k c).In-loop-k in
     omega arith
 
 pub loop-k-preserved : goal.loop-k-preserved
 loop-k-preserved c =
     let l = c.loop-k in
-    let r = c.requires.docs_len in
-    bringing-next _ _ _ _ _ _ _ _ l.ats l.positions l.docs l.k l.invariant (inside (goal.at.loop-k-preserved c).In-loop-k) c.args.table.now
-    c.args.orders.now c.requires.walks (omega arith) c.align.result c.align.new.ats c.align.new.positions
-    (due (goal.at.loop-k-preserved c).Joined-else-not-fresh) c.align.ensures
-
-pub shape_of-ats : goal.shape_of-ats
-shape_of-ats c = c.loop-k.invariant.ats-length
+    let r = c.requires.docs_len in (
+      bringing-next _ _ _ _ _ _ _ _ (ats_of l.cursors) l.positions l.docs l.k l.invariant.0 (inside (goal.at.loop-k-preserved c).In-loop-k) c.args.table.now
+          c.args.orders.now c.requires.walks (omega arith) c.align.result (ats_of c.align.new.cursors) c.align.new.positions
+          (due (goal.at.loop-k-preserved c).Joined-else-not-fresh) (rw l.invariant.1 at c.align.ensures.aligned),
+      c.align.ensures.ends_unchanged ∙ l.invariant.1,
+    )
 
 pub shape_of-positions : goal.shape_of-positions
-shape_of-positions c = c.loop-k.invariant.positions-length
+shape_of-positions c = c.loop-k.invariant.0.positions-length
 
 pub shape_of-docs : goal.shape_of-docs
-shape_of-docs c = c.loop-k.invariant.docs-length
+shape_of-docs c = c.loop-k.invariant.0.docs-length
 
 pub returns : goal.returns
 returns c =
@@ -112,8 +112,11 @@ returns c =
     let w = c.requires.walks.table-length in
     let t = c.loop-k-test.false in
     record {
-      ats-length = l.invariant.ats-length;
-      positions-length = l.invariant.positions-length;
-      docs-length = l.invariant.docs-length;
-      each = λ k h. l.invariant.brought k (omega arith);
+      brought = record {
+        ats-length = l.invariant.0.ats-length;
+        positions-length = l.invariant.0.positions-length;
+        docs-length = l.invariant.0.docs-length;
+        each = λ k h. l.invariant.0.brought k (omega arith);
+      };
+      ends_unchanged = l.invariant.1;
     }
