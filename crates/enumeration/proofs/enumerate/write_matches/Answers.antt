@@ -38,7 +38,7 @@ loop-walk-init c =
 -- what was sought, by whether there is one
 sought : (m : After-next_match) (t : Bool) → m.next_match.result ≡ t
     → let a = m.args.pattern.now in
-    first (matches_from (lists_of a.volume.now) a.document.doc (form_of a) (take a.outline.vars m.loop-walk.walk.lows))
+    first (matches_from (lists_of a.query.volume.bytes.now) a.document.doc (form_of a) (take a.outline.vars m.loop-walk.walk.lows))
     ≡ given_if t (take a.outline.vars m.next_match.new.walk.positions)
 sought m t q =
     let n = m.args.pattern.now.outline.vars in
