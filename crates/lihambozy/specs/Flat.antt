@@ -4,7 +4,7 @@ use Rattle.std.proofs.Math.Option.{Option, none, some}
 use Rattle.seq.specs.Refusals.{Said, refused, answered}
 use Rattle.volume.specs.Answers.{Sizes}
 use Rattle.join.specs.Answers.{JoinSaid}
-use Rattle.plan.specs.Answers as planAnswers
+use Rattle.plan.specs.declared.answers.Sizes as plan
 use Rattle.plan.specs.declared.showing.Span.{Span}
 use Rattle.plan.specs.Limits.{most_pattern_vars}
 use Rattle.fulltext.specs.Positions.{limit}
@@ -51,7 +51,7 @@ abbrev pub flat_join : JoinSaid → JoinVolumesAnswer
 flat_join s = flat_joined s.volume s.said
 
 -- the answer of checking a plan
-abbrev pub flat_plan : Said planAnswers.Sizes → CheckPlanAnswer
+abbrev pub flat_plan : Said plan.Sizes → CheckPlanAnswer
 flat_plan (refused n p) = record { refusal = n; at = p; patterns = 0; vars = 0 }
 flat_plan (answered s) = record { refusal = 0; at = 0; patterns = s.patterns; vars = s.vars }
 

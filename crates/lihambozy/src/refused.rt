@@ -1,4 +1,5 @@
 // The number of each refusal, and its place.
+ghost use Rattle.std.specs.Prelude.{◌≡◌, ℕ, Err};
 ghost use Rattle.volume.specs.Answers as volumes;
 ghost use Rattle.plan.specs.Answers as plans;
 ghost use Rattle.lihambozy.specs.Flat.{IsRefusal};
@@ -31,7 +32,7 @@ impl Refused {
 }
 
 impl From<volume::Refusal> for Refused {
-    ghost from_gives = { λ why code. IsRefusal code (volumes.said_refusal why) };
+    ghost from_gives = { λ why code. IsRefusal code (volumes.said_refusal {A = ℕ} why) };
 
     fn from(why: volume::Refusal) -> Refused {
         let Code { number, at } = volume::code_of(why);
@@ -84,7 +85,7 @@ impl From<JoinError> for Refused {
 }
 
 impl From<plan::Refusal> for Refused {
-    ghost from_gives = { λ why code. IsRefusal code (plans.said_refusal why) };
+    ghost from_gives = { λ why code. IsRefusal code (plans.said_refusal {A = ℕ} why) };
 
     fn from(why: plan::Refusal) -> Refused {
         let Code { number, at } = plan::code_of(why);

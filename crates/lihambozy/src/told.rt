@@ -196,10 +196,12 @@ impl From<Result<Matches, MatchError>> for ListMatchesAnswer {
 
     fn from(matched: Result<Matches, MatchError>) -> ListMatchesAnswer {
         match matched {
-            Ok(Matches {
-                count: written,
-                next,
-            }) => ListMatchesAnswer {
+            Ok(
+                Matches {
+                    count: written,
+                    next,
+                },
+            ) => ListMatchesAnswer {
                 refusal: 0,
                 at: 0,
                 count: written,
