@@ -22,11 +22,11 @@ fn stand_from(
 ) -> bool
     requires sought { SoughtIn pattern.now }
     requires marked { let s = pattern.now in
-        Marked s.volume.now s.document.doc (form_of s) lows.now (ats_of marks.now) }
+        Marked s.query.volume.bytes.now s.document.doc (form_of s) lows.now (ats_of marks.now) }
     requires marks_end { ends_of marks.now ≡ ends_of pattern.now.firsts }
     requires here_end { ends_of here.old ≡ ends_of pattern.now.firsts }
     ensures stood_from { let s = pattern.now in
-        StoodFrom s.volume.now s.document.doc s.outline.vars (ends_of s.firsts) lows.now
+        StoodFrom s.query.volume.bytes.now s.document.doc s.outline.vars (ends_of s.firsts) lows.now
         (ats_of marks.now) result (ats_of here.new) positions.new }
     ensures ends_unchanged { ends_of here.new ≡ ends_of here.old }
     ensures positions_len_unchanged { length positions.new ≡ length positions.old }
@@ -34,7 +34,7 @@ fn stand_from(
     for &x in &pattern.order[..pattern.outline.vars] {
         here[x] = marks[x];
         if !jump(
-            pattern.volume,
+            pattern.query.volume.bytes,
             pattern.document.doc,
             x,
             lows[x],
@@ -56,10 +56,10 @@ pub fn match_held(pattern: &PatternInDocument, held: usize, walk: &mut Walk) -> 
     requires walking { Walking pattern.now walk.old }
     requires held_lt_vars { held < pattern.now.outline.vars }
     ensures held_match { let s = pattern.now in let n = s.outline.vars in
-        HeldMatch (lists_of s.volume.now) s.document.doc (form_of s) (take n walk.old.lows) held
-        result (take n walk.new.positions) }
+        HeldMatch (lists_of s.query.volume.bytes.now) s.document.doc (form_of s)
+        (take n walk.old.lows) held result (take n walk.new.positions) }
     ensures standing { let s = pattern.now in result ≡ true
-        → Standing s.volume.now s.document.doc (form_of s) (ats_of walk.new.here)
+        → Standing s.query.volume.bytes.now s.document.doc (form_of s) (ats_of walk.new.here)
         walk.new.positions }
     ensures lows_unchanged { walk.new.lows ≡ walk.old.lows }
     ensures marks_unchanged { walk.new.marks ≡ walk.old.marks }
@@ -79,8 +79,8 @@ pub fn match_held(pattern: &PatternInDocument, held: usize, walk: &mut Walk) -> 
         return false;
     }
     match_from(
-        pattern.volume,
-        pattern.plan,
+        pattern.query.volume.bytes,
+        pattern.query.plan,
         pattern.outline,
         pattern.document,
         held,

@@ -1,6 +1,5 @@
 // The call that writes the matches of a pattern in a document.
 ghost use Rattle.std.specs.Prelude.{◌≡◌, ℕ, ◌<◌, ◌≤◌, length, get_or};
-ghost use Rattle.plan.specs.Check.{Accepted, sizes};
 ghost use Rattle.plan.specs.Accepted.{pattern_at};
 ghost use Rattle.plan.specs.Inner.Outline.{Outlines};
 ghost use Rattle.matcher.specs.Inner.Shortfall.{InDocument};
@@ -15,26 +14,26 @@ use super::answers::{MatchError, Matches};
 use super::next::next_match;
 use super::walk::{PatternInDocument, Walk};
 use matcher::{Cursor, Document, in_document, rarest_first, starts_of};
-use plan::{MOST_PATTERN_VARS, MOST_PATTERNS, Outline, lay_out, list_at};
+use plan::{MOST_PATTERN_VARS, MOST_PATTERNS, Outline, Query, lay_out, list_at};
 use volume::{MAX_LISTS, Posting};
 
 // A cursor for each variable of a pattern, at its list's first posting in document `doc` or a later
 // one. One pass over the counts gives the starts of all lists.
-fn set_cursors(volume: &[u8], plan: &[u32], outline: Outline, doc: u32, cursors: &mut [Cursor])
-    requires accepted { Accepted volume.now plan.now }
-    requires pattern_bound { outline.pattern < (sizes plan.now).patterns }
-    requires outlines { Outlines plan.now outline }
+fn set_cursors(query: &Query, outline: Outline, doc: u32, cursors: &mut [Cursor])
+    requires pattern_bound { outline.pattern < query.now.sizes.patterns }
+    requires outlines { Outlines query.now.plan.now outline }
     requires vars_in_bounds { outline.vars ≤ length cursors.old }
-    ensures { (x : ℕ) → x < outline.vars
-        → get_or cursors.new x no_cursor
-        ≡ cursor_on volume.now (get_or (pattern_at plan.now outline.pattern).vars x 0) doc }
+    ensures { let q = query.now in let form = pattern_at q.plan.now outline.pattern in
+        (x : ℕ) → x < outline.vars
+        → get_or cursors.new x no_cursor ≡ cursor_on q.volume.bytes.now (get_or form.vars x 0) doc }
 {
+    let volume = query.volume.bytes;
     let mut starts: [usize; MAX_LISTS + 1] = [0; MAX_LISTS + 1];
     let lists = volume::word_at(volume, 1) as usize;
-    volume::list_starts(volume, lists, &mut starts);
+    query.volume.list_starts(lists, &mut starts);
     let row = outline.condition - outline.vars;
     for x in 0..outline.vars {
-        let list = list_at(plan, row + x) as usize;
+        let list = list_at(query.plan, row + x) as usize;
         let first = Cursor {
             at: starts[list],
             end: starts[list + 1],
@@ -62,7 +61,7 @@ fn write_matches(pattern: &PatternInDocument, from: &[u32], out: &mut [u32]) -> 
     requires in_document { InDocument from.now }
     requires vars_in_bounds { pattern.now.outline.vars ≤ length out.old }
     ensures { let s = pattern.now in
-        Kept s.volume.now s.plan.now s.outline.pattern s.document.doc from.now
+        Kept s.query.volume.bytes.now s.query.plan.now s.outline.pattern s.document.doc from.now
         (record { lent = out.old; says = said_matched (Ok result); back = out.new }) }
 {
     let n = pattern.outline.vars;
@@ -100,23 +99,21 @@ fn write_matches(pattern: &PatternInDocument, from: &[u32], out: &mut [u32]) -> 
 
 // The same for any document and tuple, where the volume and the plan are accepted and the pattern
 // is there.
-fn matches_of<'a>(
-    volume: &'a [u8],
-    plan: &'a [u32],
-    patterns: usize,
+fn matches_of(
+    query: &Query,
     pattern: usize,
     doc: u32,
     from: &[u32],
     out: &mut [u32],
 ) -> Result<Matches, MatchError>
-    requires accepted { Accepted volume.now plan.now }
-    requires patterns_value { patterns ≡ (sizes plan.now).patterns }
-    requires pattern_lt_patterns { pattern < patterns }
-    ensures { Kept volume.now plan.now pattern doc from.now
+    requires { pattern < query.now.sizes.patterns }
+    ensures { let q = query.now in Kept q.volume.bytes.now q.plan.now pattern doc from.now
         (record { lent = out.old; says = said_matched result; back = out.new }) }
 {
+    let volume = query.volume.bytes;
+    let plan = query.plan;
     let mut table = [Outline::NONE; MOST_PATTERNS];
-    lay_out(plan, patterns, &mut table);
+    lay_out(plan, query.sizes.patterns as usize, &mut table);
     let outline = table[pattern];
     if from.len() != outline.vars || Posting::LAST_DOC < doc || !in_document(from) {
         return Err(MatchError::OutOfRange);
@@ -125,15 +122,14 @@ fn matches_of<'a>(
         return Err(MatchError::Short);
     }
     let mut firsts = [Cursor::NONE; MOST_PATTERN_VARS];
-    set_cursors(volume, plan, outline, doc, &mut firsts);
+    set_cursors(query, outline, doc, &mut firsts);
     let list = starts_of(volume);
     let starts = list.seek(volume, doc);
     let document = Document { doc, starts };
     let mut order = [0; MOST_PATTERN_VARS];
     rarest_first(volume, plan, outline, &mut order);
     let found = PatternInDocument {
-        volume,
-        plan,
+        query: *query,
         outline,
         document,
         order,
@@ -155,17 +151,9 @@ pub fn matches(
     ensures { Kept volume.now plan.now pattern doc from.now
         (record { lent = out.old; says = said_matched result; back = out.new }) }
 {
-    let sizes = plan::check(volume, plan)?;
-    if sizes.patterns <= pattern {
+    let query = Query::open(volume, plan)?;
+    if query.sizes.patterns <= pattern {
         return Err(MatchError::OutOfRange);
     }
-    matches_of(
-        volume,
-        plan,
-        sizes.patterns as usize,
-        pattern as usize,
-        doc,
-        from,
-        out,
-    )
+    matches_of(&query, pattern as usize, doc, from, out)
 }

@@ -19,11 +19,11 @@ pub fn next_match(pattern: &PatternInDocument, walk: &mut Walk) -> bool
     requires walking { Walking pattern.now walk.old }
     requires by_index { (x : ℕ) → x < pattern.now.outline.vars → get_or walk.old.lows x 0 ≤ 65536 }
     ensures next_value { let s = pattern.now in let n = s.outline.vars in
-        first (matches_from (lists_of s.volume.now) s.document.doc (form_of s)
+        first (matches_from (lists_of s.query.volume.bytes.now) s.document.doc (form_of s)
         (take n walk.old.lows))
         ≡ given_if result (take n walk.new.positions) }
     ensures standing { let s = pattern.now in result ≡ true
-        → Standing s.volume.now s.document.doc (form_of s) (ats_of walk.new.here)
+        → Standing s.query.volume.bytes.now s.document.doc (form_of s) (ats_of walk.new.here)
         walk.new.positions }
     ensures ends_unchanged { ends_of walk.new.here ≡ ends_of walk.old.here }
     ensures lows_len_unchanged { length walk.new.lows ≡ length walk.old.lows }

@@ -1,13 +1,12 @@
 // What the search for the matches of a pattern in a document reads, and where it has come to.
 use matcher::{Cursor, Document};
-use plan::{MOST_PATTERN_VARS, Outline};
+use plan::{MOST_PATTERN_VARS, Outline, Query};
 
-// A pattern of an accepted plan and a document: what each step of the search reads. What holds of it
-// is `SoughtIn`: that gives a turn for each variable, so it is no proposition and no ghost field.
+// A pattern of an accepted plan and a document: what each step of the search reads. What holds of
+// it is `SoughtIn`, which gives a turn for each variable: no proposition, and so no ghost field.
 #[derive(Clone, Copy)]
 pub struct PatternInDocument<'a> {
-    pub volume: &'a [u8],
-    pub plan: &'a [u32],
+    pub query: Query<'a>,
     // Where the pattern lies in the plan.
     pub outline: Outline,
     pub document: Document,

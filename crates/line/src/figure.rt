@@ -1,29 +1,42 @@
 // Reading a pattern (02: figure), and storing its rows.
 ghost use Rattle.std.specs.Prelude.{◌≡◌, ◌≤◌, ◌<◌, length};
+ghost use Rattle.plan.specs.Rows as rows;
 ghost use Rattle.line.specs.Inner.Store as store;
 ghost use Rattle.line.specs.Inner.Reads.{FigureRead};
 
 use super::reading::{Reached, Stop};
-use super::steps::{Next, State, Words, step};
+use super::steps::{Next, State, step};
+use plan::{Kind, LEAST_UNIT, Operator, Predicate};
 
-const END: Words = Words {
-    kind: 6,
-    a: 0,
-    b: 0,
-    c: 0,
-};
+// The four words of a row of this kind.
+fn words_of(kind: Kind) -> [u32; 4]
+    ensures { result ≡ rows.words_of kind }
+{
+    match kind {
+        Kind::Voice(list) => [1, list, 0, 0],
+        Kind::Condition(Predicate::Distance { a, b, limit }) => [2, a, b, limit],
+        Kind::Condition(Predicate::Ordered { a, b }) => [3, a, b, 0],
+        Kind::Condition(Predicate::Samepara { a, b }) => [4, a, b, 0],
+        Kind::Condition(Predicate::Window { limit }) => [5, 0, 0, limit],
+        Kind::End => [6, 0, 0, 0],
+        Kind::Operator(Operator::Both) => [7, 0, 0, 0],
+        Kind::Operator(Operator::Either) => [8, 0, 0, 0],
+        Kind::Operator(Operator::FirstNotSecond) => [9, 0, 0, 0],
+        Kind::Condition(Predicate::Proximity { a, b, least, most }) => {
+            [10, a, b, u32::from(least) * LEAST_UNIT + u32::from(most)]
+        }
+        Kind::Operator(Operator::AtLeast { least, of }) => [11, least, of, 0],
+    }
+}
 
 // Stores a row, where it fits.
-pub fn put(out: &mut [u32], row: usize, words: Words)
+pub fn put(out: &mut [u32], row: usize, kind: Kind)
     requires { row ≤ 4096 }
-    ensures { out.new ≡ store.put_words out.old row words }
+    ensures { out.new ≡ store.put_row out.old row kind }
 {
     let at = 4 * row;
     if at + 4 <= out.len() {
-        out[at] = words.kind;
-        out[at + 1] = words.a;
-        out[at + 2] = words.b;
-        out[at + 3] = words.c;
+        out[at..at + 4].copy_from_slice(&words_of(kind));
     }
 }
 
@@ -40,14 +53,14 @@ pub fn figure(text: &[u8], from: usize, first: usize, out: &mut [u32]) -> Result
         };
         match next {
             Next::Goes(goes) => state = goes,
-            Next::Emits(words, goes) => {
-                put(out, rows, words);
+            Next::Emits(kind, goes) => {
+                put(out, rows, kind);
                 rows += 1;
                 state = goes;
             }
-            Next::Closes(words) => {
-                put(out, rows, words);
-                put(out, rows + 1, END);
+            Next::Closes(kind) => {
+                put(out, rows, kind);
+                put(out, rows + 1, Kind::End);
                 return Ok(Reached {
                     at: at + 1,
                     rows: rows + 2,

@@ -3,12 +3,11 @@ ghost use Rattle.std.specs.Prelude.{◌≡◌, ◌+◌, ◌≤◌, ◌<◌, leng
 ghost use Rattle.line.specs.Inner.Reads.{LineRead, PartRead, ItemRead, SeveralRead, LinesRead, WholeRead};
 ghost use Rattle.line.specs.Inner.Reads.{pending_rows};
 ghost use Rattle.grammar.specs.Reading as grammar;
-ghost use Rattle.line.specs.Inner.States.{threshold_words};
 ghost use Rattle.line.specs.Inner.Store.{stored};
 
 use super::figure::{figure, put};
-use super::steps::Words;
 use grammar::Connective;
+use plan::{Kind, Operator};
 
 // How far the reading comes: the byte behind what was read, and the number of rows so far.
 #[derive(Clone, Copy, Debug, PartialEq, Eq)]
@@ -33,39 +32,6 @@ const FEWEST_LINES: u32 = 2;
 
 const MOST_LINES: u32 = 8;
 
-const BOTH: Words = Words {
-    kind: 7,
-    a: 0,
-    b: 0,
-    c: 0,
-};
-
-const EITHER: Words = Words {
-    kind: 8,
-    a: 0,
-    b: 0,
-    c: 0,
-};
-
-const WITHOUT: Words = Words {
-    kind: 9,
-    a: 0,
-    b: 0,
-    c: 0,
-};
-
-// The words of the row of AT LEAST.
-fn at_least(least: u32, of: u32) -> Words
-    ensures { result ≡ threshold_words least of }
-{
-    Words {
-        kind: 11,
-        a: least,
-        b: of,
-        c: 0,
-    }
-}
-
 // Stores the row of the operator that waited for its second side, behind that side; gives the
 // number of rows.
 fn settle(out: &mut [u32], rows: usize, waiting: Option<Connective>) -> usize
@@ -76,12 +42,12 @@ fn settle(out: &mut [u32], rows: usize, waiting: Option<Connective>) -> usize
     let Some(connective) = waiting else {
         return rows;
     };
-    let words = match connective {
-        Connective::And => BOTH,
-        Connective::Or => EITHER,
-        Connective::AndNot => WITHOUT,
+    let operator = match connective {
+        Connective::And => Operator::Both,
+        Connective::Or => Operator::Either,
+        Connective::AndNot => Operator::FirstNotSecond,
     };
-    put(out, rows, words);
+    put(out, rows, Kind::Operator(operator));
     rows + 1
 }
 
@@ -209,7 +175,8 @@ fn lines(
     match byte {
         b',' if read < MOST_LINES => lines(text, end + 1, depth, least, read, rows, out),
         b'>' if FEWEST_LINES <= read && least <= read => {
-            put(out, rows, at_least(least, read));
+            let operator = Operator::AtLeast { least, of: read };
+            put(out, rows, Kind::Operator(operator));
             Ok(Reached {
                 at: end + 1,
                 rows: rows + 1,

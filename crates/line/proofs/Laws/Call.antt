@@ -5,19 +5,18 @@
 --     answers                            the answer, and the buffer afterwards
 -- Assumes nothing.
 use Prim.Native.Nat.{ℕ, suc, ◌+◌, ◌*◌, ◌<◌, ◌≤◌}
-use native.Mathlib.Numerals.{add-one, add-two, add-three}
 use native.Mathlib.Omega.{arith}
 use mathlib.Core.Path.{◌≡◌, refl, sym, ap, ap₂, ◌∙◌, subst}
-use mathlib.Core.Bool.{Bool, cond}
 use mathlib.Core.List.{List, [], ◌∷◌, ◌++◌, append_assoc}
-use lib.ListN.{length, set, drop, length-append}
+use lib.ListN.{length, drop, length-append}
+use lib.Seq.{take-append_seam, drop-append-add}
 use borrow.Author.Tests.{le-leb, lt-ltb, le-ltb}
 use Rattle.std.proofs.Common.{Result, Ok, Err}
 use Rattle.seq.specs.Lists.{joined}
 use Rattle.seq.specs.Refusals.{Said, refused, answered, laid}
 use Rattle.plan.specs.declared.row.Row.{Row}
 use Rattle.plan.specs.Rows.{words_of, plan_of}
-use Rattle.line.specs.declared.steps.Words.{Words}
+use Rattle.plan.specs.declared.row.Kind.{Kind}
 use Rattle.line.specs.declared.reading.Reached.{Reached}
 use Rattle.line.specs.declared.reading.Stop.{Stop}
 use Rattle.line.specs.declared.reading.Stop.TheVariants.{Broken, Deep}
@@ -29,28 +28,17 @@ use Rattle.grammar.proofs.Laws.Outcome.{Stopped, Opened, OutcomeTold, outcome-to
 use Rattle.grammar.specs.Words.{words_by, words_of_line}
 use Rattle.line.specs.Read.{read_by, read_answer, read_out}
 use Rattle.line.specs.Inner.Reads.{WholeRead}
-use Rattle.line.specs.Inner.States.{words_in}
-use Rattle.line.specs.Inner.Store.{put_words, stored}
-
--- four words stored behind pre
-set-four : (pre : List ℕ) (a b c d k x y z : ℕ) (r : List ℕ)
-    → set (set (set (set (pre ++ (a ∷ b ∷ c ∷ d ∷ r)) (length pre) k) (suc (length pre)) x) (suc (suc (length pre))) y)
-    (suc (suc (suc (length pre)))) z
-    ≡ pre ++ (k ∷ x ∷ y ∷ z ∷ r)
-set-four [] a b c d k x y z r = refl
-set-four (p ∷ pre) a b c d k x y z r = ap (λ (l : List ℕ). p ∷ l) (set-four pre a b c d k x y z r)
+use Rattle.line.specs.Inner.Store.{put_row, stored}
 
 -- a row that is stored over four words
-put-fits : (pre : List ℕ) (a b c d n : ℕ) (w : Words) (r : List ℕ) → length pre ≡ 4 * n
-    → put_words (pre ++ (a ∷ b ∷ c ∷ d ∷ r)) n w ≡ pre ++ (w.kind ∷ w.a ∷ w.b ∷ w.c ∷ r)
-unfolding put_words
-put-fits pre a b c d n w r e =
-    let l = length-append pre (a ∷ b ∷ c ∷ d ∷ r) in
-    let h : 4 * n + 4 ≤ length (pre ++ (a ∷ b ∷ c ∷ d ∷ r)) = omega arith in
+put-fits : (pre : List ℕ) (a b c d n : ℕ) (k : Kind) (r : List ℕ) → length pre ≡ 4 * n
+    → put_row (pre ++ (a ∷ b ∷ c ∷ d ∷ r)) n k ≡ pre ++ (words_of k ++ r)
+unfolding put_row
+put-fits pre a b c d n k r e =
     let out = pre ++ (a ∷ b ∷ c ∷ d ∷ r) in
-    let put = set (set (set (set out (4 * n) w.kind) (4 * n + 1) w.a) (4 * n + 2) w.b) (4 * n + 3) w.c in
-    ap (λ (t : Bool). cond t put out) (le-leb (4 * n + 4) (length out) h)
-    ∙ rw (add-one, add-two, add-three) (rw (← e) (set-four pre a b c d w.kind w.a w.b w.c r))
+    let l = length-append pre (a ∷ b ∷ c ∷ d ∷ r) in
+    let h : length pre + 4 ≤ length out = omega arith in
+    rw (← e) (rw (le-leb (length pre + 4) (length out) h, take-append_seam pre (a ∷ b ∷ c ∷ d ∷ r), drop-append-add pre (a ∷ b ∷ c ∷ d ∷ r) 4) refl)
 
 -- rows that fit lie at their place, and the rest is as it was
 stored_plan : (rs : List Row) (pre rest : List ℕ) (n : ℕ) → length pre ≡ 4 * n → 4 * length rs ≤ length rest
@@ -66,8 +54,7 @@ stored_plan (r ∷ rs) pre (a ∷ b ∷ c ∷ d ∷ rest) n e h =
     let f = words-four r.kind in
     let l : length (pre ++ ws) ≡ 4 * (n + 1) = (let x = length-append pre ws in let y = ap length f in omega arith) in
     let q : 4 * suc (length rs) ≡ suc (suc (suc (suc (4 * length rs)))) = omega arith in
-    ap (λ (o : List ℕ). stored o (n + 1) rs)
-    (put-fits pre a b c d n (words_in r) rest e ∙ ap (λ (x : List ℕ). pre ++ (x ++ rest)) (sym f) ∙ sym (append_assoc pre ws rest))
+    ap (λ (o : List ℕ). stored o (n + 1) rs) (put-fits pre a b c d n r.kind rest e ∙ sym (append_assoc pre ws rest))
     ∙ stored_plan rs (pre ++ ws) rest (n + 1) l (omega arith)
     ∙ append_assoc pre ws (plan_of rs ++ drop (4 * length rs) rest)
     ∙ ap (λ (x : List ℕ). pre ++ x) (sym (append_assoc ws (plan_of rs) (drop (4 * length rs) rest)))

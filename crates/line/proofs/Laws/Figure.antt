@@ -1,6 +1,6 @@
 -- A law for each way through the reader of a pattern in `src/figure.rt`, and what all readers need. No contract cites this file.
 --     from_goes, from-none, from_deep, from_end, stops_at     the reading of a text, by what its next byte does
---     stored_append, stored-length, stored_one      rows are stored one behind the other
+--     stored_append, stored-length, stored_one, stored_two     rows are stored one behind the other
 --     Within, within_first, within-goes, within_emits     in a pattern: the invariant of its reader, and a byte that goes on
 --     within-length, within-most                    the buffer keeps its length, and the state its limits
 --     within_end, within-closes, within-stuck       how the reading of a pattern ends
@@ -13,16 +13,18 @@ use mathlib.Core.Bool.{Bool, true, false, cond}
 use mathlib.Core.List.{List, [], ◌∷◌, ◌++◌}
 use mathlib.Core.Option.{Option, none, some}
 use lib.Dec.{leb, ltb}
-use lib.ListN.{length, get_or, drop, set, drop_of_length-le, length-append, length-set}
+use lib.ListN.{length, get_or, take, drop, drop_of_length-le, length-append, length-drop}
 use lib.Seq.{drop-cons}
-use borrow.Author.Tests.{lt-ltb, le-ltb, ltb-true, ltb-false}
-use Rattle.std.proofs.Common.{Some, None, Ok, Err}
+use borrow.Author.Tests.{lt-ltb, le-ltb, ltb-true, ltb-false, leb-true}
+use Rattle.std.proofs.Common.{Some, None, Ok, Err, length-take-le}
 use Rattle.line.specs.declared.steps.State.{State}
 use Rattle.line.specs.declared.steps.State.TheVariants.{Listing}
 use Rattle.line.specs.declared.steps.Next.TheVariants.{Goes, Emits, Closes}
-use Rattle.line.specs.declared.steps.Words.{Words}
+use Rattle.plan.specs.declared.row.Kind.{Kind}
+use Rattle.plan.specs.declared.row.Kind.TheVariants.{End}
+use Rattle.plan.specs.Rows.{words_of}
 use Rattle.plan.specs.declared.row.Row.{Row}
-use Rattle.line.specs.Inner.Store.{put_words, stored, partial_rows}
+use Rattle.line.specs.Inner.Store.{put_row, stored, partial_rows}
 use Rattle.line.specs.declared.reading.Stop.TheVariants.{Broken}
 use Rattle.grammar.specs.Grammar as g
 use Rattle.grammar.specs.declared.tokens.Word.TheVariants as word
@@ -32,12 +34,13 @@ use Rattle.grammar.specs.Reading as reading
 use Rattle.grammar.specs.Reading.{Number, fresh, digits, Partial, listing, semicolon, lettered, counting, goes, closes, stuck, step_in}
 use Rattle.grammar.specs.Reading.{Context, Bracket, Config, inside, partial_text}
 use Rattle.grammar.specs.Reading.{filled, within, step, open_in, broken, deep, finished, continued, outcome}
-use Rattle.line.specs.Inner.States.{NumberMost, StateMost, step_state, state_of, words_in}
+use Rattle.line.specs.Inner.States.{NumberMost, StateMost, step_state, state_of}
 use Rattle.line.specs.Inner.Reads.{from, FigureAt, FigureRead}
 use Rattle.grammar.proofs.Laws.Reading.{PartialFits, NextTold, step_in-told, NumberFits}
 use Rattle.grammar.proofs.Laws.Query.{end}
 use Rattle.grammar.proofs.Laws.Steps.{filled_open}
-use Rattle.line.proofs.Laws.States.{step_follows, Follows}
+use Rattle.grammar.proofs.Laws.Words.{words-four}
+use Rattle.line.proofs.Laws.States.{row_of, step_follows, Follows}
 
 -- one byte of a text
 module _ (s : List ℕ) (c : Config) (q : ℕ) where
@@ -102,31 +105,38 @@ pub stored_append : (rs ss : List Row) (out : List ℕ) (n : ℕ) → stored out
 unfolding stored
 stored_append [] ss out n = ap (λ (k : ℕ). stored out k ss) (let e : n ≡ n + 0 = omega arith in e)
 stored_append (r ∷ rs) ss out n =
-    stored_append rs ss (put_words out n (words_in r)) (n + 1)
-    ∙ ap (λ (k : ℕ). stored (stored (put_words out n (words_in r)) (n + 1) rs) k ss)
+    stored_append rs ss (put_row out n r.kind) (n + 1)
+    ∙ ap (λ (k : ℕ). stored (stored (put_row out n r.kind) (n + 1) rs) k ss)
     (let e : n + 1 + length rs ≡ n + suc (length rs) = omega arith in e)
 
 -- a row that is stored leaves the length
-put-length : (out : List ℕ) (n : ℕ) (w : Words) → length (put_words out n w) ≡ length out
-unfolding put_words
-put-length out n w = go (leb (4 * n + 4) (length out))
+put-length : (out : List ℕ) (n : ℕ) (k : Kind) → length (put_row out n k) ≡ length out
+unfolding put_row
+put-length out n k = go (leb (4 * n + 4) (length out)) refl
   where
-    go : (t : Bool)
-        → length (cond t (set (set (set (set out (4 * n) w.kind) (4 * n + 1) w.a) (4 * n + 2) w.b) (4 * n + 3) w.c) out)
-        ≡ length out
-    go true = simp length-set
-    go false = refl
+    go : (t : Bool) → leb (4 * n + 4) (length out) ≡ t
+        → length (cond t (take (4 * n) out ++ (words_of k ++ drop (4 * n + 4) out)) out) ≡ length out
+    go true e =
+        let h = leb-true (4 * n + 4) (length out) e in
+        let f = ap length (words-four k) in
+        simp (length-append, length-drop) (let l = length-take-le (4 * n) out (omega arith) in omega arith)
+    go false e = refl
 
 -- and so do rows
 stored-length : (rs : List Row) (out : List ℕ) (n : ℕ) → length (stored out n rs) ≡ length out
 unfolding stored
 stored-length [] out n = refl
-stored-length (r ∷ rs) out n = stored-length rs (put_words out n (words_in r)) (n + 1) ∙ put-length out n (words_in r)
+stored-length (r ∷ rs) out n = stored-length rs (put_row out n r.kind) (n + 1) ∙ put-length out n r.kind
 
 -- one row
-pub stored_one : (out : List ℕ) (n : ℕ) (w : Words) (r : Row) → words_in r ≡ w → put_words out n w ≡ stored out n (r ∷ [])
+pub stored_one : (out : List ℕ) (n : ℕ) (k : Kind) → put_row out n k ≡ stored out n (row_of k ∷ [])
 unfolding stored
-stored_one out n w r e = ap (put_words out n) (sym e)
+stored_one out n k = refl
+
+-- two rows
+stored_two : (out : List ℕ) (n : ℕ) (k l : Kind) → put_row (put_row out n k) (n + 1) l ≡ stored out n (row_of k ∷ row_of l ∷ [])
+unfolding stored
+stored_two out n k l = refl
 
 -- the pattern from byte `start` on has been read to byte `at`: its state, and the rows that are stored
 pub record Within (s : List ℕ) (start n : ℕ) (out : List ℕ) (at : ℕ) (state : State) (rows : ℕ) (out' : List ℕ) : Type 0 where
@@ -205,15 +215,15 @@ module _ (s : List ℕ) (start n : ℕ) (out : List ℕ) where
           go stuck q r t = absurd r
 
       -- a byte behind a row
-      pub within_emits : (ws : Words) (to : State) → step_state state (get_or s at 0) ≡ Some (Emits ws to)
-          → Within s start n out (at + 1) to (rows + 1) (put_words out' rows ws)
-      within_emits ws to e =
+      pub within_emits : (k : Kind) (to : State) → step_state state (get_or s at 0) ≡ Some (Emits k to)
+          → Within s start n out (at + 1) to (rows + 1) (put_row out' rows k)
+      within_emits k to e =
           go (step_in w.read (get_or s at 0)) refl (subst (Follows w.read (step_in w.read (get_or s at 0))) e follows)
           (step_in-told w.read (get_or s at 0) w.sound)
         where
-          go : (m : reading.Next) → step_in w.read (get_or s at 0) ≡ m → Follows w.read m (Some (Emits ws to))
+          go : (m : reading.Next) → step_in w.read (get_or s at 0) ≡ m → Follows w.read m (Some (Emits k to))
               → NextTold (partial_text w.read ++ (get_or s at 0 ∷ [])) m
-              → Within s start n out (at + 1) to (rows + 1) (put_words out' rows ws)
+              → Within s start n out (at + 1) to (rows + 1) (put_row out' rows k)
           go (goes f) q r t = record {
             read = f;
             is = r.state;
@@ -224,12 +234,12 @@ module _ (s : List ℕ) (start n : ℕ) (out : List ℕ) where
             count =
                 let a = w.count in
                 let b = ap length r.rows in
-                let c = length-append (partial_rows w.read) (r.row ∷ []) in
+                let c = length-append (partial_rows w.read) (row_of k ∷ []) in
                 omega arith;
             kept =
-                stored_one out' rows ws r.row r.words
-                ∙ ap₂ (λ (x : List ℕ) (k : ℕ). stored x k (r.row ∷ [])) w.kept w.count
-                ∙ sym (stored_append (partial_rows w.read) (r.row ∷ []) out n)
+                stored_one out' rows k
+                ∙ ap₂ (λ (x : List ℕ) (m : ℕ). stored x m (row_of k ∷ [])) w.kept w.count
+                ∙ sym (stored_append (partial_rows w.read) (row_of k ∷ []) out n)
                 ∙ ap (stored out n) (sym r.rows);
             steps = λ p ps l. w.steps p ps l ∙ from_goes s (inside w.read p ps) at (inside f p ps) h (within-is (goes f) q p ps) l;
           }
@@ -237,14 +247,13 @@ module _ (s : List ℕ) (start n : ℕ) (out : List ℕ) where
           go stuck q r t = absurd r
 
       -- `]`: the last row, and END
-      pub within-closes : (ws last : Words) → last ≡ record { kind = 6; a = 0; b = 0; c = 0 }
-          → step_state state (get_or s at 0) ≡ Some (Closes ws)
-          → FigureRead s start n out (put_words (put_words out' rows ws) (rows + 1) last) (Ok (record { at = at + 1; rows = rows + 2 }))
-      within-closes ws last e6 e =
+      pub within-closes : (k : Kind) → step_state state (get_or s at 0) ≡ Some (Closes k)
+          → FigureRead s start n out (put_row (put_row out' rows k) (rows + 1) End) (Ok (record { at = at + 1; rows = rows + 2 }))
+      within-closes k e =
           go (step_in w.read (get_or s at 0)) refl (subst (Follows w.read (step_in w.read (get_or s at 0))) e follows)
         where
-          go : (m : reading.Next) → step_in w.read (get_or s at 0) ≡ m → Follows w.read m (Some (Closes ws))
-              → FigureAt s start n out (put_words (put_words out' rows ws) (rows + 1) last) (at + 1) (rows + 2)
+          go : (m : reading.Next) → step_in w.read (get_or s at 0) ≡ m → Follows w.read m (Some (Closes k))
+              → FigureAt s start n out (put_row (put_row out' rows k) (rows + 1) End) (at + 1) (rows + 2)
           go (goes f) q r = absurd r
           go (closes f) q r = record {
             read = f;
@@ -255,13 +264,12 @@ module _ (s : List ℕ) (start n : ℕ) (out : List ℕ) where
               count =
                   let a = w.count in
                   let b = ap length r.rows in
-                  let c = length-append (partial_rows w.read) (r.row ∷ end ∷ []) in
+                  let c = length-append (partial_rows w.read) (row_of k ∷ end ∷ []) in
                   omega arith;
               is =
-                  ap₂ (λ (x : List ℕ) (y : Words). put_words x (rows + 1) y) (stored_one out' rows ws r.row r.words) e6
-                  ∙ two
-                  ∙ ap₂ (λ (x : List ℕ) (k : ℕ). stored x k (r.row ∷ end ∷ [])) w.kept w.count
-                  ∙ sym (stored_append (partial_rows w.read) (r.row ∷ end ∷ []) out n)
+                  stored_two out' rows k End
+                  ∙ ap₂ (λ (x : List ℕ) (m : ℕ). stored x m (row_of k ∷ end ∷ [])) w.kept w.count
+                  ∙ sym (stored_append (partial_rows w.read) (row_of k ∷ end ∷ []) out n)
                   ∙ ap (stored out n) (sym r.rows);
             };
             goes =
@@ -269,11 +277,6 @@ module _ (s : List ℕ) (start n : ℕ) (out : List ℕ) where
                 ∙ from_goes s (inside w.read p ps) at (filled p (g.figure f) ps) h (within-is (closes f) q p ps)
                 (rw (filled_open p (g.figure f) ps) l);
           }
-            where
-              two : put_words (stored out' rows (r.row ∷ [])) (rows + 1) (words_in end) ≡ stored out' rows (r.row ∷ end ∷ [])
-              two =
-                  stored_one (stored out' rows (r.row ∷ [])) (rows + 1) (words_in end) end refl
-                  ∙ sym (stored_append (r.row ∷ []) (end ∷ []) out' rows)
           go stuck q r = absurd r
 
       -- a byte that no line has there

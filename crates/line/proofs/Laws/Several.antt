@@ -14,19 +14,17 @@ use mathlib.Core.Option.{Option, none, some}
 use lib.ListN.{length, get_or, length-append}
 use borrow.Author.Tests.{lt-ltb, le-ltb, le-leb, lt-leb, ne_eqb, leb-true}
 use Rattle.std.proofs.Common.{None, Result, Ok, Err}
-use Rattle.line.specs.declared.steps.Words.{Words}
 use Rattle.plan.specs.declared.row.Operator.TheVariants.{AtLeast}
 use Rattle.plan.specs.declared.row.Kind.TheVariants as kind
 use Rattle.plan.specs.declared.row.Row.{Row}
 use Rattle.grammar.specs.Meaning.{operator_row, line_rows, lines_rows}
-use Rattle.line.specs.Inner.Store.{put_words, stored}
+use Rattle.line.specs.Inner.Store.{put_row, stored}
 use Rattle.line.specs.declared.reading.Reached.{Reached}
 use Rattle.line.specs.declared.reading.Stop.{Stop}
 use Rattle.line.specs.declared.reading.Stop.TheVariants.{Broken, Deep}
 use Rattle.grammar.specs.Grammar as g
 use Rattle.grammar.specs.Grammar.{Line, Part, Lines, line_count}
 use Rattle.grammar.specs.Reading.{Front, bare, Context, first, Bracket, among, Config, ready, after, opened, numbered, line_of, filled, step}
-use Rattle.line.specs.Inner.States.{threshold_words}
 use Rattle.line.specs.Inner.Reads.{from, Stored, LineAt, LineRead, SeveralRead, LinesRead}
 use Rattle.grammar.proofs.Laws.Steps.{filled_open}
 use Rattle.line.proofs.Laws.Figure.{from_goes, from-none, from_end, stops_at, stored_append, stored_one}
@@ -212,11 +210,11 @@ module _ (s : List ℕ) (at d least count n : ℕ) (out out₁ : List ℕ) where
             (step-early x.0 x.1 least ls p ps (get_or s k 0) e (omega arith))
 
         -- `>`: the row of AT LEAST
-        pub lines_end : 2 ≤ count + 1 → least ≤ count + 1 → d ≤ 8 → (out₂ : List ℕ) (ws : Words)
-            → ws ≡ threshold_words least (count + 1) → out₂ ≡ put_words out₁ m ws
+        pub lines_end : 2 ≤ count + 1 → least ≤ count + 1 → d ≤ 8 → (out₂ : List ℕ)
+            → out₂ ≡ put_row out₁ m (kind.Operator (AtLeast least (count + 1)))
             → LinesRead s at d least count n out out₂ (Ok (record { at = k + 1; rows = m + 1 }))
         unfolding line_rows
-        lines_end y z few out₂ ws u v = record {
+        lines_end y z few out₂ v = record {
           new = w.new ++ operator_row (AtLeast least (count + 1));
           rows = record {
             ahead = let a = w.rows.ahead in omega arith;
@@ -228,7 +226,7 @@ module _ (s : List ℕ) (at d least count n : ℕ) (out out₁ : List ℕ) where
                 omega arith;
             is =
                 v
-                ∙ stored_one out₁ m ws (record { kind = kind.Operator (AtLeast least (count + 1)) }) (sym u)
+                ∙ stored_one out₁ m (kind.Operator (AtLeast least (count + 1)))
                 ∙ ap₂ (λ (a : List ℕ) (b : ℕ). stored a b (operator_row (AtLeast least (count + 1)))) w.rows.is w.rows.count
                 ∙ sym (stored_append w.new (operator_row (AtLeast least (count + 1))) out n);
           };

@@ -9,7 +9,7 @@ use mathlib.Core.Path.{◌≡◌, refl, sym, ap, ◌∙◌}
 use mathlib.Core.Bool.{Bool, true, false, cond, ◌&&◌}
 use mathlib.Core.List.{List, [], ◌∷◌, ◌++◌, map, map-append, append_assoc, append-nil}
 use lib.Dec.{eqb, ltb}
-use lib.ListN.{length, get_or}
+use lib.ListN.{length}
 use borrow.Author.Tests.{le-leb, lt-leb, ltb-true, ltb-false}
 use Rattle.grammar.specs.declared.tokens.Word.{Word}
 use Rattle.grammar.specs.declared.tokens.Word.TheVariants as word
@@ -17,7 +17,8 @@ use Rattle.std.proofs.Common.{Option, Some, None}
 use Rattle.line.specs.declared.steps.State.{State}
 use Rattle.line.specs.declared.steps.Next.{Next}
 use Rattle.line.specs.declared.steps.Next.TheVariants.{Goes, Emits, Closes}
-use Rattle.line.specs.declared.steps.Words.{Words}
+use Rattle.plan.specs.declared.row.Kind.{Kind}
+use Rattle.plan.specs.declared.row.Kind.TheVariants.{Voice, Condition}
 use Rattle.plan.specs.declared.row.Predicate.{Predicate}
 use Rattle.plan.specs.declared.row.Row.{Row}
 use Rattle.plan.specs.Parts.{pattern_rows}
@@ -27,10 +28,10 @@ use Rattle.grammar.specs.Grammar.{Figure, arity, most_of}
 use Rattle.grammar.specs.Reading as reading
 use Rattle.grammar.specs.Reading.{is_digit, may_grow, grown, grows, step_in}
 use Rattle.line.specs.Inner.States.{grown_by, ending_state, step_state, state_of}
-use Rattle.line.specs.Inner.States.{words_in, voice_words, condition_words, another_state}
+use Rattle.line.specs.Inner.States.{condition_kind, another_state, three}
 use Rattle.grammar.proofs.Laws.Reading.{PartialFits}
 use Rattle.grammar.proofs.Laws.Query.{voice, condition, end}
-pub use Rattle.grammar.proofs.Laws.Limits.{few, most-small}
+use Rattle.grammar.proofs.Laws.Limits.{few}
 
 -- a byte that is no digit
 pub grow-no_digit : (most : ℕ) (x : Option ℕ) (b : ℕ) → is_digit b ≡ false → grown_by most x b ≡ None
@@ -62,32 +63,32 @@ pub record Going (f g : reading.Partial) (s : State) : Type 0 where
   pub state : state_of g ≡ s
   pub rows : partial_rows g ≡ partial_rows f
 
+-- the row of a kind
+abbrev pub row_of : Kind → Row
+row_of k = record { kind = k }
+
 -- it goes on behind a row
-pub record Emitting (f g : reading.Partial) (w : Words) (s : State) : Type 0 where
+pub record Emitting (f g : reading.Partial) (k : Kind) (s : State) : Type 0 where
   pub state : state_of g ≡ s
-  pub row : Row
-  pub words : words_in row ≡ w
-  pub rows : partial_rows g ≡ partial_rows f ++ (row ∷ [])
+  pub rows : partial_rows g ≡ partial_rows f ++ (row_of k ∷ [])
 
 -- it is closed behind its last row
-pub record Closing (f : reading.Partial) (x : Figure) (w : Words) : Type 0 where
-  pub row : Row
-  pub words : words_in row ≡ w
-  pub rows : pattern_rows (pattern_of x) ≡ partial_rows f ++ (row ∷ end ∷ [])
+pub record Closing (f : reading.Partial) (x : Figure) (k : Kind) : Type 0 where
+  pub rows : pattern_rows (pattern_of x) ≡ partial_rows f ++ (row_of k ∷ end ∷ [])
 
 -- what a byte makes of the pattern f so far, and what it makes of the state
 abbrev pub Follows : reading.Partial → reading.Next → Option Next → Type 0
 Follows f (reading.goes g) (Some (Goes s)) = Going f g s
-Follows f (reading.goes g) (Some (Emits w s)) = Emitting f g w s
-Follows f (reading.goes g) (Some (Closes w)) = ⊥
+Follows f (reading.goes g) (Some (Emits k s)) = Emitting f g k s
+Follows f (reading.goes g) (Some (Closes k)) = ⊥
 Follows f (reading.goes g) None = ⊥
 Follows f (reading.closes x) (Some (Goes s)) = ⊥
-Follows f (reading.closes x) (Some (Emits w s)) = ⊥
-Follows f (reading.closes x) (Some (Closes w)) = Closing f x w
+Follows f (reading.closes x) (Some (Emits k s)) = ⊥
+Follows f (reading.closes x) (Some (Closes k)) = Closing f x k
 Follows f (reading.closes x) None = ⊥
 Follows f reading.stuck (Some (Goes s)) = ⊥
-Follows f reading.stuck (Some (Emits w s)) = ⊥
-Follows f reading.stuck (Some (Closes w)) = ⊥
+Follows f reading.stuck (Some (Emits k s)) = ⊥
+Follows f reading.stuck (Some (Closes k)) = ⊥
 Follows f reading.stuck None = Unit
 
 -- two choices by one test
@@ -97,13 +98,12 @@ both_ways P true x y u v f g = f refl
 both_ways P false x y u v f g = g refl
 
 -- behind the last number of a list or of a condition
-ending-follows : (f : reading.Partial) (x : Figure) (r : Row) (w : Words) (b : ℕ) → words_in r ≡ w
-    → open_rows (pattern_of x) ≡ partial_rows f ++ (r ∷ []) → Follows f (reading.ending x b) (ending_state w b)
-ending-follows f x r w b e h =
-    both_ways (Follows f) (eqb b 59) _ _ _ _
-    (λ t. record { state = refl; row = r; words = e; rows = h })
+ending-follows : (f : reading.Partial) (x : Figure) (k : Kind) (b : ℕ) → open_rows (pattern_of x) ≡ partial_rows f ++ (row_of k ∷ [])
+    → Follows f (reading.ending x b) (ending_state k b)
+ending-follows f x k b h =
+    both_ways (Follows f) (eqb b 59) _ _ _ _ (λ t. record { state = refl; rows = h })
     (λ t. both_ways (Follows f) (eqb b 93) _ _ _ _
-    (λ u. record { row = r; words = e; rows = ap (λ (l : List Row). l ++ (end ∷ [])) h ∙ append_assoc (partial_rows f) (r ∷ []) (end ∷ []) })
+    (λ u. record { rows = ap (λ (l : List Row). l ++ (end ∷ [])) h ∙ append_assoc (partial_rows f) (row_of k ∷ []) (end ∷ []) })
     (λ u. tt))
 
 -- the rows of list numbers
@@ -119,32 +119,32 @@ condition-follow f w ns =
     ∙ ap (λ (l : List Row). map voice f.lists ++ l) (map-append condition (map predicate_of f.conditions) (predicate_by w ns ∷ []))
     ∙ sym (append_assoc (map voice f.lists) (map condition (map predicate_of f.conditions)) (condition (predicate_by w ns) ∷ []))
 
--- the words of a condition from its numbers
-words-follow : (w : Word) (ns : List ℕ) (n : ℕ) → length ns + 1 ≡ arity w
-    → words_in (condition (predicate_by w (reading.behind ns n))) ≡ condition_words w (get_or ns 0 0) (get_or ns 1 0) (get_or ns 2 0) n
-words-follow word.Near (a ∷ b ∷ []) n e = refl
-words-follow word.Near [] n e = absurd (let z : ⊥ = omega arith in z)
-words-follow word.Near (a ∷ []) n e = absurd (let z : ⊥ = omega arith in z)
-words-follow word.Near (a ∷ b ∷ c ∷ ns) n e = absurd (let z : ⊥ = omega arith in z)
-words-follow word.Before (a ∷ []) n e = refl
-words-follow word.Before [] n e = absurd (let z : ⊥ = omega arith in z)
-words-follow word.Before (a ∷ b ∷ ns) n e = absurd (let z : ⊥ = omega arith in z)
-words-follow word.Same (a ∷ []) n e = refl
-words-follow word.Same [] n e = absurd (let z : ⊥ = omega arith in z)
-words-follow word.Same (a ∷ b ∷ ns) n e = absurd (let z : ⊥ = omega arith in z)
-words-follow word.Span [] n e = refl
-words-follow word.Span (a ∷ ns) n e = absurd (let z : ⊥ = omega arith in z)
-words-follow word.Apart (a ∷ b ∷ c ∷ []) n e = refl
-words-follow word.Apart [] n e = absurd (let z : ⊥ = omega arith in z)
-words-follow word.Apart (a ∷ []) n e = absurd (let z : ⊥ = omega arith in z)
-words-follow word.Apart (a ∷ b ∷ []) n e = absurd (let z : ⊥ = omega arith in z)
-words-follow word.Apart (a ∷ b ∷ c ∷ d ∷ ns) n e = absurd (let z : ⊥ = omega arith in z)
+-- the kind of a condition from its numbers
+kind-follow : (w : Word) (ns : List ℕ) (n : ℕ) → length ns + 1 ≡ arity w
+    → Condition (predicate_by w (reading.behind ns n)) ≡ condition_kind w (three ns) n
+kind-follow word.Near (a ∷ b ∷ []) n e = refl
+kind-follow word.Near [] n e = absurd (let z : ⊥ = omega arith in z)
+kind-follow word.Near (a ∷ []) n e = absurd (let z : ⊥ = omega arith in z)
+kind-follow word.Near (a ∷ b ∷ c ∷ ns) n e = absurd (let z : ⊥ = omega arith in z)
+kind-follow word.Before (a ∷ []) n e = refl
+kind-follow word.Before [] n e = absurd (let z : ⊥ = omega arith in z)
+kind-follow word.Before (a ∷ b ∷ ns) n e = absurd (let z : ⊥ = omega arith in z)
+kind-follow word.Same (a ∷ []) n e = refl
+kind-follow word.Same [] n e = absurd (let z : ⊥ = omega arith in z)
+kind-follow word.Same (a ∷ b ∷ ns) n e = absurd (let z : ⊥ = omega arith in z)
+kind-follow word.Span [] n e = refl
+kind-follow word.Span (a ∷ ns) n e = absurd (let z : ⊥ = omega arith in z)
+kind-follow word.Apart (a ∷ b ∷ c ∷ []) n e = refl
+kind-follow word.Apart [] n e = absurd (let z : ⊥ = omega arith in z)
+kind-follow word.Apart (a ∷ []) n e = absurd (let z : ⊥ = omega arith in z)
+kind-follow word.Apart (a ∷ b ∷ []) n e = absurd (let z : ⊥ = omega arith in z)
+kind-follow word.Apart (a ∷ b ∷ c ∷ d ∷ ns) n e = absurd (let z : ⊥ = omega arith in z)
 
 -- behind a number of a condition that is not the last
 another-follows : (f : Figure) (w : Word) (ns : List ℕ) (n b : ℕ) → length ns + 1 < arity w
     → Follows (reading.counting f w ns (Some n))
     (cond (eqb b 32) (reading.goes (reading.counting f w (reading.behind ns n) None)) reading.stuck)
-    (another_state w (length ns) (get_or ns 0 0) (get_or ns 1 0) (get_or ns 2 0) n b)
+    (another_state w (length ns) (three ns) n b)
 another-follows f w [] n b l =
     both_ways (Follows (reading.counting f w [] (Some n))) (eqb b 32) _ _ _ _ (λ t. record { state = refl; rows = refl }) (λ t. tt)
 another-follows f w (x ∷ []) n b l =
@@ -162,9 +162,8 @@ step_follows (reading.listing ns None) b h =
 step_follows (reading.listing ns (Some n)) b h =
     both_ways (Follows (reading.listing ns (Some n))) (grows 65536 (Some n) b) _ _ _ _ (λ t. record { state = refl; rows = refl })
     (λ t. both_ways (Follows (reading.listing ns (Some n))) (eqb b 32) _ _ _ _
-    (λ u. record { state = refl; row = voice n; words = refl; rows = map-append voice ns (n ∷ []) })
-    (λ u. ending-follows (reading.listing ns (Some n)) (reading.first_lists (reading.behind ns n)) (voice n) (voice_words n) b refl
-    (lists-follow ns n)))
+    (λ u. record { state = refl; rows = map-append voice ns (n ∷ []) })
+    (λ u. ending-follows (reading.listing ns (Some n)) (reading.first_lists (reading.behind ns n)) (Voice n) b (lists-follow ns n)))
 step_follows (reading.semicolon f) b h =
     both_ways (Follows (reading.semicolon f)) (eqb b 110) _ _ _ _ (λ t. record { state = refl; rows = refl })
     (λ t. both_ways (Follows (reading.semicolon f)) (eqb b 98) _ _ _ _ (λ u. record { state = refl; rows = refl })
@@ -181,7 +180,7 @@ step_follows (reading.counting f w ns (Some n)) b h =
     (λ t. record { state = refl; rows = refl })
     (λ t. both_ways (Follows (reading.counting f w ns (Some n))) (ltb (length ns + 1) (arity w)) _ _ _ _
     (λ u. another-follows f w ns n b (ltb-true (length ns + 1) (arity w) u))
-    (λ u. ending-follows (reading.counting f w ns (Some n)) (reading.with_condition f w (reading.behind ns n))
-    (condition (predicate_by w (reading.behind ns n))) _ b
-    (words-follow w ns n (let l = ltb-false (length ns + 1) (arity w) u in let r = h.room in omega arith))
-    (condition-follow f w (reading.behind ns n))))
+    (λ u. ending-follows (reading.counting f w ns (Some n)) (reading.with_condition f w (reading.behind ns n)) _ b
+    (condition-follow f w (reading.behind ns n)
+    ∙ ap (λ (k : Kind). open_rows (pattern_of f) ++ (row_of k ∷ []))
+    (kind-follow w ns n (let l = ltb-false (length ns + 1) (arity w) u in let r = h.room in omega arith)))))

@@ -1,9 +1,9 @@
 -- The tests of refusal 17 in order, then 16, then the matches.
-use Prim.Native.Nat.{ℕ, ◌≤◌}
+use Prim.Native.Nat.{◌≤◌}
 use native.Mathlib.Omega.{arith}
-use mathlib.Core.Path.{refl, sym, ap, subst, ◌∙◌}
+use mathlib.Core.Path.{refl, sym, ap, ◌∙◌}
 use mathlib.Core.Bool.{true, false}
-use Rattle.std.specs.Prelude.{Ok}
+use Rattle.plan.specs.declared.answers.Sizes.{Sizes}
 use Rattle.plan.specs.Check.{sizes}
 use Rattle.plan.specs.Inner.Outline.{outline_at}
 use Rattle.matcher.specs.declared.cursor.Cursor.{Cursor}
@@ -13,38 +13,34 @@ use Rattle.matcher.proofs.Laws.Cursors.{length-ats, length-ends, ats-at, ends-at
 use Rattle.matcher.proofs.Laws.Range.{range-number, range_doc, range_small}
 use Rattle.matcher.proofs.Laws.Testing.{small_decides}
 use Rattle.volume.proofs.Laws.Check.{good}
-use Rattle.enumeration.specs.Answers.{said_matched}
-use Rattle.enumeration.specs.Enumeration.{Kept}
 use Rattle.enumeration.proofs.Laws.Enumerating.{matched_17, matched_16, told-refused}
 use Rattle.enumeration.proofs.Laws.Placing.{cursor-stretch, cursor-mark, document-at}
 use Rattle.enumeration.proofs.enumerate.matches_of.Goals as goal
 use Rattle.enumeration.proofs.enumerate.matches_of.Goals.{After-lay_out, then-from-outline-via-then-from-outline, then-from-outline-via-else-from-outline+then-doc-gt-LAST_DOC, then-from-outline-via-else-from-outline+else-doc-gt-LAST_DOC+then-not-in_document}
 
-pub lay_out-requires : goal.lay_out-requires
-lay_out-requires c =
-    let m = (given _ _ c.requires.accepted).most-patterns in
-    record {
-      by_index = (c.args.volume.now, c.requires.accepted);
-      patterns_value = c.requires.patterns_value;
-      patterns_in_bounds = omega arith;
-    }
+pub lay_out-requires-clause-patterns_in_bounds : goal.lay_out-requires-clause-patterns_in_bounds
+lay_out-requires-clause-patterns_in_bounds c =
+    let m = (given _ _ c.args.query.now.accepted).most-patterns in
+    let n = ap (λ (s : Sizes). s.patterns) c.args.query.now.sizes_are in
+    omega arith
 
 pub bounds-table-pattern : goal.bounds-table-pattern
 bounds-table-pattern c =
-    let m = (given _ _ c.requires.accepted).most-patterns in
+    let m = (given _ _ c.args.query.now.accepted).most-patterns in
+    let n = ap (λ (s : Sizes). s.patterns) c.args.query.now.sizes_are in
     let l = c.lay_out.auto.table in
     omega arith
 
 -- the outline that is read is that of the pattern
-outline : (c : After-lay_out) → let a = c.args in Outlined a.plan.now a.pattern (outline_at c.lay_out.new.table a.pattern)
-outline c = let p = c.requires in outlined c.lay_out.new.table c.lay_out.ensures c.args.pattern (omega arith) refl
+outline : (c : After-lay_out) → let a = c.args in Outlined a.query.now.plan.now a.pattern (outline_at c.lay_out.new.table a.pattern)
+outline c = let n = ap (λ (s : Sizes). s.patterns) c.args.query.now.sizes_are in let p = c.requires in outlined c.lay_out.new.table c.lay_out.ensures c.args.pattern (omega arith) refl
 
 pub returns-then-from-outline : goal.returns-then-from-outline
 returns-then-from-outline c =
     let o = outline (goal.at.returns-then-from-outline c).After-lay_out in
     let a = c.args in
-    told-refused a.volume.now a.plan.now a.pattern a.doc a.from.now a.out.now 17 0
-    (matched_17 _ _ _ _ _ _ (sizes a.plan.now) c.requires.accepted
+    told-refused a.query.now.volume.bytes.now a.query.now.plan.now a.pattern a.doc a.from.now a.out.now 17 0
+    (matched_17 _ _ _ _ _ _ (sizes a.query.now.plan.now) c.args.query.now.accepted
     (elim c.then-from-outline.branch [
       | then-from-outline-via-then-from-outline w ↦ range-number _ _ _ _ _ (omega arith) (λ e. omega arith)
       | then-from-outline-via-else-from-outline+then-doc-gt-LAST_DOC w ↦ range_doc _ _ _ _ _ (omega arith) (omega arith) (omega arith)
@@ -56,47 +52,28 @@ pub returns-then-out-outline : goal.returns-then-out-outline
 returns-then-out-outline c =
     let o = outline (goal.at.returns-then-out-outline c).After-lay_out in
     let a = c.args in
-    told-refused a.volume.now a.plan.now a.pattern a.doc a.from.now a.out.now 16 0
-    (matched_16 _ _ _ _ _ _ (sizes a.plan.now) c.requires.accepted (range_small _ _ _ _ _ (omega arith) (omega arith) (omega arith) true (sym c.in_document.ensures ∙ c.if-not-in_document.false))
+    told-refused a.query.now.volume.bytes.now a.query.now.plan.now a.pattern a.doc a.from.now a.out.now 16 0
+    (matched_16 _ _ _ _ _ _ (sizes a.query.now.plan.now) c.args.query.now.accepted (range_small _ _ _ _ _ (omega arith) (omega arith) (omega arith) true (sym c.in_document.ensures ∙ c.if-not-in_document.false))
     (let v = o.entry.outlines.vars_are in let k = o.pattern-is in omega arith))
 
 -- the pattern has at most eight variables
 few : (c : After-lay_out) → (outline_at c.lay_out.new.table c.args.pattern).vars ≤ 8
 few c =
     let o = outline c in
-    let m = ((given _ _ c.requires.accepted).well-made _ o.there).most-vars in
+    let m = ((given _ _ c.args.query.now.accepted).well-made _ o.there).most-vars in
     let v = o.entry.outlines.vars_are in
     omega arith
 
-pub set_cursors-requires : goal.set_cursors-requires
-set_cursors-requires c =
-    let o = outline (goal.at.set_cursors-requires c).After-lay_out in
-    let m = few (goal.at.set_cursors-requires c).After-lay_out in
-    record {
-      accepted = c.requires.accepted;
-      pattern_bound = o.there;
-      outlines = o.entry.outlines;
-      vars_in_bounds = omega arith;
-    }
-
-pub starts_of-list-requires : goal.starts_of-list-requires
-starts_of-list-requires c = (given _ _ c.requires.accepted).volume-accepted
+pub set_cursors-requires-clause-vars_in_bounds : goal.set_cursors-requires-clause-vars_in_bounds
+set_cursors-requires-clause-vars_in_bounds c = let m = few (goal.at.set_cursors-requires-clause-vars_in_bounds c).After-lay_out in omega arith
 
 pub seek-starts-requires : goal.seek-starts-requires
 seek-starts-requires c =
-    let ok = (given _ _ c.requires.accepted).volume-accepted in
+    let ok = c.args.query.now.volume.accepted in
     cursor-stretch _ ok 0 (good _ ok).lists-some c.starts_of-list.result c.starts_of-list.ensures
 
-pub rarest_first-requires : goal.rarest_first-requires
-rarest_first-requires c =
-    let o = outline (goal.at.rarest_first-requires c).After-lay_out in
-    let m = few (goal.at.rarest_first-requires c).After-lay_out in
-    record {
-      accepted = c.requires.accepted;
-      pattern_bound = o.there;
-      outlines = o.entry.outlines;
-      vars_in_bounds = omega arith;
-    }
+pub rarest_first-requires-clause-vars_in_bounds : goal.rarest_first-requires-clause-vars_in_bounds
+rarest_first-requires-clause-vars_in_bounds c = let m = few (goal.at.rarest_first-requires-clause-vars_in_bounds c).After-lay_out in omega arith
 
 pub write_matches-requires : goal.write_matches-requires
 write_matches-requires c =
@@ -109,10 +86,10 @@ write_matches-requires c =
     let x = length-ats firsts in
     let y = length-ends firsts in
     let placed = c.set_cursors.ensures in
-    let ok = (given _ _ c.requires.accepted).volume-accepted in record {
+    let ok = c.args.query.now.volume.accepted in record {
       sought = record {
         posed = record {
-          accepted = c.requires.accepted;
+          accepted = c.args.query.now.accepted;
           pattern = o.there;
           outlines = o.entry.outlines;
           document = document-at _ ok c.args.doc (omega arith) c.starts_of-list.result c.seek-starts.result
@@ -122,17 +99,9 @@ write_matches-requires c =
         };
         order_is = rw v c.rarest_first.ensures.rarest_first.each;
         firsts-room = omega arith;
-        firsts_are = λ x h. rw (ats-at firsts x) (cursor-mark _ ok _ (((given _ _ c.requires.accepted).well-made _ o.there).lists x (omega arith)).1 _ _ (placed x h));
+        firsts_are = λ x h. rw (ats-at firsts x) (cursor-mark _ ok _ (((given _ _ c.args.query.now.accepted).well-made _ o.there).lists x (omega arith)).1 _ _ (placed x h));
       };
       from_len = omega arith;
       in_document = (small_decides c.args.from.now).yes (sym c.in_document.ensures ∙ c.if-not-in_document.false);
       vars_in_bounds = omega arith;
     }
-
-pub returns : goal.returns
-returns c =
-    let a = c.args in
-    subst
-    (λ (k : ℕ). Kept a.volume.now a.plan.now k a.doc a.from.now (record { lent = a.out.now; says = said_matched (Ok c.write_matches.result); back = c.write_matches.new.out }))
-    (outline (goal.at.returns c).After-lay_out).pattern-is
-    c.write_matches.ensures

@@ -10,7 +10,7 @@ use Rattle.enumeration.proofs.enumerate.write_matches.Given as goal
 
 abbrev pub invariant-loop-walk : goal.invariant-loop-walk
 invariant-loop-walk l = record {
-  writing : Writing l.pattern.volume.now l.pattern.document.doc (form_of l.pattern) l.pattern.outline.vars l.from l.initial.out l.walk.lows (ats_of l.walk.marks) l.out l.count;
+  writing : Writing l.pattern.query.volume.bytes.now l.pattern.document.doc (form_of l.pattern) l.pattern.outline.vars l.from l.initial.out l.walk.lows (ats_of l.walk.marks) l.out l.count;
   marks_end : ends_of l.walk.marks ≡ ends_of l.pattern.firsts;
   here_end : ends_of l.walk.here ≡ ends_of l.pattern.firsts;
   positions_long : length l.walk.positions ≡ 8;

@@ -10,7 +10,7 @@ use Rattle.enumeration.proofs.next.next_match.Given as goal
 abbrev pub invariant-loop-held : goal.invariant-loop-held
 invariant-loop-held l = record {
   carried :
-      Carried l.pattern.volume.now l.pattern.document.doc (form_of l.pattern) l.pattern.outline.vars l.initial.walk.lows (ats_of l.initial.walk.marks) l.walk.lows (ats_of l.walk.marks) l.held;
+      Carried l.pattern.query.volume.bytes.now l.pattern.document.doc (form_of l.pattern) l.pattern.outline.vars l.initial.walk.lows (ats_of l.initial.walk.marks) l.walk.lows (ats_of l.walk.marks) l.held;
   marks_end : ends_of l.walk.marks ≡ ends_of l.pattern.firsts;
   here_end : ends_of l.walk.here ≡ ends_of l.pattern.firsts;
   positions_length : length l.walk.positions ≡ length l.initial.walk.positions;

@@ -1,12 +1,13 @@
 use native.Mathlib.Omega.{arith}
 use Prim.Native.Nat.{ℕ, ◌+◌}
-use mathlib.Core.Path.{◌≡◌, refl, sym, ap, ◌∙◌, subst}
+use mathlib.Core.Path.{◌≡◌, sym, ap, ◌∙◌, subst}
 use lib.ListN.{length}
 use mathlib.Core.List.{List}
 use Rattle.std.proofs.Common.{Some, Ok, Err}
 use Rattle.line.specs.declared.reading.Stop.TheVariants.{Broken}
 use Rattle.line.specs.Inner.Reads.{FigureRead}
-use Rattle.line.specs.Inner.Store.{put_words}
+use Rattle.plan.specs.declared.row.Kind.TheVariants.{End}
+use Rattle.line.specs.Inner.Store.{put_row}
 use Rattle.line.proofs.Laws.Figure.{Within, within_first, within-length, within-most, within_end, within-goes, within_emits}
 use Rattle.line.proofs.Laws.Figure.{within-closes, within-stuck}
 use Rattle.line.proofs.figure.figure.Goals as goal
@@ -36,11 +37,10 @@ returns-in-Closes c =
     let a = c.args in
     let l = c.loop-at in
     let closes = sym c.step.ensures ∙ c.in-Some.is ∙ ap Some c.in-Closes.is in
-    let row = ap (λ (o : List ℕ). put_words o (l.rows + 1) (record { kind = 6; a = 0; b = 0; c = 0 })) c.put-in-Closes.ensures in
+    let row = ap (λ (o : List ℕ). put_row o (l.rows + 1) End) c.put-in-Closes.ensures in
     subst (λ (o : List ℕ). FigureRead a.text.now a.from a.first a.out.now o (Ok (record { at = l.at + 1; rows = l.rows + 2 })))
     (sym (c.put-in-Closes-2.ensures ∙ row))
-    (within-closes a.text.now a.from a.first a.out.now l.at l.state l.rows l.out l.invariant (omega arith)
-    c.in-Closes.words (record { kind = 6; a = 0; b = 0; c = 0 }) refl closes)
+    (within-closes a.text.now a.from a.first a.out.now l.at l.state l.rows l.out l.invariant (omega arith) c.in-Closes.kind closes)
 
 pub shape_of-out-in_default : goal.shape_of-out-in_default
 shape_of-out-in_default c =
@@ -67,7 +67,7 @@ loop-at-preserved c =
           (subst (λ (o : List ℕ). Within a.text.now a.from a.first a.out.now (l.at + 1) w.in-Emits.goes (l.rows + 1) o)
           (sym w.put.ensures)
           (within_emits a.text.now a.from a.first a.out.now l.at l.state l.rows l.out l.invariant (omega arith)
-          w.in-Emits.words w.in-Emits.goes (sym c.step.ensures ∙ c.in-Some.is ∙ ap Some w.in-Emits.is)))
+          w.in-Emits.kind w.in-Emits.goes (sym c.step.ensures ∙ c.in-Some.is ∙ ap Some w.in-Emits.is)))
     ]
 
 pub shape_of-out : goal.shape_of-out

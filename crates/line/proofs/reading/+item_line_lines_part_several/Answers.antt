@@ -237,7 +237,7 @@ lines-returns-in-62 t c =
     let s = a.text.now in
     let w = there s c.in_ok-end.field-0.at c.in-Some.is c.get.ensures.lookup.3 in
     lines_end s a.at a.depth a.least a.count a.first a.out.now c.line.new.out _ _ c.in_ok-end.ensures w.0 (w.1 ∙ c.in-62.is)
-    (omega arith) (omega arith) (omega (arith, c.requires.at_in_bounds)) c.put.new.out c.at_least.result c.at_least.ensures c.put.ensures
+    (omega arith) (omega arith) (omega (arith, c.requires.at_in_bounds)) c.put.new.out c.put.ensures
 
 pub lines-returns-in_default-byte : goal.lines-returns-in_default-byte
 lines-returns-in_default-byte t c =
