@@ -1,4 +1,5 @@
-// Numbers as bytes, little-endian.
+// Numbers as bytes, little-endian. Each size has a reader and a writer of its own: a trait over both
+// would be longer than their bodies.
 ghost use Rattle.std.specs.Prelude.{◌≡◌, ◌++◌, ◌+◌, ◌≤◌, length, take, drop};
 ghost use Rattle.block.specs.Bytes.{le16, le32, bytes16, bytes32};
 

@@ -8,7 +8,7 @@ ghost use Rattle.block.specs.Checksum.{check_a, check_b};
 ghost use Rattle.block.specs.Parts.{part_of, sums_of, first_half, second_half};
 ghost use Rattle.block.specs.Inner.Sums.{plain_of, weighted_of, AtMost};
 
-use super::rows::{Row, RowSums, columns, four_at, half_rows, tilted};
+use super::rows::{Row, RowSums, columns, half_rows, row_at, tilted};
 
 // The two sums of a block.
 #[derive(Clone, Copy, Debug, PartialEq, Eq)]
@@ -49,8 +49,8 @@ fn first_sums(half: &[u8]) -> Half
     requires { length half.now ≡ 256 }
     ensures { result ≡ first_half half.now }
 {
-    let rows = half_sums(four_at(half, 0), half_rows(half));
-    let last = four_at(half, 252);
+    let rows = half_sums(row_at::<4>(half, 0), half_rows(half));
+    let last = row_at::<4>(half, 252);
     let behind = columns(last);
     let plain = rows.plain + behind;
     let weighted = 256 * rows.plain + rows.weighted + 252 * behind + columns(tilted(last));
@@ -62,7 +62,7 @@ fn second_sums(half: &[u8]) -> Half
     requires { length half.now ≡ 252 }
     ensures { result ≡ part_of 256 half.now }
 {
-    half_sums(four_at(half, 0), half_rows(half))
+    half_sums(row_at::<4>(half, 0), half_rows(half))
 }
 
 // The sums of the first half of a block.

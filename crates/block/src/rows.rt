@@ -6,7 +6,7 @@
 // by all rows so far, so that row r counts n - 1 - r times in near + 8 * far. What is left, 8 - c,
 // tilts the sum of all rows. No lane passes 63,240.
 ghost use Rattle.std.specs.Prelude.{◌≡◌, ◌+◌, ◌*◌, ◌≤◌, length};
-ghost use Rattle.block.specs.Inner.Sums.{row_at, four_at, plus, tilted, columns, AtMost, Room, Rows, Eights};
+ghost use Rattle.block.specs.Inner.Sums.{row_at, plus, tilted, columns, AtMost, Room, Rows, Eights};
 
 // A row of eight columns.
 #[derive(Clone, Copy)]
@@ -31,28 +31,16 @@ pub struct RowSums {
     pub far: Row,
 }
 
-// The eight bytes at `at`.
-fn row_at(s: &[u8], at: usize) -> Row
-    requires { at + 8 ≤ length s.now }
-    ensures value { result ≡ row_at s.now at }
+// The N bytes at `at`, behind zeros.
+pub fn row_at<const N: usize>(s: &[u8], at: usize) -> Row
+    requires most { N ≤ 8 }
+    requires in_bounds { at + N ≤ length s.now }
+    ensures value { result ≡ row_at N s.now at }
     ensures at_most { AtMost 255 result }
 {
     let mut row = [0; 8];
-    for c in 0..8 {
-        row[c] = u16::from(s[at + c]);
-    }
-    Row(row)
-}
-
-// The four bytes at `at`, behind four zeros.
-pub fn four_at(s: &[u8], at: usize) -> Row
-    requires { at + 4 ≤ length s.now }
-    ensures value { result ≡ four_at s.now at }
-    ensures at_most { AtMost 255 result }
-{
-    let mut row = [0; 8];
-    for c in 0..4 {
-        row[4 + c] = u16::from(s[at + c]);
+    for c in 0..N {
+        row[8 - N + c] = u16::from(s[at + c]);
     }
     Row(row)
 }
@@ -104,7 +92,7 @@ fn rows_at(s: &[u8], at: usize, n: usize, first: Row) -> Stretch
     let mut near = first;
     for j in 0..n {
         near = plus(near, more);
-        more = plus(more, row_at(s, at + 8 * j));
+        more = plus(more, row_at::<8>(s, at + 8 * j));
     }
     Stretch { more, near }
 }

@@ -8,7 +8,7 @@
 --     Matches         the matches of a pattern of an accepted plan, from a tuple on
 --     Calls           one call of an enumeration: the ways in which it may go
 --     Enumeration     every enumeration, whole
---     Answers         an answer is known from its number and values and the words beside it
+--     Answers         an answer is known from its number and values; the eight words beside it
 --     Stages          the refusals of the call, by their numbers
 --     MatchesFirst    the call answers the first refusal that applies
 pub mod Attempts

@@ -1,12 +1,12 @@
 // Joining two volumes.
-ghost use Rattle.std.specs.Prelude.{◌≡◌, ◌+◌, ◌*◌, ◌≤◌, length};
-ghost use Rattle.volume.specs.Layout.{list_count, posting_count, extent, blocks_for};
+ghost use Rattle.std.specs.Prelude.{◌≡◌, ◌*◌, ◌≤◌, length};
+ghost use Rattle.volume.specs.Layout.{list_count, posting_count, blocks_for};
 ghost use Rattle.volume.specs.Check.{Accepted};
 ghost use Rattle.volume.specs.Inner.Storing.{stored_first};
 ghost use Rattle.join.specs.Answers.{said_joined};
 ghost use Rattle.join.specs.Join.{join_rest, join_answer, join_out};
 ghost use Rattle.join.specs.Refusals.{extent_of_both};
-ghost use Rattle.join.specs.Inner.Reading.{joined_word, Lifts, Joinable};
+ghost use Rattle.join.specs.Inner.Reading.{joined_word};
 ghost use Rattle.join.specs.Inner.Joining.{rest_out};
 
 use super::answers::JoinError;

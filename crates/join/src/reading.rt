@@ -4,7 +4,7 @@ ghost use Rattle.std.specs.Prelude.{◌≡◌, ◌+◌, ◌*◌, ◌-◌, ◌%�
 ghost use Rattle.seq.specs.Numbers.{run};
 ghost use Rattle.volume.specs.Layout.{word, list_count, lead, extent, stream_length};
 ghost use Rattle.join.specs.Refusals.{extent_of_both};
-ghost use Rattle.join.specs.Inner.Reading.{joined_word, head_word, Liftable, Lifts, Joinable, made, read_of};
+ghost use Rattle.join.specs.Inner.Reading.{joined_word, head_word, Liftable, made, read_of};
 ghost use Rattle.join.specs.Inner.Reading.{front_of, StandsAt, StandsBefore, Turned};
 
 use super::sources::Sources;

@@ -3,7 +3,8 @@ ghost use Rattle.std.specs.Prelude.{◌∷◌, [], ◌≡◌, ◌+◌, ◌<◌, 
 ghost use Rattle.seq.specs.Decimal.{decimal};
 ghost use Rattle.printer.specs.Inner.Writing.{Put, only, spaced};
 
-// A buffer, and the index at which the text in it begins so far.
+// A lent buffer, and the index at which the text in it begins. Each function says that the buffer
+// stays the same one: without that the lender knows nothing of its bytes.
 #[derive(Drop)]
 pub struct Text<'a> {
     pub out: &'a mut [u8],
@@ -34,7 +35,7 @@ impl<'a> Text<'a> {
         }
     }
 
-    // A number in base ten, the last digit first.
+    // A number in base ten, the last digit first: the loop divides, and counts nothing.
     pub fn put_number(&mut self, n: u32)
         requires { length (decimal n) ≤ self.old.at }
         ensures put { Put (decimal n) self.old self.new }

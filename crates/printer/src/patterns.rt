@@ -1,5 +1,5 @@
-// Patterns (01: figures), written from the end of their text to its beginning. Where their rows
-// begin is what is answered.
+// Patterns (01: figures), written from the end of their text to its beginning. What writes rows
+// answers the row at which they begin.
 ghost use Rattle.std.specs.Prelude.{◌∷◌, [], ◌≡◌, ◌≤◌, length};
 ghost use Rattle.grammar.specs.Grammar.{condition_text};
 ghost use Rattle.grammar.specs.Query.{condition_of};

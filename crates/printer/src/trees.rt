@@ -1,5 +1,5 @@
 // Trees of patterns, written from the end of their text to its beginning, with no round bracket
-// that could be dropped. Where their rows begin is what is answered.
+// that could be dropped. Each function that writes rows answers the row at which they begin.
 ghost use Rattle.std.specs.Prelude.{◌≡◌};
 ghost use Rattle.plan.specs.Rows.{row_at};
 ghost use Rattle.plan.specs.declared.row.Kind.TheVariants as kind;
@@ -106,8 +106,8 @@ fn put_node(
     left
 }
 
-// The tree of an AT LEAST whose row is row `last`. It is an item, so that it is written alike at every
-// level.
+// The tree of an AT LEAST whose row is row `last`. It is an item, so that it is written alike at
+// every level.
 #[cycle(put_lines_put_node_put_threshold_put_tree)]
 fn put_threshold(plan: &[u32], last: usize, least: u32, of: u32, text: &mut Text) -> usize
     requires tree_room { TreeRoom plan.now last level.Item text.old.at }
@@ -122,8 +122,8 @@ fn put_threshold(plan: &[u32], last: usize, least: u32, of: u32, text: &mut Text
     lines
 }
 
-// The trees, `count` of them, of which the last one ends at row `last`, each as a line with the byte
-// in front of it.
+// The trees, `count` of them, of which the last one ends at row `last`, each as a line with the
+// byte in front of it.
 #[cycle(put_lines_put_node_put_threshold_put_tree)]
 fn put_lines(plan: &[u32], last: usize, count: u32, text: &mut Text) -> usize
     requires { LinesRoom plan.now last count text.old.at }

@@ -4,6 +4,7 @@
 --     first_done, second-done  the sums of a half, from its rows
 -- Assumes nothing.
 use Prim.Native.Nat.{ℕ, ◌+◌, ◌*◌, ◌-◌, ◌≤◌}
+use native.Mathlib.Nat.{add-zero}
 use native.Mathlib.Omega.{arith}
 use mathlib.Core.Path.{◌≡◌, ap, ap₂, ◌∙◌}
 use mathlib.Core.List.{List, [], ◌∷◌}
@@ -15,7 +16,7 @@ use Rattle.seq.proofs.Laws.Slices.{length_slice, take_slice}
 use Rattle.block.specs.declared.rows.Row.{Row}
 use Rattle.block.specs.declared.rows.RowSums.{RowSums}
 use Rattle.block.specs.Parts.{weighed, part_of, first_half, sums_of, checksum_of}
-use Rattle.block.specs.Inner.Sums.{tot, weigh, four_at, columns, tilted, slope, Eights, plain_of, weighted_of}
+use Rattle.block.specs.Inner.Sums.{tot, weigh, row_at, columns, tilted, slope, Eights, plain_of, weighted_of}
 use Rattle.block.proofs.Laws.Bytes.{drop-four}
 use Rattle.block.proofs.Laws.Parts.{weighed-weigh, second-first}
 
@@ -32,7 +33,7 @@ slices-sums s o h =
     ∙ ap checksum_of (rw (drop-drop 256 o s) at (take_slice (drop o s) 256 252 508 (omega arith))))
 
 -- the bytes from o on are the last four
-module _ (s : List ℕ) (o : ℕ) {row : Row} (row_is : row ≡ four_at s o) (l : length s ≡ o + 4) where
+module _ (s : List ℕ) (o : ℕ) {row : Row} (row_is : row ≡ row_at 4 s o) (l : length s ≡ o + 4) where
   last-four : drop o s ≡ get_or s o 0 ∷ get_or s (o + 1) 0 ∷ get_or s (o + 2) 0 ∷ get_or s (o + 3) 0 ∷ []
   last-four =
       let e : drop (o + 4) s ≡ [] = drop_of_length-le s {i = o + 4} (omega arith) in
@@ -40,15 +41,15 @@ module _ (s : List ℕ) (o : ℕ) {row : Row} (row_is : row ≡ four_at s o) (l 
 
   last-tot : tot (drop o s) ≡ columns row
   unfolding columns total run sum_to
-  last-tot = rw (last-four, row_is) (omega arith)
+  last-tot = rw (last-four, row_is, add-zero o) (omega arith)
 
   last-weigh : weigh (drop o s) ≡ slope row
   unfolding columns tilted weigh run sum_to
-  last-weigh = rw (last-four, row_is) (omega arith)
+  last-weigh = rw (last-four, row_is, add-zero o) (omega arith)
 
 -- four bytes and the 31 rows behind them, as `half_sums` adds them up
 module _ {s : List ℕ} {row : Row} {t : RowSums} {p w : ℕ}
-    (row_is : row ≡ four_at s 0) (d : Eights s 4 3 t)
+    (row_is : row ≡ row_at 4 s 0) (d : Eights s 4 3 t)
     (p-is : p ≡ plain_of row t) (w-is : w ≡ weighted_of row t) where
   front-tot : 252 ≤ length s → tot s ≡ p + tot (drop 252 s)
   unfolding columns total run sum_to
@@ -64,7 +65,7 @@ module _ {s : List ℕ} {row : Row} {t : RowSums} {p w : ℕ}
   front-weigh-four l = omega (arith, rw row_is at p-is, rw row_is at w-is, rw (length-drop 4 s, l) at (ap weigh (drop-four s 0 (omega arith))), rw l at d.weigh-is)
 
   -- the first half of a block: its last four bytes stand behind them
-  pub first_done : {last : Row} → last ≡ four_at s 252 → length s ≡ 256
+  pub first_done : {last : Row} → last ≡ row_at 4 s 252 → length s ≡ 256
       → record { plain = p + columns last; weighted = 256 * p + w + 252 * columns last + slope last } ≡ first_half s
   first_done last-is l =
       let plain = front-tot (omega arith) in

@@ -1,7 +1,7 @@
 -- The laws of `specs/Inner/Sums.antt`. No contract cites this file.
 --     columns-plus, slope-plus, at_most-plus, at_most-up, room_of     two rows added: their sums, bounds and room
 --     at_most-zeros                                                   the columns of zeros
---     row_is, four_is                                                 a row, by its columns
+--     row_is, bytes_are                                               a row, by its columns
 --     tot-row, weigh-row                                              eight bytes of a list, as a row, in front of the rest
 --     rows-first, rows_again                                          `Rows` with no row, and with one more
 --     rows-room-more, rows-room-near                                  the two additions of that row have room
@@ -9,7 +9,7 @@
 --     eights-near, eights-room-far, eights-room-all                   these eight start small enough, and their additions have room
 -- Assumes nothing.
 use Prim.Native.Nat.{ℕ, ◌+◌, ◌*◌, ◌-◌, ◌<◌, ◌≤◌}
-use native.Mathlib.Nat.{zero-add, add-zero, suc-mul}
+use native.Mathlib.Nat.{zero-add, suc-mul}
 use native.Mathlib.Omega.{arith}
 use mathlib.Core.Path.{◌≡◌, refl, sym, ap, ap₂, ◌∙◌}
 use mathlib.Core.List.{List, ◌++◌}
@@ -19,10 +19,10 @@ use Rattle.seq.specs.Numbers.{run, sum_to}
 use Rattle.seq.proofs.Laws.Runs.{run-get_or}
 use Rattle.seq.proofs.Laws.Slices.{slice-run}
 use Rattle.std.proofs.lemmas.List.{get_or-replicate}
-use Rattle.seq.proofs.Laws.Numbers.{run_ext, get_or-run, sum_step, sum_mono}
+use Rattle.seq.proofs.Laws.Numbers.{run_append, run_ext, get_or-run, sum_step, sum_mono}
 use Rattle.seq.specs.Lists.{at, total}
 use Rattle.block.specs.declared.rows.Row.{Row}
-use Rattle.block.specs.Inner.Sums.{tot, weigh, row_of, column, row_at, four_at, zeros, plus, tilted, columns, slope, AtMost, Room, tri, Rows, Eights}
+use Rattle.block.specs.Inner.Sums.{tot, weigh, row_of, column, row_at, zeros, plus, tilted, columns, slope, AtMost, Room, tri, Rows, Eights}
 
 columns-zeros : columns zeros ≡ 0
 unfolding columns sum_to
@@ -38,14 +38,16 @@ row_is f xs l e =
     ap (λ (ys : List ℕ). record { 0 = ys })
     (sym (rw l at (run-get_or 0 xs)) ∙ run_ext (at xs) f 0 0 8 (λ j h. rw (zero-add j) (e j h)))
 
-pub four_is : (s xs : List ℕ) (o : ℕ) → length xs ≡ 8 → ((k : ℕ) → k < 4 → at xs k ≡ 0) → ((k : ℕ) → k < 4 → at xs (4 + k) ≡ at s (o + k))
-    → record { 0 = xs } ≡ four_at s o
-unfolding run
-four_is s xs o l z e =
-    let first : at xs 4 ≡ at s o = rw (add-zero o) at (e 0 (omega arith)) in
+pub bytes_are : (n : ℕ) (s xs : List ℕ) (o : ℕ) → n ≤ 8 → length xs ≡ 8 → ((k : ℕ) → k < 8 - n → at xs k ≡ 0)
+    → ((k : ℕ) → k < n → at xs (8 - n + k) ≡ at s (o + k)) → record { 0 = xs } ≡ row_at n s o
+bytes_are n s xs o h l z e =
+    let parts : 8 - n + n ≡ 8 = omega arith in
     ap (λ (ys : List ℕ). record { 0 = ys })
     (sym (rw l at (run-get_or 0 xs))
-    ∙ rw (z 0 (omega arith), z 1 (omega arith), z 2 (omega arith), z 3 (omega arith), first, e 1 (omega arith), e 2 (omega arith), e 3 (omega arith)))
+    ∙ rw parts at (run_append (at xs) 0 (8 - n) n)
+    ∙ ap₂ (λ (a b : List ℕ). a ++ b)
+    (run_ext (at xs) (λ c. 0) 0 0 (8 - n) (λ j i. rw (zero-add j) (z j i)))
+    (run_ext (at xs) (λ c. at s (o + c)) (0 + (8 - n)) 0 n (λ j i. rw (zero-add (8 - n), zero-add j) (e j i))))
 
 column-is : (f : ℕ → ℕ) (c : ℕ) → c < 8 → column (row_of f) c ≡ f c
 column-is f c h = get_or-run f 0 8 c 0 h ∙ ap f (zero-add c)
@@ -74,12 +76,13 @@ pub at_most-zeros : {n : ℕ} → AtMost n zeros
 at_most-zeros = record { each = λ c i. let z : ℕ = 0 in rw (get_or-replicate 8 c z z i) (omega arith) }
 
 module _ (s : List ℕ) (o : ℕ) (h : o + 8 ≤ length s) where
-  drop-row : drop o s ≡ (row_at s o).0 ++ drop (o + 8) s
+  drop-row : drop o s ≡ (row_at 8 s o).0 ++ drop (o + 8) s
+  unfolding run
   drop-row =
       sym (take-append-drop 8 (drop o s))
       ∙ ap₂ (λ (a b : List ℕ). a ++ b) (slice-run 0 s o 8 h ∙ run_ext (at s) (λ c. at s (o + c)) o 0 8 (λ j i. ap (λ (n : ℕ). at s (o + n)) (sym (zero-add j)))) (drop-drop 8 o s)
 
-  module _ {row : Row} (row-is : row ≡ row_at s o) where
+  module _ {row : Row} (row-is : row ≡ row_at 8 s o) where
     tot-row : tot (drop o s) ≡ columns row + tot (drop (o + 8) s)
     unfolding columns total run sum_to
     tot-row = rw (drop-row, row-is) (omega arith)
@@ -107,7 +110,7 @@ module _ {s : List ℕ} {o : ℕ} {near₀ : Row} where
       }
 
   module _ {j : ℕ} {more near : Row} (r : Rows s o near₀ j more near) where
-    pub rows_again : {row more' near' : Row} → row ≡ row_at s (o + 8 * j) → AtMost 255 row → near' ≡ plus near more → more' ≡ plus more row → o + 8 * j + 8 ≤ length s → Rows s o near₀ (j + 1) more' near'
+    pub rows_again : {row more' near' : Row} → row ≡ row_at 8 s (o + 8 * j) → AtMost 255 row → near' ≡ plus near more → more' ≡ plus more row → o + 8 * j + 8 ≤ length s → Rows s o near₀ (j + 1) more' near'
     rows_again row-is w near-is more-is h =
         let e : o + 8 * (j + 1) ≡ o + 8 * j + 8 = omega arith in
         let l : length s - (o + 8 * j) ≡ length s - (o + 8 * j + 8) + 8 = omega arith in

@@ -1,7 +1,7 @@
 -- The sums of bytes by columns of eight: what `src/rows.rt` computes with. No call's promise rests on this file alone.
 --     tot, weigh             the bytes of a list added up; each byte as often as there are bytes from it on
 --     row_of, column         a row of eight columns, by their index; one of them
---     row_at, four_at        eight bytes as a row of columns; four bytes, behind zeros
+--     row_at                 some bytes as a row of columns, behind zeros
 --     zeros, plus            a row of zeros; two rows added
 --     tilted                 each column as often as there are columns from it on
 --     columns, slope         the columns added up; those of the tilted row
@@ -10,7 +10,7 @@
 --     Rows, Eights           the sums after so many rows; after seven rows and so many times eight
 --     plain_of, weighted_of  the two sums of a row and 31 rows, from their columns
 -- Assumes nothing.
-use Rattle.std.specs.Prelude.{ℕ, ◌+◌, ◌*◌, ◌-◌, ◌≤◌, ◌<◌, ◌≡◌, List, [], ◌∷◌, length, replicate, drop}
+use Rattle.std.specs.Prelude.{ℕ, ◌+◌, ◌*◌, ◌-◌, ◌≤◌, ◌<◌, ◌≡◌, List, [], ◌∷◌, ◌++◌, length, replicate, drop}
 use Rattle.seq.specs.Numbers.{run, sum_to}
 use Rattle.seq.specs.Lists.{at, total}
 use Rattle.block.specs.declared.rows.Row.{Row}
@@ -32,13 +32,9 @@ row_of f = record { 0 = run f 0 8 }
 abbrev pub column : Row → ℕ → ℕ
 column x c = at x.0 c
 
--- the eight bytes from o on
-abbrev pub row_at : List ℕ → ℕ → Row
-row_at s o = row_of (λ c. at s (o + c))
-
--- the four bytes from o on, behind four zeros
-abbrev pub four_at : List ℕ → ℕ → Row
-four_at s o = record { 0 = 0 ∷ 0 ∷ 0 ∷ 0 ∷ at s o ∷ at s (o + 1) ∷ at s (o + 2) ∷ at s (o + 3) ∷ [] }
+-- the n bytes from o on, behind zeros
+abbrev pub row_at : ℕ → List ℕ → ℕ → Row
+row_at n s o = record { 0 = run (λ c. 0) 0 (8 - n) ++ run (λ c. at s (o + c)) 0 n }
 
 -- a row of zeros, and two rows added
 abbrev pub zeros : Row

@@ -1,4 +1,4 @@
--- An answer is known from its number and values. No contract cites this file.
+-- An answer is known from its number and values; the eight words beside it. No contract cites this file.
 --     heard_matched, heard-matched     the answer with a number and values
 --     one-to-one                       no two answers are told alike
 --     beside-next                      the eight words beside an answer, by what it names

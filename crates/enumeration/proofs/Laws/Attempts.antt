@@ -1,5 +1,5 @@
 -- How the variables of a pattern are brought to bounds in a document, and its least match from there on. No contract cites this file.
---     Standing-to, standing-first, standing-next, standing-out, standing-done     the first variables of an order are brought to
+--     Standing-to, standing-next, standing-out, standing-done     the first variables of an order are brought to
 --                                positions that are not below bounds
 --     mark-start                 a variable set to its mark
 --     set-ats, set-ends, jumps-from     a cursor set to its mark, which jumps from there
@@ -54,9 +54,6 @@ pub record Standing-to (v : List ℕ) (d : ℕ) (order ends lows marks here₀ p
       × ((get_or here y 0 < get_or ends y 0) × ((doc_of (word v (get_or here y 0)) ≡ d) × (get_or ps y 0 ≡ pos_of (word v (get_or here y 0)))))
 
 module _ (v : List ℕ) (d : ℕ) (order ends lows marks here₀ ps₀ : List ℕ) where
-  pub standing-first : Standing-to v d order ends lows marks here₀ ps₀ here₀ ps₀ 0
-  standing-first = record { here-length = refl; ps-length = refl; stood = λ j h. absurd (let z : ⊥ = omega arith in z) }
-
   -- the next variable of the order is set to its mark, and jumps
   module _ (here ps : List ℕ) (i : ℕ) (s : Standing-to v d order ends lows marks here₀ ps₀ here ps i)
       (h : get_or order i 0 < length here₀) (l : get_or order i 0 < length ps₀) where

@@ -3,11 +3,11 @@
 --     cursor-stretch, cursor-placed        a cursor on a list, brought in front of a document
 --     cursor-mark                          it has passed nothing of the document
 --     document-at                          a document, with such a cursor on list 0
---     Placing, placing-first, placing-next     the first variables have theirs
+--     Placing, placing-next                the first variables have theirs
 -- Assumes nothing.
 use Prim.Native.Nat.{ℕ, ◌+◌, ◌*◌, ◌<◌, ◌≤◌}
 use native.Mathlib.Omega.{arith}
-use mathlib.Core.Path.{◌≡◌, refl, ap, ap₂, ◌∙◌}
+use mathlib.Core.Path.{◌≡◌, ap, ap₂, ◌∙◌}
 use mathlib.Core.Logic.{⊎_elim, ◌≢◌}
 use mathlib.Core.List.{List}
 use lib.ListN.{length, get_or, set, length-set}
@@ -65,9 +65,6 @@ pub record Placing (v : List ℕ) (f : Pattern) (d : ℕ) (cursors₀ cursors : 
   pub placed : (y : ℕ) → y < x → get_or cursors y no_cursor ≡ cursor_on v (get_or f.vars y 0) d
 
 module _ (v : List ℕ) (f : Pattern) (d : ℕ) (cursors₀ : List Cursor) where
-  pub placing-first : Placing v f d cursors₀ cursors₀ 0
-  placing-first = record { same-length = refl; placed = λ y h. absurd (let z : ⊥ = omega arith in z) }
-
   pub placing-next : (cursors : List Cursor) (x : ℕ) (c : Cursor) → Placing v f d cursors₀ cursors x → x < length cursors₀ → c ≡ cursor_on v (get_or f.vars x 0) d
       → Placing v f d cursors₀ (set cursors x c) (x + 1)
   placing-next cursors x c t a p = record {

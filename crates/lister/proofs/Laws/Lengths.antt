@@ -65,9 +65,10 @@ rows_short width page n h =
         let b = length-take width (drop (i * width) page) in
         omega arith
 
--- a line of two numbers
-pub pair-short : (word : List ℕ) (a b : ℕ) → a < 4294967296 → b < 4294967296 → length (line word (a ∷ b ∷ [])) ≤ length word + 23
-pair-short word a b h l = let s = line-short word (a ∷ b ∷ []) two in omega arith
+-- a line of two numbers has room
+pub pair-short : (word : List ℕ) (a b : ℕ) {room : ℕ} → a < 4294967296 → b < 4294967296 → length word + 23 ≤ room
+    → 0 + length (line word (a ∷ b ∷ [])) ≤ room
+pair-short word a b h l r = let s = line-short word (a ∷ b ∷ []) two in omega arith
   where
     two : IsWords (a ∷ b ∷ [])
     two zero = h

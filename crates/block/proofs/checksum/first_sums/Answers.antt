@@ -7,4 +7,4 @@ returns c =
     let sums = c.half_sums-rows.ensures in
     let tilt = rw c.tilted.ensures at c.columns.ensures.value in
     rw (c.columns-behind.ensures.value, tilt)
-    (first_done c.four_at.ensures.value c.half_rows.ensures sums.plain_value sums.weighted_value c.four_at-last.ensures.value c.requires)
+    (first_done c.row_at.ensures.value c.half_rows.ensures sums.plain_value sums.weighted_value c.row_at-last.ensures.value c.requires)

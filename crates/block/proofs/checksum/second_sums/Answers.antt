@@ -5,4 +5,4 @@ use Rattle.block.proofs.checksum.second_sums.Goals as goal
 pub returns : goal.returns
 returns c =
     let rows = c.half_sums.ensures in
-    second-done c.four_at.ensures.value c.half_rows.ensures rows.plain_value rows.weighted_value c.requires
+    second-done c.row_at.ensures.value c.half_rows.ensures rows.plain_value rows.weighted_value c.requires

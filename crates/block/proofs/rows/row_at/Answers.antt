@@ -1,11 +1,8 @@
 use native.Mathlib.Omega.{arith}
-use Prim.Native.Nat.{◌+◌}
-use Rattle.seq.specs.Lists.{at}
-use Rattle.block.proofs.Laws.Sums.{row_is}
+use Rattle.block.proofs.Laws.Sums.{bytes_are}
 use Rattle.block.proofs.rows.row_at.Goals as goal
 
 pub returns-clause-value : goal.returns-clause-value
-returns-clause-value c =
-    let s = c.args.s.now in
-    let o = c.args.at in
-    row_is (λ k. at s (o + k)) c.loop-c.row c.loop-c.invariant.0 (λ k h. c.loop-c.invariant.1 k (omega arith))
+returns-clause-value g c =
+    let i = c.loop-c.invariant in
+    bytes_are g.row.N c.args.s.now c.loop-c.row c.args.at c.requires.most i.0 i.1 (λ k h. i.2 k (omega arith))

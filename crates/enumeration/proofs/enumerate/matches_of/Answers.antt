@@ -1,9 +1,8 @@
 -- The tests of refusal 17 in order, then 16, then the matches.
-use Prim.Native.Nat.{ℕ, ◌≤◌}
+use Prim.Native.Nat.{◌≤◌}
 use native.Mathlib.Omega.{arith}
-use mathlib.Core.Path.{refl, sym, ap, subst, ◌∙◌}
+use mathlib.Core.Path.{refl, sym, ap, ◌∙◌}
 use mathlib.Core.Bool.{true, false}
-use Rattle.std.specs.Prelude.{Ok}
 use Rattle.plan.specs.declared.answers.Sizes.{Sizes}
 use Rattle.plan.specs.Check.{sizes}
 use Rattle.plan.specs.Inner.Outline.{outline_at}
@@ -14,22 +13,16 @@ use Rattle.matcher.proofs.Laws.Cursors.{length-ats, length-ends, ats-at, ends-at
 use Rattle.matcher.proofs.Laws.Range.{range-number, range_doc, range_small}
 use Rattle.matcher.proofs.Laws.Testing.{small_decides}
 use Rattle.volume.proofs.Laws.Check.{good}
-use Rattle.enumeration.specs.Answers.{said_matched}
-use Rattle.enumeration.specs.Enumeration.{Kept}
 use Rattle.enumeration.proofs.Laws.Enumerating.{matched_17, matched_16, told-refused}
 use Rattle.enumeration.proofs.Laws.Placing.{cursor-stretch, cursor-mark, document-at}
 use Rattle.enumeration.proofs.enumerate.matches_of.Goals as goal
 use Rattle.enumeration.proofs.enumerate.matches_of.Goals.{After-lay_out, then-from-outline-via-then-from-outline, then-from-outline-via-else-from-outline+then-doc-gt-LAST_DOC, then-from-outline-via-else-from-outline+else-doc-gt-LAST_DOC+then-not-in_document}
 
-pub lay_out-requires : goal.lay_out-requires
-lay_out-requires c =
+pub lay_out-requires-clause-patterns_in_bounds : goal.lay_out-requires-clause-patterns_in_bounds
+lay_out-requires-clause-patterns_in_bounds c =
     let m = (given _ _ c.args.query.now.accepted).most-patterns in
     let n = ap (λ (s : Sizes). s.patterns) c.args.query.now.sizes_are in
-    record {
-      by_index = (c.args.query.now.volume.bytes.now, c.args.query.now.accepted);
-      patterns_value = n;
-      patterns_in_bounds = omega arith;
-    }
+    omega arith
 
 pub bounds-table-pattern : goal.bounds-table-pattern
 bounds-table-pattern c =
@@ -71,36 +64,16 @@ few c =
     let v = o.entry.outlines.vars_are in
     omega arith
 
-pub set_cursors-requires : goal.set_cursors-requires
-set_cursors-requires c =
-    let o = outline (goal.at.set_cursors-requires c).After-lay_out in
-    let m = few (goal.at.set_cursors-requires c).After-lay_out in
-    let n = ap (λ (s : Sizes). s.patterns) c.args.query.now.sizes_are in
-    let t = o.there in
-    record {
-      pattern_bound = omega arith;
-      outlines = o.entry.outlines;
-      vars_in_bounds = omega arith;
-    }
-
-pub starts_of-list-requires : goal.starts_of-list-requires
-starts_of-list-requires c = c.args.query.now.volume.accepted
+pub set_cursors-requires-clause-vars_in_bounds : goal.set_cursors-requires-clause-vars_in_bounds
+set_cursors-requires-clause-vars_in_bounds c = let m = few (goal.at.set_cursors-requires-clause-vars_in_bounds c).After-lay_out in omega arith
 
 pub seek-starts-requires : goal.seek-starts-requires
 seek-starts-requires c =
     let ok = c.args.query.now.volume.accepted in
     cursor-stretch _ ok 0 (good _ ok).lists-some c.starts_of-list.result c.starts_of-list.ensures
 
-pub rarest_first-requires : goal.rarest_first-requires
-rarest_first-requires c =
-    let o = outline (goal.at.rarest_first-requires c).After-lay_out in
-    let m = few (goal.at.rarest_first-requires c).After-lay_out in
-    record {
-      accepted = c.args.query.now.accepted;
-      pattern_bound = o.there;
-      outlines = o.entry.outlines;
-      vars_in_bounds = omega arith;
-    }
+pub rarest_first-requires-clause-vars_in_bounds : goal.rarest_first-requires-clause-vars_in_bounds
+rarest_first-requires-clause-vars_in_bounds c = let m = few (goal.at.rarest_first-requires-clause-vars_in_bounds c).After-lay_out in omega arith
 
 pub write_matches-requires : goal.write_matches-requires
 write_matches-requires c =
@@ -132,11 +105,3 @@ write_matches-requires c =
       in_document = (small_decides c.args.from.now).yes (sym c.in_document.ensures ∙ c.if-not-in_document.false);
       vars_in_bounds = omega arith;
     }
-
-pub returns : goal.returns
-returns c =
-    let a = c.args in
-    subst
-    (λ (k : ℕ). Kept a.query.now.volume.bytes.now a.query.now.plan.now k a.doc a.from.now (record { lent = a.out.now; says = said_matched (Ok c.write_matches.result); back = c.write_matches.new.out }))
-    (outline (goal.at.returns c).After-lay_out).pattern-is
-    c.write_matches.ensures

@@ -10,7 +10,7 @@ use Rattle.fulltext.specs.Order.{matches_from}
 use Rattle.matcher.specs.Inner.Settling.{given_if}
 use Rattle.enumeration.specs.Inner.Walking.{form_of}
 use Rattle.enumeration.proofs.Laws.Attempts.{posed-some, posed-few}
-use Rattle.enumeration.proofs.Laws.Writing.{begins, room-count, fits_more, next_small, wrote, stops, ends_there, wrote_kept}
+use Rattle.enumeration.proofs.Laws.Writing.{begins, room-count, fits_more, wrote, stops, ends_there, wrote_kept}
 use Rattle.enumeration.proofs.enumerate.write_matches.Goals as goal
 use Rattle.enumeration.proofs.enumerate.write_matches.Goals.{After-next_match, Start}
 
@@ -59,11 +59,6 @@ slice_bounds-copy_from_slice-end-in-loop-walk c =
     let k = room-count _ _ _ _ _ _ _ c.requires.sought _ _ _ _ _ _ c.loop-walk.invariant.writing in
     let r = fits_more c.loop-walk.count c.args.pattern.now.outline.vars (length c.args.out.now) (some-vars (goal.at.slice_bounds-copy_from_slice-end-in-loop-walk c).Start) (omega arith) in
     omega arith
-
-pub step_past-requires-clause-by_index : goal.step_past-requires-clause-by_index
-step_past-requires-clause-by_index c =
-    let m = (goal.at.step_past-requires-clause-by_index c).After-next_match in
-    next_small _ _ _ _ _ _ _ c.requires.sought _ _ _ _ _ _ c.loop-walk.invariant.writing _ (positions-long m) (sought m true c.loop-walk-test.true)
 
 pub loop-walk-preserved : goal.loop-walk-preserved
 loop-walk-preserved c =

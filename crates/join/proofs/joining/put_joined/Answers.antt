@@ -24,9 +24,6 @@ most-blocks e n i h = omega arith
 block-long : (xs : List ℕ) (k : ℕ) → 512 * k + 512 ≤ length xs → length (take (512 * k + 512 - 512 * k) (drop (512 * k) xs)) ≡ 512
 block-long xs k h = simp (length-take, length-drop) (omega arith)
 
-less : (n k : ℕ) → k < n → n - (k + 1) < n - k
-less n k h = omega arith
-
 pub front-merge-requires : goal.front-merge-requires
 front-merge-requires c =
     let g = good c.args.sources.now.first.now c.args.sources.now.joinable.first in
@@ -41,9 +38,6 @@ loop-k-init c =
       stands-first a.sources.now.lift a.sources.now.first.now a.sources.now.second.now c.args.sources.now.joinable _ a.sources.now.lists c.front-merge.ensures c.args.sources.now.lists_are,
       refl,
     )
-
-pub slice_bounds-next_block-end : goal.slice_bounds-next_block-end
-slice_bounds-next_block-end c = sym c.loop-k.invariant.2
 
 pub next_block-merge-requires : goal.next_block-merge-requires
 next_block-merge-requires c =
@@ -73,10 +67,6 @@ put_made-requires c =
       k_bound = omega (arith, most, more);
       out_len = block-long c.loop-k.out c.loop-k.k (omega (arith, room, same, more));
     }
-
-pub loop-k-smaller : goal.loop-k-smaller
-loop-k-smaller c =
-    less c.args.n c.loop-k.k c.loop-k-test.true
 
 pub loop-k-preserved : goal.loop-k-preserved
 loop-k-preserved c =

@@ -1,6 +1,5 @@
 -- `join::joining::put_joined` meets its contract. The loop's invariant: the first k blocks are stored, and the merge stands in front of block k.
--- The measure is what is left of the blocks. Assumes nothing.
-use Prim.Native.Nat.{◌-◌}
+-- Assumes nothing.
 use mathlib.Core.Path.{◌≡◌}
 use lib.ListN.{length}
 use Rattle.volume.proofs.Laws.Storing.{Laying}
@@ -12,6 +11,3 @@ invariant-loop-k l =
     Laying (joined_word l.sources.lift l.sources.first.now l.sources.second.now) 0 l.n l.initial.out l.out l.k
     × StandsBefore l.sources.first.now l.sources.second.now l.merge l.k
     × (length l.words ≡ 126)
-
-abbrev pub decreases-loop-k : goal.decreases-loop-k
-decreases-loop-k l = l.n - l.k

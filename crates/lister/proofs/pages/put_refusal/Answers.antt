@@ -7,7 +7,7 @@ use Rattle.lister.proofs.Laws.Lengths.{pair-short}
 use Rattle.lister.proofs.pages.put_refusal.Goals as goal
 
 pub put_line-requires : goal.put_line-requires
-put_line-requires c = let k = c.args.code in omega (arith, pair-short refused_word k.number k.at (omega arith) (omega arith))
+put_line-requires c = pair-short refused_word _ _ (omega arith) (omega arith) (omega (arith, c.requires))
 
 pub returns : goal.returns
 returns c = stored-lent (search rules) c.put_line.ensures.added

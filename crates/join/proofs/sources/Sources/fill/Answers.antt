@@ -22,18 +22,6 @@ overflow_add-here c =
     let b = standing (goal.at.overflow_add-here c).Start c.loop-to.here c.loop-to.invariant.0.stands in
     omega arith
 
-pub turn-next-requires : goal.turn-next-requires
-turn-next-requires c =
-    let e = c.args.self.now.all_is in
-    let h = c.if-here-self.true in
-    let q = c.loop-to.invariant.2 in
-    record {
-      stands_at = c.loop-to.invariant.0.stands;
-      merge_bound = omega arith;
-      to_bound = omega arith;
-      words_len = omega arith;
-    }
-
 -- where the merge stands behind a turn
 after : (c : After-turn-next) → let a = c.args in Bounds a.self.now.first.now a.self.now.second.now c.turn-next.result
 after c =
@@ -49,12 +37,6 @@ pub overflow_add-to-in-loop-to : goal.overflow_add-to-in-loop-to
 overflow_add-to-in-loop-to c =
     let b = standing (goal.at.overflow_add-to-in-loop-to c).Start c.loop-to.here c.loop-to.invariant.0.stands in
     omega arith
-
-pub overflow_sub-to : goal.overflow_sub-to
-overflow_sub-to c = let o = c.turn-next.ensures.turned.onward in omega arith
-
-pub overflow_add-to-in-loop-to-2 : goal.overflow_add-to-in-loop-to-2
-overflow_add-to-in-loop-to-2 c = let i = c.turn-next.ensures.turned.inside in omega arith
 
 pub loop-to-smaller : goal.loop-to-smaller
 loop-to-smaller c =

@@ -30,26 +30,6 @@ read_is : (c : After-fill-here) → let a = c.args in let head = c.put_head-head
 read_is c = let head = c.put_head-head in
     c.fill-here.ensures.result_value ∙ ap (λ (n : ℕ). min (read_of c.args.merge + (126 - head.result)) n) c.args.self.now.all_is
 
-pub put_head-head-requires : goal.put_head-head-requires
-put_head-head-requires c =
-    let f = c.args.self.now.joinable.fits in
-    let h = c.requires.k_bound in
-    let l = c.requires.words_len in
-    record {
-      from_bound = omega arith;
-      words_len = omega arith;
-    }
-
-pub fill-here-requires : goal.fill-here-requires
-fill-here-requires c =
-    let e = c.put_head-head.ensures.value in
-    let l = c.requires.words_len in
-    record {
-      stands_at = c.requires.stands_before.stands;
-      from_bound = omega arith;
-      words_len = omega arith;
-    }
-
 pub overflow_add-to : goal.overflow_add-to
 overflow_add-to c =
     let b = behind (goal.at.overflow_add-to c).After-fill-here in
