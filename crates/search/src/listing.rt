@@ -15,9 +15,9 @@ use super::answers::{ListError, Listing};
 use super::rows::write_row;
 use super::setup::{set_cursors, set_orders};
 use super::walk::{Walk, visit};
-use matcher::{Cursor, Document, blocks_of, starts_of};
+use matcher::{Cursor, Document, OpenDocument, blocks_of, starts_of};
 use plan::{MOST_FOUND_SETS, MOST_PATTERNS, MOST_VARS, Outline, answer_of, lay_out, row_words};
-use volume::{BLOCK_WORDS, Posting};
+use volume::{BLOCK_WORDS, Posting, Volume};
 
 // How many postings the lists of all variables have from document `start` up to document `doc`, doc
 // not counted. `firsts` has for each variable a cursor at its list's first posting in document
@@ -109,10 +109,12 @@ fn list_docs(
                 next: Some(doc),
             };
         }
-        let document = Document { doc, starts };
+        let opened = OpenDocument {
+            volume: Volume { bytes: volume },
+            document: Document { doc, starts },
+        };
         block = write_row(
-            volume,
-            document,
+            &opened,
             blocks,
             block,
             table,

@@ -243,9 +243,16 @@ overflow_mul-rows c =
     let s = visit-words c.loop-seen.rows c.row_words-width.result n (omega arith) in
     omega arith
 
+pub invariant_of-opened : goal.invariant_of-opened
+invariant_of-opened c =
+    let walking = c.loop-seen.invariant.0.walking in
+    record {
+      accepted = (given _ _ c.requires.walks.accepted).volume-accepted;
+      at_document = at-document _ _ _ _ c.in-Some.ensures.visited.later c.in-Some.ensures.document walking.starts-at walking.starts-end;
+    }
+
 pub write_row-block-requires : goal.write_row-block-requires
 write_row-block-requires c =
-    let walking = c.loop-seen.invariant.0.walking in
     let w = wide (goal.at.write_row-block-requires c).After-row_words-width in
     -- the row has as many words as a row of the plan
     let l = visit-wide _ _ _ _ _ c.requires.walks _ _ _ _ _ _ (visited (goal.at.write_row-block-requires c).In-Some) c.in-Some.ensures.document _ (many (goal.at.write_row-block-requires c).Start) in
@@ -253,8 +260,6 @@ write_row-block-requires c =
     let reach = ((visited (goal.at.write_row-block-requires c).In-Some).walking c.in-Some.ensures.document).positions-room in
     let m = many (goal.at.write_row-block-requires c).Start in
     let t = c.requires.walks.table-length in record {
-      accepted = (given _ _ c.requires.walks.accepted).volume-accepted;
-      at_document = at-document _ _ _ _ c.in-Some.ensures.visited.later c.in-Some.ensures.document walking.starts-at walking.starts-end;
       whole = rw c.blocks_of-blocks.ensures (blocks-whole _);
       block_bound = c.loop-seen.invariant.1.1.1.1.1.1.1;
       by_index = λ k h. let v = walk-within _ _ _ _ _ c.requires.walks k (omega arith) in omega arith;
