@@ -1,7 +1,6 @@
 // Cursors on the posting lists of a volume.
 ghost use Rattle.std.specs.Prelude.{◌≡◌, ◌+◌, ◌*◌, ◌<◌, ◌≤◌};
 ghost use Rattle.volume.specs.Layout.{list_count};
-ghost use Rattle.volume.specs.Check as volumes;
 ghost use Rattle.matcher.specs.Inner.Cursors.{seek_from, list_cursor, Stretch, sought, Forward, Arrived, AtDocument};
 
 use volume::{BLOCK_WORDS, Posting, Volume};
@@ -175,12 +174,11 @@ impl Cursor {
 }
 
 // A cursor on a list, at its first posting.
-pub fn list_cursor(volume: &[u8], list: usize) -> Cursor
-    requires accepted { volumes.Accepted volume.now }
-    requires list_bound { list < list_count volume.now }
-    ensures { result ≡ list_cursor volume.now list }
+pub fn list_cursor(volume: &Volume<'_>, list: usize) -> Cursor
+    requires { list < list_count volume.now.bytes.now }
+    ensures { result ≡ list_cursor volume.now.bytes.now list }
 {
-    let span = volume::list_span(volume, list);
+    let span = volume.list_span(list);
     let end = span.start + span.count;
     Cursor {
         at: span.start,
@@ -189,9 +187,8 @@ pub fn list_cursor(volume: &[u8], list: usize) -> Cursor
 }
 
 // The cursor on list 0, at its first posting.
-pub fn starts_of(volume: &[u8]) -> Cursor
-    requires { volumes.Accepted volume.now }
-    ensures { result ≡ list_cursor volume.now 0 }
+pub fn starts_of(volume: &Volume<'_>) -> Cursor
+    ensures { result ≡ list_cursor volume.now.bytes.now 0 }
 {
     list_cursor(volume, 0)
 }

@@ -4,20 +4,18 @@
 --     low_jump        a variable that a predicate leaves short jumps to the first position that it needs at least
 --     low-out         where there is none, nothing matches
 --     low-done        where all predicates hold, the match is least
---     Shown           a row with positions stored in it
 -- Assumes nothing.
-use Prim.Native.Nat.{ℕ, suc, ◌+◌, ◌*◌, ◌<◌, ◌≤◌}
+use Prim.Native.Nat.{ℕ, ◌+◌, ◌*◌, ◌<◌, ◌≤◌}
 use native.Mathlib.Omega.{arith}
-use mathlib.Core.Path.{◌≡◌, refl, sym, ap, ◌∙◌}
+use mathlib.Core.Path.{◌≡◌, sym, ap, ◌∙◌}
 use mathlib.Core.Bool.{true}
 use mathlib.Core.Logic.{⊎_elim, ◌≢◌}
-use mathlib.Core.List.{List, [], ◌∷◌, ◌++◌, append-nil, append_assoc}
+use mathlib.Core.List.{List}
 use mathlib.Core.Option.{none, some}
-use lib.ListN.{length, get_or, set, take, drop, length-set, length-append, take-append-drop, get_or-eq_default}
-use lib.Seq.{get_or-set_same, get_or-set_other, get_or-take, length-take-le, take-suc}
+use lib.ListN.{length, get_or, set, take, get_or-eq_default}
+use lib.Seq.{get_or-set_same, get_or-set_other, get_or-take, length-take-le}
 use Rattle.seq.proofs.Laws.Tests.{both, both_true, below_or}
 use Rattle.seq.proofs.Laws.Decides.{decided, eqb_decides}
-use Rattle.seq.proofs.Laws.Stores.{put_next}
 use Rattle.volume.specs.Posting.{doc_of, pos_of}
 use Rattle.volume.specs.Layout.{word, list_count, start, lists_of}
 use Rattle.volume.specs.Check.{Accepted}
@@ -204,24 +202,3 @@ module _ (v : List ℕ) (ok : Accepted v) (d : ℕ) (f : Pattern) (there : (x : 
                 (λ (q : y ≡ x). rw (q, get_or-set_same ps x (pos_of (word v i)) 0 (let k = low-var in omega arith)) (let r = behind qs m.0 x low-var i start-le in_List (passed qs m) in omega arith))
                 (λ (q : y ≢ x). rw (get_or-set_other ps x y (pos_of (word v i)) 0 q) (l.low qs m y h))
                 (decided (eqb_decides y x))
-
--- of a row, from i on, the first x of some numbers are stored, and the rest is as it was
-pub record Shown (xs row₀ : List ℕ) (i : ℕ) (row : List ℕ) (x : ℕ) : Type 0 where
-  pub same_length : length row ≡ length row₀
-  pub stored : row ≡ (take i row₀ ++ take x xs) ++ drop (i + x) row₀
-
-pub shown-first : (xs row₀ : List ℕ) (i : ℕ) → Shown xs row₀ i row₀ 0
-shown-first xs row₀ i = record { same_length = refl; stored = sym (ap (λ (l : List ℕ). l ++ drop (i + 0) row₀) (append-nil (take i row₀)) ∙ ap (λ (j : ℕ). take i row₀ ++ drop j row₀) (let e : i + 0 ≡ i = omega arith in e) ∙ take-append-drop i row₀) }
-
-pub shown-next : (xs row₀ : List ℕ) (i : ℕ) (row : List ℕ) (x : ℕ) → Shown xs row₀ i row x → x < length xs → i + x < length row₀ → Shown xs row₀ i (set row (i + x) (get_or xs x 0)) (x + 1)
-shown-next xs row₀ i row x s h room = record {
-  same_length = length-set row (i + x) (get_or xs x 0) ∙ s.same_length;
-  stored =
-      ap (λ (l : List ℕ). set l (i + x) (get_or xs x 0)) s.stored
-      ∙ put_next (take i row₀ ++ take x xs) row₀ (i + x) (get_or xs x 0) size room
-      ∙ ap (λ (l : List ℕ). l ++ drop (i + x + 1) row₀) (append_assoc (take i row₀) (take x xs) (get_or xs x 0 ∷ []) ∙ ap (λ (l : List ℕ). take i row₀ ++ l) (sym (take-suc xs x 0 h) ∙ ap (λ (j : ℕ). take j xs) (let e : suc x ≡ x + 1 = omega arith in e)))
-      ∙ ap (λ (j : ℕ). (take i row₀ ++ take (x + 1) xs) ++ drop j row₀) (let e : i + x + 1 ≡ i + (x + 1) = omega arith in e);
-}
-  where
-    size : length (take i row₀ ++ take x xs) ≡ i + x
-    size = length-append (take i row₀) (take x xs) ∙ let a = length-take-le i row₀ (omega arith) in let b = length-take-le x xs (omega arith) in omega arith

@@ -6,16 +6,10 @@ use Rattle.volume.specs.declared.layout.ListSpan.{ListSpan}
 use Rattle.matcher.proofs.Laws.Volume.{span_small}
 use Rattle.matcher.proofs.cursor.list_cursor.Goals as goal
 
-pub list_span-span-requires : goal.list_span-span-requires
-list_span-span-requires c = record {
-  accepted = c.requires.accepted;
-  list_bound = c.requires.list_bound;
-}
-
 pub overflow_add-end : goal.overflow_add-end
 overflow_add-end c =
     let s = c.list_span-span in
-    let m = span_small c.args.volume.now c.requires.accepted c.args.list c.requires.list_bound s.result s.ensures in
+    let m = span_small c.args.volume.now.bytes.now c.args.volume.now.accepted c.args.list c.requires s.result s.ensures in
     omega arith
 
 pub returns : goal.returns

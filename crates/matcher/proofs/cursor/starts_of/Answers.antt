@@ -3,10 +3,7 @@ use Rattle.volume.proofs.Laws.Check.{good}
 use Rattle.matcher.proofs.cursor.starts_of.Goals as goal
 
 pub list_cursor-requires : goal.list_cursor-requires
-list_cursor-requires c = record {
-  accepted = c.requires;
-  list_bound = (good _ c.requires).lists-some;
-}
+list_cursor-requires c = (good _ c.args.volume.now.accepted).lists-some
 
 pub returns : goal.returns
 returns c = c.list_cursor.ensures

@@ -8,12 +8,12 @@ use Rattle.matcher.proofs.testing.cursor_at.Goals.{After-advance-reached}
 
 pub advance-reached-requires : goal.advance-reached-requires
 advance-reached-requires c =
-    list-before c.args.volume.now c.requires.accepted c.args.list c.requires.list_bound _ c.list_cursor-first.ensures
+    list-before c.args.volume.now.bytes.now c.args.volume.now.accepted c.args.list c.requires.list_bound _ c.list_cursor-first.ensures
 
 -- the bound is that of the position
 arrived : (c : After-advance-reached)
     →
-    Arrived c.args.volume.now (c.args.doc * 65536 + c.args.pos) c.list_cursor-first.result.at c.list_cursor-first.result.end c.advance-reached.result
+    Arrived c.args.volume.now.bytes.now (c.args.doc * 65536 + c.args.pos) c.list_cursor-first.result.at c.list_cursor-first.result.end c.advance-reached.result
 arrived c = rw c.bound_of-bound.ensures at c.advance-reached.ensures
 
 pub returns-in_err-posting : goal.returns-in_err-posting
@@ -21,17 +21,17 @@ returns-in_err-posting c =
     let a = c.args in
     let r = c.requires in
     rw c.from_residual.ensures
-    (found-none a.volume.now r.accepted a.list r.list_bound _ c.list_cursor-first.ensures a.doc a.pos _ r.pos_bound (arrived (goal.at.returns-in_err-posting c).After-advance-reached) c.in_err-posting.was)
+    (found-none a.volume.now.bytes.now a.volume.now.accepted a.list r.list_bound _ c.list_cursor-first.ensures a.doc a.pos _ r.pos_bound (arrived (goal.at.returns-in_err-posting c).After-advance-reached) c.in_err-posting.was)
 
 pub returns-then-from-bound : goal.returns-then-from-bound
 returns-then-from-bound c =
     let a = c.args in
     let r = c.requires in
-    found-there a.volume.now r.accepted a.list r.list_bound _ c.list_cursor-first.ensures a.doc a.pos _ r.pos_bound (arrived (goal.at.returns-then-from-bound c).After-advance-reached) _ c.in_ok-posting.was
+    found-there a.volume.now.bytes.now a.volume.now.accepted a.list r.list_bound _ c.list_cursor-first.ensures a.doc a.pos _ r.pos_bound (arrived (goal.at.returns-then-from-bound c).After-advance-reached) _ c.in_ok-posting.was
     (sym c.from.ensures ∙ c.if-from-bound.true ∙ c.bound_of-bound.ensures)
 
 pub returns : goal.returns
 returns c =
     let a = c.args in
     let r = c.requires in
-    found-not a.volume.now r.accepted a.list r.list_bound _ c.list_cursor-first.ensures a.doc a.pos _ r.pos_bound (arrived (goal.at.returns c).After-advance-reached) _ c.in_ok-posting.was (λ q. c.if-from-bound.false (c.from.ensures ∙ q ∙ sym c.bound_of-bound.ensures))
+    found-not a.volume.now.bytes.now a.volume.now.accepted a.list r.list_bound _ c.list_cursor-first.ensures a.doc a.pos _ r.pos_bound (arrived (goal.at.returns c).After-advance-reached) _ c.in_ok-posting.was (λ q. c.if-from-bound.false (c.from.ensures ∙ q ∙ sym c.bound_of-bound.ensures))

@@ -26,7 +26,7 @@ stand_at-requires c = let q = few-vars c.requires in record {
 pub returns-then-not-stand_at : goal.returns-then-not-stand_at
 returns-then-not-stand_at c =
     let a = c.args in
-    match-not (lists_of a.volume.now) a.doc (pattern_at a.plan.now a.outline.pattern) a.positions.now _ c.stand_at.ensures.stood_at.fits_are (c.if-not-stand_at.true)
+    match-not (lists_of a.query.now.volume.bytes.now) a.doc (pattern_at a.query.now.plan.now a.outline.pattern) a.positions.now _ c.stand_at.ensures.stood_at.fits_are (c.if-not-stand_at.true)
 
 pub rarest_first-requires : goal.rarest_first-requires
 rarest_first-requires c =
@@ -35,14 +35,10 @@ rarest_first-requires c =
     let m = s.outlines.vars_are in
     let q = few-vars s in
     record {
-      accepted = s.accepted;
       pattern_bound = s.pattern;
       outlines = s.outlines;
       vars_in_bounds = omega arith;
     }
-
-pub starts_of-starts-requires : goal.starts_of-starts-requires
-starts_of-starts-requires c = (posed-given c.requires).volume-accepted
 
 pub match_from-requires : goal.match_from-requires
 match_from-requires c =
@@ -56,11 +52,11 @@ match_from-requires c =
     let cursors = stood.ensures.cursors_len_unchanged in
     let e = length-ends stood.new.cursors in
     let put = c.put_row.auto.out in
-    let f = pattern_at a.plan.now a.outline.pattern in record {
+    let f = pattern_at a.query.now.plan.now a.outline.pattern in record {
       posed = at-posed s _ (omega arith) (stood.ensures.stood_at.ends_are yes) _ c.starts_of-starts.ensures;
       order = rw m c.rarest_first.ensures.rarest_first.each;
       positions_in_bounds = omega arith;
-      standing = front-standing a.volume.now a.doc f _ a.positions.now _ n (front (goal.at.match_from-requires c).After-put_row) (stood.ensures.stood_at.standing yes);
+      standing = front-standing a.query.now.volume.bytes.now a.doc f _ a.positions.now _ n (front (goal.at.match_from-requires c).After-put_row) (stood.ensures.stood_at.standing yes);
       held_le_vars = omega arith;
       paras_in_bounds = omega arith;
     }
@@ -78,7 +74,7 @@ returns c =
     let w = found.ensures.within_2.same_length in
     let qs = found.new.positions in
     let e : a.outline.vars ≡ length ps = omega arith in
-    held-match a.volume.now (posed-given s).volume-accepted a.doc (pattern_at a.plan.now a.outline.pattern) ps found.result (take (length ps) qs)
+    held-match a.query.now.volume.bytes.now (posed-given s).volume-accepted a.doc (pattern_at a.query.now.plan.now a.outline.pattern) ps found.result (take (length ps) qs)
     (length-take-le (length ps) qs (omega arith))
-    (subst (λ (ls : List ℕ). HeldMatch (lists_of a.volume.now) a.doc (pattern_at a.plan.now a.outline.pattern) ls (length ps) found.result (take (length ps) qs)) (front (goal.at.returns c).After-put_row)
+    (subst (λ (ls : List ℕ). HeldMatch (lists_of a.query.now.volume.bytes.now) a.doc (pattern_at a.query.now.plan.now a.outline.pattern) ls (length ps) found.result (take (length ps) qs)) (front (goal.at.returns c).After-put_row)
     (rw e at found.ensures.held_match))

@@ -5,12 +5,12 @@ use lib.ListN.{length-set}
 use Rattle.volume.specs.Layout.{list_count}
 use Rattle.matcher.specs.Inner.Cursors.{ats_of, ends_of}
 use Rattle.matcher.proofs.Laws.Placed.{voiced-list}
-use Rattle.matcher.proofs.Laws.Testing.{posed-given, vars-order, voice-of, voice-few, at_next, at-not, at_all}
+use Rattle.matcher.proofs.Laws.Testing.{vars-order, voice-of, voice-few, at_next, at-not, at_all}
 use Rattle.matcher.proofs.testing.stand_at.Goals as goal
 use Rattle.matcher.proofs.testing.stand_at.Goals.{After-list_at-list}
 
 -- the list that a turn reads is one of the volume
-there : (c : After-list_at-list) → c.list_at-list.result < list_count c.args.volume.now
+there : (c : After-list_at-list) → c.list_at-list.result < list_count c.args.query.now.volume.bytes.now
 there c =
     let w = voice-of c.requires.asked c.loop-x.x c.loop-x-test.true in
     rw (voiced-list w c.list_at-list.result c.list_at-list.ensures) w.there
@@ -40,7 +40,6 @@ pub cursor_at-requires : goal.cursor_at-requires
 cursor_at-requires c =
     let s = c.requires.asked in
     record {
-      accepted = (posed-given s).volume-accepted;
       list_bound = there (goal.at.cursor_at-requires c).After-list_at-list;
       pos_bound = s.small c.loop-x.x c.loop-x-test.true;
     }

@@ -8,6 +8,6 @@ use Rattle.matcher.proofs.testing.stand_at.Given as goal
 
 abbrev pub invariant-loop-x : goal.invariant-loop-x
 invariant-loop-x l = record {
-  brought : Brought l.volume l.doc (pattern_at l.plan l.outline.pattern).vars l.positions (ends_of l.cursors) (ats_of l.cursors) l.x;
+  brought : Brought l.query.volume.bytes.now l.doc (pattern_at l.query.plan.now l.outline.pattern).vars l.positions (ends_of l.cursors) (ats_of l.cursors) l.x;
   same_length : length l.cursors ≡ length l.initial.cursors;
 }
