@@ -68,7 +68,7 @@ fn list_docs(
     let patterns = table.len();
     let width = row_words(patterns as u32, firsts.len() as u32);
     let room = out.len() / width;
-    let list = starts_of(query.volume.bytes);
+    let list = starts_of(&query.volume);
     let starts = list.seek(query.volume.bytes, start);
     let blocks = blocks_of(starts);
     let mut block = starts.at / BLOCK_WORDS;
@@ -132,11 +132,7 @@ fn list_docs(
 }
 
 // The same, where the volume and the plan are accepted and a row fits the buffer.
-fn list_from(
-    query: &Query<'_>,
-    start: u32,
-    out: &mut [u32],
-) -> Listing
+fn list_from(query: &Query<'_>, start: u32, out: &mut [u32]) -> Listing
     requires start_bound { start ≤ 65535 }
     requires vars_in_bounds { let sizes = query.now.sizes in
         row_words sizes.patterns sizes.vars ≤ length out.old }

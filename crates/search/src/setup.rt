@@ -48,12 +48,7 @@ fn cursor_on(volume: &Volume<'_>, starts: &[usize], list: usize, doc: u32) -> Cu
 
 // A cursor for each variable of a plan, at its list's first posting in document `start` or a later
 // one.
-pub fn set_cursors(
-    query: &Query<'_>,
-    table: &[Outline],
-    start: u32,
-    cursors: &mut [Cursor],
-)
+pub fn set_cursors(query: &Query<'_>, table: &[Outline], start: u32, cursors: &mut [Cursor])
     requires tabled { Tabled query.now.plan.now table.now }
     requires table_len { length table.now ≡ (sizes query.now.plan.now).patterns }
     requires start_bound { start ≤ 65535 }
@@ -82,6 +77,6 @@ pub fn set_orders(query: &Query<'_>, table: &[Outline], orders: &mut [usize])
     ensures orders_len_unchanged { length orders.new ≡ length orders.old }
 {
     for &outline in table {
-        rarest_first(query.volume.bytes, query.plan, outline, &mut orders[outline.first..]);
+        rarest_first(query, outline, &mut orders[outline.first..]);
     }
 }

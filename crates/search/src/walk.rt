@@ -104,8 +104,7 @@ fn settle(
     }
     let first = outline.first;
     match_from(
-        query.volume.bytes,
-        query.plan,
+        query,
         outline,
         document,
         0,
@@ -148,9 +147,7 @@ fn settle_all(
     let mut weight: u32 = 1;
     for (k, &outline) in table.iter().enumerate() {
         if docs[k] == document.doc
-            && settle(
-                query, outline, document, orders, cursors, positions, paras,
-            )
+            && settle(query, outline, document, orders, cursors, positions, paras)
         {
             bits += weight;
         }

@@ -94,9 +94,6 @@ overflow_cast-patterns c = let m = many (goal.at.overflow_cast-patterns c).Start
 pub overflow_cast-firsts : goal.overflow_cast-firsts
 overflow_cast-firsts c = let e = c.requires.firsts_len in let f = (few (goal.at.overflow_cast-firsts c).Start).1 in omega arith
 
-pub starts_of-list-requires : goal.starts_of-list-requires
-starts_of-list-requires c = c.args.query.now.volume.accepted
-
 pub seek-starts-requires : goal.seek-starts-requires
 seek-starts-requires c = rw c.starts_of-list.ensures (starts-stretch _ _ _ _ _ c.requires.walks)
 

@@ -83,12 +83,12 @@ loop-i-init c =
 
 pub overflow_add-row : goal.overflow_add-row
 overflow_add-row c =
-    let t = (turn c).inside in
+    let t = (turn (goal.at.overflow_add-row c).In-loop-i).inside in
     let g = (given _ _ c.args.query.now.accepted).most-rows in
     omega arith
 
 pub list_at-list-requires : goal.list_at-list-requires
-list_at-list-requires c = let t = turn c in record {
+list_at-list-requires c = let t = turn (goal.at.list_at-list-requires c).In-loop-i in record {
   row_bound = t.inside;
   row_value = t.formed;
   by_index = (_, t.kind-is);

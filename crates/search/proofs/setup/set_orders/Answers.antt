@@ -49,7 +49,6 @@ rarest_first-requires c =
     let r = room (goal.at.rarest_first-requires c).In-loop-outline in
     let l = lent_length (outline_at c.args.table.now c.loop-outline.outline-index).first c.loop-outline.orders in
     record {
-      accepted = c.args.query.now.accepted;
       pattern_bound = o.there;
       outlines = o.entry.outlines;
       vars_in_bounds = omega arith;
