@@ -1,5 +1,5 @@
 // The row of a document in the lent buffer.
-ghost use Rattle.std.specs.Prelude.{◌≡◌, ◌++◌, ℕ, ◌+◌, ◌*◌, ◌%◌, ◌<◌, ◌≤◌, length, take, drop, replicate};
+ghost use Rattle.std.specs.Prelude.{◌≡◌, ◌++◌, ℕ, ◌+◌, ◌*◌, ◌%◌, ◌<◌, ◌≤◌, length, take, drop};
 ghost use Rattle.volume.specs.Layout.{stream_length};
 ghost use Rattle.plan.specs.Inner.Outline.{outline_at};
 ghost use Rattle.fulltext.specs.Documents.{with_starts};

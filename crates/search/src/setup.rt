@@ -1,6 +1,6 @@
 // A cursor for each variable of a plan and an order of each pattern's variables, before its
 // documents are walked.
-ghost use Rattle.std.specs.Prelude.{◌≡◌, ℕ, ◌+◌, ◌*◌, ◌<◌, ◌≤◌, length, get_or};
+ghost use Rattle.std.specs.Prelude.{◌≡◌, ◌+◌, ◌<◌, ◌≤◌, length, get_or};
 ghost use Rattle.volume.specs.Layout.{list_count, start};
 ghost use Rattle.plan.specs.Limits.{most_vars};
 ghost use Rattle.plan.specs.Check.{sizes};
