@@ -79,8 +79,7 @@ pub fn match_held(pattern: &PatternInDocument, held: usize, walk: &mut Walk) -> 
         return false;
     }
     match_from(
-        pattern.query.volume.bytes,
-        pattern.query.plan,
+        &pattern.query,
         pattern.outline,
         pattern.document,
         held,

@@ -110,10 +110,8 @@ fn matches_of(
     ensures { let q = query.now in Kept q.volume.bytes.now q.plan.now pattern doc from.now
         (record { lent = out.old; says = said_matched result; back = out.new }) }
 {
-    let volume = query.volume.bytes;
-    let plan = query.plan;
     let mut table = [Outline::NONE; MOST_PATTERNS];
-    lay_out(plan, query.sizes.patterns as usize, &mut table);
+    lay_out(query.plan, query.sizes.patterns as usize, &mut table);
     let outline = table[pattern];
     if from.len() != outline.vars || Posting::LAST_DOC < doc || !in_document(from) {
         return Err(MatchError::OutOfRange);
@@ -123,11 +121,11 @@ fn matches_of(
     }
     let mut firsts = [Cursor::NONE; MOST_PATTERN_VARS];
     set_cursors(query, outline, doc, &mut firsts);
-    let list = starts_of(volume);
-    let starts = list.seek(volume, doc);
+    let list = starts_of(&query.volume);
+    let starts = list.seek(query.volume.bytes, doc);
     let document = Document { doc, starts };
     let mut order = [0; MOST_PATTERN_VARS];
-    rarest_first(volume, plan, outline, &mut order);
+    rarest_first(query, outline, &mut order);
     let found = PatternInDocument {
         query: *query,
         outline,

@@ -8,7 +8,7 @@ ghost use Rattle.search.specs.Inner.Walk.{Walking, seen_or_end, Visited};
 
 use super::align::align;
 use matcher::{Cursor, Document, match_from};
-use plan::Outline;
+use plan::{Outline, Query};
 use volume::Posting;
 
 // Where a walk goes on: the document from which on, whether no pattern has a document yet, and a
@@ -30,8 +30,7 @@ pub struct Seen {
 // Brings each pattern that has no document yet, or one before `doc`, to the first document from `doc`
 // on in which it can be found; 65,536 where there is none.
 fn next_docs(
-    volume: &[u8],
-    plan: &[u32],
+    query: &Query<'_>,
     table: &[Outline],
     orders: &[usize],
     fresh: bool,
@@ -40,14 +39,17 @@ fn next_docs(
     positions: &mut [u32],
     docs: &mut [u32],
 )
-    requires walks { Walks volume.now plan.now table.now orders.now (ends_of cursors.old) }
-    requires docs_len { length docs.old ≡ (sizes plan.now).patterns }
-    requires plan_in_bounds { (sizes plan.now).vars ≤ length cursors.old }
-    requires plan_in_bounds_2 { (sizes plan.now).vars ≤ length positions.old }
+    requires walks { let q = query.now in
+        Walks q.volume.bytes.now q.plan.now table.now orders.now (ends_of cursors.old) }
+    requires docs_len { length docs.old ≡ (sizes query.now.plan.now).patterns }
+    requires plan_in_bounds { (sizes query.now.plan.now).vars ≤ length cursors.old }
+    requires plan_in_bounds_2 { (sizes query.now.plan.now).vars ≤ length positions.old }
     requires doc_bound { doc ≤ 65536 }
-    requires by_index { (k : ℕ) → k < (sizes plan.now).patterns
-        → Pending volume.now plan.now (ats_of cursors.old) (ends_of cursors.old) positions.old k doc (get_or docs.old k 0) fresh }
-    ensures brought { Brought volume.now plan.now (ends_of cursors.old) (ats_of cursors.old) positions.old
+    requires by_index { let q = query.now in (k : ℕ) → k < (sizes q.plan.now).patterns
+        → Pending q.volume.bytes.now q.plan.now (ats_of cursors.old) (ends_of cursors.old)
+        positions.old k doc (get_or docs.old k 0) fresh }
+    ensures brought { let q = query.now in
+        Brought q.volume.bytes.now q.plan.now (ends_of cursors.old) (ats_of cursors.old) positions.old
         docs.old doc (ats_of cursors.new) positions.new docs.new }
     ensures ends_unchanged { ends_of cursors.new ≡ ends_of cursors.old }
 {
@@ -57,7 +59,7 @@ fn next_docs(
         }
         let first = outline.first;
         docs[k] = align(
-            volume,
+            query.volume.bytes,
             &orders[first..],
             cursors,
             positions,
@@ -79,8 +81,7 @@ fn least_of(docs: &[u32]) -> u32
 // Brings a pattern that stands in a document to its least match there. Whether there is one. A
 // pattern without predicates is found where it stands.
 fn settle(
-    volume: &[u8],
-    plan: &[u32],
+    query: &Query<'_>,
     outline: Outline,
     document: Document,
     orders: &[usize],
@@ -88,10 +89,12 @@ fn settle(
     positions: &mut [u32],
     paras: &mut [usize],
 ) -> bool
-    requires ready { Ready volume.now plan.now outline document orders.now (ends_of cursors.old) (ats_of cursors.old)
-        positions.old }
-    requires plan_in_bounds { (sizes plan.now).vars ≤ length paras.old }
-    ensures settled { Settled volume.now plan.now (ends_of cursors.old) outline.pattern document.doc
+    requires ready { let q = query.now in
+        Ready q.volume.bytes.now q.plan.now outline document orders.now (ends_of cursors.old)
+        (ats_of cursors.old) positions.old }
+    requires plan_in_bounds { (sizes query.now.plan.now).vars ≤ length paras.old }
+    ensures settled { let q = query.now in
+        Settled q.volume.bytes.now q.plan.now (ends_of cursors.old) outline.pattern document.doc
         (ats_of cursors.old) positions.old result (ats_of cursors.new) positions.new }
     ensures ends_unchanged { ends_of cursors.new ≡ ends_of cursors.old }
     ensures paras_len_unchanged { length paras.new ≡ length paras.old }
@@ -101,8 +104,7 @@ fn settle(
     }
     let first = outline.first;
     match_from(
-        volume,
-        plan,
+        query,
         outline,
         document,
         0,
@@ -117,8 +119,7 @@ fn settle(
 // in which each pattern can be found. The bits of those that are found there, that of pattern 0 the
 // lowest.
 fn settle_all(
-    volume: &[u8],
-    plan: &[u32],
+    query: &Query<'_>,
     table: &[Outline],
     document: Document,
     orders: &[usize],
@@ -127,14 +128,17 @@ fn settle_all(
     docs: &[u32],
     paras: &mut [usize],
 ) -> u32
-    requires walks { Walks volume.now plan.now table.now orders.now (ends_of cursors.old) }
-    requires at_document { AtDocument volume.now document }
-    requires docs_len { length docs.now ≡ (sizes plan.now).patterns }
-    requires plan_in_bounds { (sizes plan.now).vars ≤ length positions.old }
-    requires by_index { (k : ℕ) → k < (sizes plan.now).patterns
-        → Candidate volume.now plan.now (ats_of cursors.old) (ends_of cursors.old) positions.old k document.doc (get_or docs.now k 0) }
-    requires plan_in_bounds_2 { (sizes plan.now).vars ≤ length paras.old }
-    ensures settled_all { SettledAll volume.now plan.now (ends_of cursors.old) docs.now document.doc
+    requires walks { let q = query.now in
+        Walks q.volume.bytes.now q.plan.now table.now orders.now (ends_of cursors.old) }
+    requires at_document { AtDocument query.now.volume.bytes.now document }
+    requires docs_len { length docs.now ≡ (sizes query.now.plan.now).patterns }
+    requires plan_in_bounds { (sizes query.now.plan.now).vars ≤ length positions.old }
+    requires by_index { let q = query.now in (k : ℕ) → k < (sizes q.plan.now).patterns
+        → Candidate q.volume.bytes.now q.plan.now (ats_of cursors.old) (ends_of cursors.old)
+        positions.old k document.doc (get_or docs.now k 0) }
+    requires plan_in_bounds_2 { (sizes query.now.plan.now).vars ≤ length paras.old }
+    ensures settled_all { let q = query.now in
+        SettledAll q.volume.bytes.now q.plan.now (ends_of cursors.old) docs.now document.doc
         (ats_of cursors.old) positions.old result (ats_of cursors.new) positions.new }
     ensures ends_unchanged { ends_of cursors.new ≡ ends_of cursors.old }
     ensures paras_len_unchanged { length paras.new ≡ length paras.old }
@@ -143,9 +147,7 @@ fn settle_all(
     let mut weight: u32 = 1;
     for (k, &outline) in table.iter().enumerate() {
         if docs[k] == document.doc
-            && settle(
-                volume, plan, outline, document, orders, cursors, positions, paras,
-            )
+            && settle(query, outline, document, orders, cursors, positions, paras)
         {
             bits += weight;
         }
@@ -158,8 +160,7 @@ fn settle_all(
 // patterns are found there, and the positions of each one that is. `paras` has for each variable
 // where the start of its paragraph was found last.
 pub fn visit(
-    volume: &[u8],
-    plan: &[u32],
+    query: &Query<'_>,
     table: &[Outline],
     orders: &[usize],
     walk: Walk,
@@ -168,18 +169,21 @@ pub fn visit(
     docs: &mut [u32],
     paras: &mut [usize],
 ) -> Option<Seen>
-    requires walks { Walks volume.now plan.now table.now orders.now (ends_of cursors.old) }
-    requires walking { Walking volume.now plan.now (ends_of cursors.old) (ats_of cursors.old) positions.old docs.old walk.from walk.fresh
-        walk.starts }
-    requires plan_in_bounds { (sizes plan.now).vars ≤ length paras.old }
-    ensures visited { Visited volume.now plan.now (ends_of cursors.old) walk.from (seen_or_end result)
+    requires walks { let q = query.now in
+        Walks q.volume.bytes.now q.plan.now table.now orders.now (ends_of cursors.old) }
+    requires walking { let q = query.now in
+        Walking q.volume.bytes.now q.plan.now (ends_of cursors.old) (ats_of cursors.old)
+        positions.old docs.old walk.from walk.fresh walk.starts }
+    requires plan_in_bounds { (sizes query.now.plan.now).vars ≤ length paras.old }
+    ensures visited { let q = query.now in
+        Visited q.volume.bytes.now q.plan.now (ends_of cursors.old) walk.from (seen_or_end result)
         (ats_of cursors.new) positions.new docs.new walk.starts }
     ensures ends_unchanged { ends_of cursors.new ≡ ends_of cursors.old }
     ensures document { IfSome result (λ seen. seen.doc < 65536) }
     ensures paras_len_unchanged { length paras.new ≡ length paras.old }
 {
     next_docs(
-        volume, plan, table, orders, walk.fresh, walk.from, cursors, positions, docs,
+        query, table, orders, walk.fresh, walk.from, cursors, positions, docs,
     );
     let doc = least_of(docs);
     if doc == Posting::DOCS {
@@ -188,7 +192,7 @@ pub fn visit(
     let starts = walk.starts;
     let document = Document { doc, starts };
     let found = settle_all(
-        volume, plan, table, document, orders, cursors, positions, docs, paras,
+        query, table, document, orders, cursors, positions, docs, paras,
     );
     Some(Seen { doc, found })
 }

@@ -24,30 +24,30 @@ use Rattle.search.proofs.listing.list_docs.Goals as goal
 use Rattle.search.proofs.listing.list_docs.Goals.{After-answer_of, After-row_words-width, After-visit, In-Some, In_default, Start}
 
 -- the number of patterns, and the words of a row
-many : (c : Start) → length c.args.table.now ≡ (sizes c.args.plan.now).patterns
+many : (c : Start) → length c.args.table.now ≡ (sizes c.args.query.now.plan.now).patterns
 many c = c.requires.walks.table-length
 
 wide : (c : After-row_words-width) →
-    c.row_words-width.result ≡ row_words (sizes c.args.plan.now).patterns (sizes c.args.plan.now).vars
+    c.row_words-width.result ≡ row_words (sizes c.args.query.now.plan.now).patterns (sizes c.args.query.now.plan.now).vars
 wide c = let e = c.row_words-width.ensures in let t = c.requires.walks.table-length in let f = c.requires.firsts_len in omega arith
 
 few : (c : Start)
-    → ((sizes c.args.plan.now).patterns ≤ most_patterns)
-    × (row_words (sizes c.args.plan.now).patterns (sizes c.args.plan.now).vars ≤ most_row_words)
+    → ((sizes c.args.query.now.plan.now).patterns ≤ most_patterns)
+    × (row_words (sizes c.args.query.now.plan.now).patterns (sizes c.args.query.now.plan.now).vars ≤ most_row_words)
 few c = visit-few _ _ _ _ _ c.requires.walks
 
 -- what is seen of the next document, with the ends of all variables' lists
 visited : (c : In-Some) → let a = c.args in
-    Visited a.volume.now a.plan.now (ends_of a.firsts.now) c.loop-seen.from c.in-Some.seen (ats_of c.visit.new.cursors) c.visit.new.positions c.visit.new.docs
+    Visited a.query.now.volume.bytes.now a.query.now.plan.now (ends_of a.firsts.now) c.loop-seen.from c.in-Some.seen (ats_of c.visit.new.cursors) c.visit.new.positions c.visit.new.docs
     c.seek-starts.result
 visited c = rw c.loop-seen.invariant.1.1.0 at c.in-Some.ensures.visited
 
 -- the rows laid when the next document is reached, or the end
 reached : (c : In-Some) →
-    Progress (work c.args.volume.now c.args.plan.now) c.args.start c.args.out.now c.in-Some.seen.doc c.loop-seen.rows c.loop-seen.out
+    Progress (work c.args.query.now.volume.bytes.now c.args.query.now.plan.now) c.args.start c.args.out.now c.in-Some.seen.doc c.loop-seen.rows c.loop-seen.out
 reached c = visit-reached _ _ _ _ _ _ _ _ _ _ _ (visited c) _ _ c.loop-seen.invariant.0.progress
 
-ended : (c : In_default) → Progress (work c.args.volume.now c.args.plan.now) c.args.start c.args.out.now limit c.loop-seen.rows c.loop-seen.out
+ended : (c : In_default) → Progress (work c.args.query.now.volume.bytes.now c.args.query.now.plan.now) c.args.start c.args.out.now limit c.loop-seen.rows c.loop-seen.out
 ended c = visit-reached _ _ _ _ _ _ _ _ _ _ _ (rw (c.in_default.is, c.loop-seen.invariant.1.1.0) at c.visit.ensures.visited) _ _ c.loop-seen.invariant.0.progress
 
 -- the arrays keep their lengths
@@ -67,9 +67,9 @@ paras-size c = c.visit.ensures.paras_len_unchanged ∙ c.loop-seen.invariant.1.1
 
 -- whether the document is true
 told : (c : After-answer_of) →
-    (work c.args.volume.now c.args.plan.now).is_true c.in-Some.seen.doc ≡ c.answer_of.result
+    (work c.args.query.now.volume.bytes.now c.args.query.now.plan.now).is_true c.in-Some.seen.doc ≡ c.answer_of.result
 told c =
-    seen_true c.args.volume.now c.args.plan.now c.in-Some.seen.found c.in-Some.seen.doc
+    seen_true c.args.query.now.volume.bytes.now c.args.query.now.plan.now c.in-Some.seen.found c.in-Some.seen.doc
     c.answer_of.result c.answer_of.ensures.value (c.in-Some.ensures.visited.found_are c.in-Some.ensures.document)
 
 -- one answer more is known
@@ -79,13 +79,13 @@ known-size c = c.answer_of.auto.known ∙ c.loop-seen.invariant.1.1.1.0
 -- the bits of the found patterns are below 256
 bits_small : (c : After-answer_of) → c.in-Some.seen.found < most_found_sets
 bits_small c =
-    rw (c.in-Some.ensures.visited.found_are c.in-Some.ensures.document) (found-small _ c.args.plan.now (visit-few _ _ _ _ _ c.requires.walks).0)
+    rw (c.in-Some.ensures.visited.found_are c.in-Some.ensures.document) (found-small _ c.args.query.now.plan.now (visit-few _ _ _ _ _ c.requires.walks).0)
 
-remembers : (c : After-answer_of) → Remembers c.args.plan.now c.answer_of.new.known
+remembers : (c : After-answer_of) → Remembers c.args.query.now.plan.now c.answer_of.new.known
 remembers c =
     let b = bits_small c in
     let l = c.loop-seen.invariant.1.1.1.0 in
-    subst (Remembers c.args.plan.now) (sym c.answer_of.ensures.known_after)
+    subst (Remembers c.args.query.now.plan.now) (sym c.answer_of.ensures.known_after)
     (remembers-next _ _ c.loop-seen.invariant.1.1.1.1.0 _ (omega arith) _ c.answer_of.ensures.value)
 
 pub overflow_cast-patterns : goal.overflow_cast-patterns
@@ -93,9 +93,6 @@ overflow_cast-patterns c = let m = many (goal.at.overflow_cast-patterns c).Start
 
 pub overflow_cast-firsts : goal.overflow_cast-firsts
 overflow_cast-firsts c = let e = c.requires.firsts_len in let f = (few (goal.at.overflow_cast-firsts c).Start).1 in omega arith
-
-pub starts_of-list-requires : goal.starts_of-list-requires
-starts_of-list-requires c = (given _ _ c.requires.walks.accepted).volume-accepted
 
 pub seek-starts-requires : goal.seek-starts-requires
 seek-starts-requires c = rw c.starts_of-list.ensures (starts-stretch _ _ _ _ _ c.requires.walks)
@@ -108,14 +105,14 @@ loop-seen-init c =
     let m = many (goal.at.loop-seen-init c).Start in
     let n = (few (goal.at.loop-seen-init c).Start).0 in
     let s = c.starts_of-list.ensures in
-    let at = c.seek-starts.ensures.value ∙ ap (sought c.args.volume.now (c.args.start * 65536)) s in (
+    let at = c.seek-starts.ensures.value ∙ ap (sought c.args.query.now.volume.bytes.now (c.args.start * 65536)) s in (
       visiting-first _ _ _ _ _ _ _ _ _ low
           (walking-first _ _ _ _ _ p.walks _ (ats_of c.args.firsts.now) _ _ _ low (omega (arith, length-ats c.args.firsts.now)) p.plan_in_bounds p.firsts
           (ap ats_of p.cursors_value)
           (length-take-le (length c.args.table.now) _ (omega arith) ∙ m) _ at),
       (
         refl,
-        (ap ends_of p.cursors_value, (refl, (remembers-first c.args.plan.now most_found_sets, (refl, (refl, block-first _ _ _ _ _ p.walks _ _ at))))),
+        (ap ends_of p.cursors_value, (refl, (remembers-first c.args.query.now.plan.now most_found_sets, (refl, (refl, block-first _ _ _ _ _ p.walks _ _ at))))),
       ),
     )
 
@@ -151,7 +148,6 @@ tally-tally-requires c =
     let p = c.requires in
     let d = p.start_bound in
     record {
-      accepted = p.walks.accepted;
       firsts_len = p.firsts_len;
       start_le_doc = omega arith;
       doc_bound = omega arith;
@@ -166,7 +162,7 @@ shape_of-positions-in_default c = positions-size (goal.at.shape_of-positions-in_
 
 pub shape_of-out-in_default : goal.shape_of-out-in_default
 shape_of-out-in_default c =
-    same_size (work c.args.volume.now c.args.plan.now) (work-even c.args.volume.now c.args.plan.now) c.loop-seen.invariant.0.progress
+    same_size (work c.args.query.now.volume.bytes.now c.args.query.now.plan.now) (work-even c.args.query.now.volume.bytes.now c.args.query.now.plan.now) c.loop-seen.invariant.0.progress
 
 pub returns-in_default : goal.returns-in_default
 returns-in_default c =
@@ -182,10 +178,10 @@ slice_bounds-answer_of-end c = sym c.loop-seen.invariant.1.1.1.0
 pub answer_of-requires : goal.answer_of-requires
 answer_of-requires c =
     let b : c.in-Some.seen.found < most_found_sets =
-    rw (c.in-Some.ensures.visited.found_are c.in-Some.ensures.document) (found-small _ c.args.plan.now (few (goal.at.answer_of-requires c).Start).0) in
+    rw (c.in-Some.ensures.visited.found_are c.in-Some.ensures.document) (found-small _ c.args.query.now.plan.now (few (goal.at.answer_of-requires c).Start).0) in
     let l = c.loop-seen.invariant.1.1.1.0 in
     record {
-      by_index = (c.args.volume.now, c.requires.walks.accepted);
+      by_index = (c.args.query.now.volume.bytes.now, c.requires.walks.accepted);
       remembers = c.loop-seen.invariant.1.1.1.1.0;
       bits_in_bounds = omega arith;
     }
@@ -213,7 +209,6 @@ pub tally-tally-requires-then-rows-room : goal.tally-tally-requires-then-rows-ro
 tally-tally-requires-then-rows-room c =
     let p = c.requires in
     record {
-      accepted = p.walks.accepted;
       firsts_len = p.firsts_len;
       start_le_doc = (reached (goal.at.tally-tally-requires-then-rows-room c).In-Some).from;
       doc_bound = c.in-Some.ensures.visited.most;
@@ -228,7 +223,7 @@ shape_of-positions-then-rows-room c = positions-size (goal.at.shape_of-positions
 
 pub shape_of-out-then-rows-room : goal.shape_of-out-then-rows-room
 shape_of-out-then-rows-room c =
-    same_size (work c.args.volume.now c.args.plan.now) (work-even c.args.volume.now c.args.plan.now) c.loop-seen.invariant.0.progress
+    same_size (work c.args.query.now.volume.bytes.now c.args.query.now.plan.now) (work-even c.args.query.now.volume.bytes.now c.args.query.now.plan.now) c.loop-seen.invariant.0.progress
 
 pub returns-then-rows-room : goal.returns-then-rows-room
 returns-then-rows-room c =
@@ -243,9 +238,15 @@ overflow_mul-rows c =
     let s = visit-words c.loop-seen.rows c.row_words-width.result n (omega arith) in
     omega arith
 
+pub invariant_of-opened : goal.invariant_of-opened
+invariant_of-opened c =
+    let walking = c.loop-seen.invariant.0.walking in
+    record {
+      at_document = at-document _ _ _ _ c.in-Some.ensures.visited.later c.in-Some.ensures.document walking.starts-at walking.starts-end;
+    }
+
 pub write_row-block-requires : goal.write_row-block-requires
 write_row-block-requires c =
-    let walking = c.loop-seen.invariant.0.walking in
     let w = wide (goal.at.write_row-block-requires c).After-row_words-width in
     -- the row has as many words as a row of the plan
     let l = visit-wide _ _ _ _ _ c.requires.walks _ _ _ _ _ _ (visited (goal.at.write_row-block-requires c).In-Some) c.in-Some.ensures.document _ (many (goal.at.write_row-block-requires c).Start) in
@@ -253,8 +254,6 @@ write_row-block-requires c =
     let reach = ((visited (goal.at.write_row-block-requires c).In-Some).walking c.in-Some.ensures.document).positions-room in
     let m = many (goal.at.write_row-block-requires c).Start in
     let t = c.requires.walks.table-length in record {
-      accepted = (given _ _ c.requires.walks.accepted).volume-accepted;
-      at_document = at-document _ _ _ _ c.in-Some.ensures.visited.later c.in-Some.ensures.document walking.starts-at walking.starts-end;
       whole = rw c.blocks_of-blocks.ensures (blocks-whole _);
       block_bound = c.loop-seen.invariant.1.1.1.1.1.1.1;
       by_index = λ k h. let v = walk-within _ _ _ _ _ c.requires.walks k (omega arith) in omega arith;

@@ -11,12 +11,12 @@ use Rattle.search.proofs.Laws.Visits.{Visiting}
 use Rattle.search.proofs.listing.list_docs.Given as goal
 
 abbrev pub invariant-loop-seen : goal.invariant-loop-seen
-invariant-loop-seen l = Visiting l.volume l.plan (ends_of l.firsts) l.start l.initial.out (ats_of l.cursors) l.positions (take l.patterns l.docs) l.out l.from l.rows l.starts
+invariant-loop-seen l = Visiting l.query.volume.bytes.now l.query.plan.now (ends_of l.firsts) l.start l.initial.out (ats_of l.cursors) l.positions (take l.patterns l.docs) l.out l.from l.rows l.starts
     × ((length l.docs ≡ most_patterns)
     × ((ends_of l.cursors ≡ ends_of l.firsts)
     × ((length l.known ≡ most_found_sets)
-    × (Remembers l.plan l.known
-    × ((length l.positions ≡ length l.initial.positions) × ((length l.paras ≡ most_vars) × (126 * l.block ≤ stream_length l.volume)))))))
+    × (Remembers l.query.plan.now l.known
+    × ((length l.positions ≡ length l.initial.positions) × ((length l.paras ≡ most_vars) × (126 * l.block ≤ stream_length l.query.volume.bytes.now)))))))
 
 abbrev pub decreases-loop-seen : goal.decreases-loop-seen
 decreases-loop-seen l = 65537 - l.from

@@ -1,11 +1,12 @@
 -- The plan's table, cursors and orders are laid out, and the documents are listed.
 use Prim.Native.Nat.{◌≤◌}
 use native.Mathlib.Omega.{arith}
-use mathlib.Core.Path.{◌≡◌, refl, sym, ◌∙◌}
+use mathlib.Core.Path.{◌≡◌, refl, sym, ap, ◌∙◌}
 use lib.ListN.{length, take}
 use lib.Seq.{length-take-le}
 use Rattle.plan.specs.Limits.{most_patterns, most_vars}
 use Rattle.plan.specs.Check.{sizes}
+use Rattle.plan.specs.declared.answers.Sizes.{Sizes}
 use Rattle.plan.proofs.Laws.Accepted.{given}
 use Rattle.matcher.proofs.Laws.Cursors.{length-ends}
 use Rattle.search.proofs.Laws.Orders.{ordered}
@@ -14,11 +15,12 @@ use Rattle.search.proofs.listing.list_from.Goals as goal
 use Rattle.search.proofs.listing.list_from.Goals.{After-lay_out, After-set_cursors, Start}
 
 -- a plan's patterns and variables are few
-few : (c : Start) → (c.args.patterns ≤ most_patterns) × (c.args.vars ≤ most_vars)
+few : (c : Start) → let s = c.args.query.now.sizes in (s.patterns ≤ most_patterns) × (s.vars ≤ most_vars)
 few c =
-    let g = given _ _ c.requires.accepted in
-    let e = c.requires.patterns_value in
-    let f = c.requires.vars_value in
+    let q = c.args.query.now in
+    let g = given _ _ q.accepted in
+    let e = ap (λ (s : Sizes). s.patterns) q.sizes_are in
+    let f = ap (λ (s : Sizes). s.vars) q.sizes_are in
     let m = g.most-patterns in
     let n = g.most-vars in
     (omega arith, omega arith)
@@ -31,19 +33,20 @@ firsts-size : (c : After-set_cursors) → length c.set_cursors.new.cursors ≡ m
 firsts-size c = c.set_cursors.auto.cursors
 
 -- the outlines of the plan's patterns
-table-length : (c : After-lay_out) → length (take c.args.patterns c.lay_out.new.table) ≡ (sizes c.args.plan.now).patterns
+table-length : (c : After-lay_out) → length (take c.args.query.now.sizes.patterns c.lay_out.new.table) ≡ (sizes c.args.query.now.plan.now).patterns
 table-length c =
-    let e = c.requires.patterns_value in
-    let m = (given _ _ c.requires.accepted).most-patterns in
-    length-take-le c.args.patterns _ (let t = table-size c in omega arith) ∙ e
+    let q = c.args.query.now in
+    let e = ap (λ (s : Sizes). s.patterns) q.sizes_are in
+    let m = (given _ _ q.accepted).most-patterns in
+    length-take-le q.sizes.patterns _ (let t = table-size c in omega arith) ∙ e
 
 pub lay_out-requires : goal.lay_out-requires
 lay_out-requires c =
-    let p = c.requires in
+    let q = c.args.query.now in
     let m = (few (goal.at.lay_out-requires c).Start).0 in
     record {
-      by_index = (c.args.volume.now, p.accepted);
-      patterns_value = p.patterns_value;
+      by_index = (q.volume.bytes.now, q.accepted);
+      patterns_value = ap (λ (s : Sizes). s.patterns) q.sizes_are;
       patterns_in_bounds = omega arith;
     }
 
@@ -51,14 +54,13 @@ pub slice_bounds-table-end : goal.slice_bounds-table-end
 slice_bounds-table-end c =
     let m = (few (goal.at.slice_bounds-table-end c).Start).0 in
     let t = table-size (goal.at.slice_bounds-table-end c).After-lay_out in
-    sym (length-take-le c.args.patterns _ (omega arith))
+    sym (length-take-le c.args.query.now.sizes.patterns _ (omega arith))
 
 pub set_cursors-requires : goal.set_cursors-requires
 set_cursors-requires c =
     let p = c.requires in
     record {
-      accepted = p.accepted;
-      tabled = tabled-part _ _ _ p.patterns_value c.lay_out.ensures;
+      tabled = tabled-part _ _ _ (ap (λ (s : Sizes). s.patterns) c.args.query.now.sizes_are) c.lay_out.ensures;
       table_len = table-length (goal.at.set_cursors-requires c).After-lay_out;
       start_bound = p.start_bound;
       most_vars_in_bounds = omega arith;
@@ -68,8 +70,7 @@ pub set_orders-requires : goal.set_orders-requires
 set_orders-requires c =
     let p = c.requires in
     record {
-      accepted = p.accepted;
-      tabled = tabled-part _ _ _ p.patterns_value c.lay_out.ensures;
+      tabled = tabled-part _ _ _ (ap (λ (s : Sizes). s.patterns) c.args.query.now.sizes_are) c.lay_out.ensures;
       table_len = table-length (goal.at.set_orders-requires c).After-lay_out;
       most_vars_in_bounds = omega arith;
     }
@@ -90,27 +91,29 @@ pub slice_bounds-list_docs-end-2 : goal.slice_bounds-list_docs-end-2
 slice_bounds-list_docs-end-2 c =
     let m = (few (goal.at.slice_bounds-list_docs-end-2 c).Start).1 in
     let t = firsts-size (goal.at.slice_bounds-list_docs-end-2 c).After-set_cursors in
-    sym (length-take-le c.args.vars _ (omega arith))
+    sym (length-take-le c.args.query.now.sizes.vars _ (omega arith))
 
 pub slice_bounds-list_docs-end-3 : goal.slice_bounds-list_docs-end-3
 slice_bounds-list_docs-end-3 c =
     let m = (few (goal.at.slice_bounds-list_docs-end-3 c).Start).1 in
     let t = firsts-size (goal.at.slice_bounds-list_docs-end-3 c).After-set_cursors in
-    sym (length-take-le c.args.vars _ (omega arith))
+    sym (length-take-le c.args.query.now.sizes.vars _ (omega arith))
 
 pub list_docs-requires : goal.list_docs-requires
 list_docs-requires c =
     let p = c.requires in
-    let f = p.vars_value in
+    let q = c.args.query.now in
+    let f = ap (λ (s : Sizes). s.vars) q.sizes_are in
+    let g = ap (λ (s : Sizes). s.patterns) q.sizes_are in
     let many = (few (goal.at.list_docs-requires c).Start).1 in
     let r = firsts-size (goal.at.list_docs-requires c).After-set_cursors in
-    let firsts = take c.args.vars c.set_cursors.new.cursors in
-    let n : length firsts ≡ c.args.vars = length-take-le c.args.vars _ (omega arith) in
+    let firsts = take q.sizes.vars c.set_cursors.new.cursors in
+    let n : length firsts ≡ q.sizes.vars = length-take-le c.args.query.now.sizes.vars _ (omega arith) in
     let e = length-ends firsts in
     record {
       walks = record {
-        accepted = p.accepted;
-        tabled = tabled-part _ _ _ p.patterns_value c.lay_out.ensures;
+        accepted = q.accepted;
+        tabled = tabled-part _ _ _ (ap (λ (s : Sizes). s.patterns) c.args.query.now.sizes_are) c.lay_out.ensures;
         table-length = table-length (goal.at.list_docs-requires c).After-lay_out;
         ends-room = omega arith;
         ordered = ordered _ _ _ c.set_orders.ensures.rarest_each;

@@ -45,8 +45,6 @@ pub para_near-para-requires : goal.para_near-para-requires
 para_near-para-requires c =
     let p = c.requires in
     record {
-      accepted = p.accepted;
-      at_document = p.at_document;
       pos_bound = p.in_document c.loop-x.x c.loop-x-test.true;
       whole = p.whole;
       block_bound = c.loop-x.invariant.1;
@@ -68,10 +66,11 @@ pub loop-x-preserved : goal.loop-x-preserved
 loop-x-preserved c =
     let l = c.loop-x in
     let p = c.requires in
+    let o = c.args.opened.now in
     let n = c.para_near-para in (
       pairing-next _ _ _ _ l.out l.x l.invariant.0 c.loop-x-test.true p.positions_in_bounds n.result.start
           n.ensures.start_value,
-      block_within _ _ p.accepted p.at_document _ n.result.block n.ensures.block_value,
+      block_within _ _ o.volume.accepted o.at_document _ n.result.block n.ensures.block_value,
     )
 
 pub shape_of-out : goal.shape_of-out

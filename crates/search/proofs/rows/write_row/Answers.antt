@@ -3,10 +3,9 @@ use native.Mathlib.Omega.{arith}
 use mathlib.Core.Path.{◌≡◌, refl, sym, ap, ◌∙◌, subst}
 use lib.ListN.{length, take, drop, set, length-set}
 use Rattle.seq.proofs.Laws.Slices.{length_slice}
-use Rattle.volume.specs.Layout.{lists_of}
 use Rattle.plan.specs.Inner.Outline.{outline_at}
-use Rattle.fulltext.specs.Matches.{starts_in}
 use Rattle.matcher.specs.Inner.Shortfall.{InDocument}
+use Rattle.matcher.specs.Inner.Opened.{starts}
 use Rattle.search.specs.Inner.Rows.{row_by}
 use Rattle.search.proofs.Laws.Rows.{row_first, row-le, found-stored, unfound-stored, zeros-back}
 use Rattle.search.proofs.Laws.Rows.{writing-first, writing-room, writing-next, writing-done}
@@ -18,8 +17,8 @@ some_word : (c : Start) → c.args.from < length c.args.out.now
 some_word c =
     let a = c.args in
     let r = c.requires.row_in_bounds in
-    let f = ap length (row_first (starts_in (lists_of c.args.volume.now) c.args.document.doc) a.table.now a.document.doc a.found a.positions.now) in
-    let l = row-le (starts_in (lists_of c.args.volume.now) c.args.document.doc) a.table.now a.document.doc a.found a.positions.now 0 (length a.table.now) (omega arith) in
+    let f = ap length (row_first (starts c.args.opened.now) a.table.now a.opened.now.document.doc a.found a.positions.now) in
+    let l = row-le (starts c.args.opened.now) a.table.now a.opened.now.document.doc a.found a.positions.now 0 (length a.table.now) (omega arith) in
     omega arith
 
 pub offset_bounds-out-from : goal.offset_bounds-out-from
@@ -38,11 +37,11 @@ loop-outline-init c =
 
 -- the row fits into the buffer, its first word stored
 given : (c : In-loop-outline) → let a = c.args in
-    a.from + length (row_by (starts_in (lists_of c.args.volume.now) c.args.document.doc) a.table.now a.document.doc a.found a.positions.now (length a.table.now))
-    ≤ length (set a.out.now a.from a.document.doc)
+    a.from + length (row_by (starts c.args.opened.now) a.table.now a.opened.now.document.doc a.found a.positions.now (length a.table.now))
+    ≤ length (set a.out.now a.from a.opened.now.document.doc)
 given c =
     let a = c.args in
-    let n = length-set a.out.now a.from a.document.doc in
+    let n = length-set a.out.now a.from a.opened.now.document.doc in
     let r = c.requires.row_in_bounds in
     omega arith
 
@@ -63,7 +62,7 @@ reach c =
     let w = writing-room _ _ _ _ _ _ _ _ l.out l.to l.left l.outline-index l.invariant.0 t i (given c) in record {
       position = omega arith;
       word = omega arith;
-      same = l.invariant.0.stored.same_length ∙ length-set a.out.now a.from a.document.doc;
+      same = l.invariant.0.stored.same_length ∙ length-set a.out.now a.from a.opened.now.document.doc;
     }
 
 pub offset_bounds-out-to : goal.offset_bounds-out-to
@@ -107,8 +106,6 @@ write_pairs-near-requires c =
     let bit = ap (λ (b : ℕ). b % 2) (sym l.invariant.0.left_is) ∙ c.if-flag-eq1.true in
     let small = subst InDocument (sym (own_is (goal.at.write_pairs-near-requires c).In-loop-outline)) (p.by_index_2 l.outline-index c.loop-outline-test.true bit) in
     record {
-      accepted = p.accepted;
-      at_document = p.at_document;
       whole = p.whole;
       block_bound = l.invariant.1;
       in_document = small;
@@ -158,7 +155,7 @@ loop-outline-preserved c =
 pub shape_of-out : goal.shape_of-out
 shape_of-out c =
     let a = c.args in
-    c.loop-outline.invariant.0.stored.same_length ∙ length-set a.out.now a.from a.document.doc
+    c.loop-outline.invariant.0.stored.same_length ∙ length-set a.out.now a.from a.opened.now.document.doc
 
 pub returns : goal.returns
 returns c =

@@ -14,32 +14,32 @@ use Rattle.search.proofs.setup.lists_used.Goals.{In-loop-i}
 -- the VOICE row of a variable, which an inner turn reads
 turn : (c : In-loop-i)
     → let o = outline_at c.args.table.now c.loop-outline.outline-index in
-    Voiced c.requires.by_index.0 c.args.plan.now ((o.condition - o.vars) + c.loop-i.i)
-    (var_at c.args.plan.now (vars_before c.args.plan.now c.loop-outline.outline-index + c.loop-i.i))
+    Voiced c.args.query.now.volume.bytes.now c.args.query.now.plan.now ((o.condition - o.vars) + c.loop-i.i)
+    (var_at c.args.query.now.plan.now (vars_before c.args.query.now.plan.now c.loop-outline.outline-index + c.loop-i.i))
 turn c =
-    voice-at c.requires.by_index.0 c.args.plan.now c.requires.by_index.1 c.args.table.now c.requires.tabled c.loop-outline.outline-index
+    voice-at c.args.query.now.volume.bytes.now c.args.query.now.plan.now c.args.query.now.accepted c.args.table.now c.requires.tabled c.loop-outline.outline-index
     c.loop-i.i (omega arith) c.loop-i-test.true
 
 pub loop-outline-init : goal.loop-outline-init
-loop-outline-init c = let p = c.args.plan.now in rw (vars_before-first p) (used-first p)
+loop-outline-init c = let p = c.args.query.now.plan.now in rw (vars_before-first p) (used-first p)
 
 pub overflow_sub-row : goal.overflow_sub-row
 overflow_sub-row c = let o = (outlined c.args.table.now c.requires.tabled c.loop-outline.outline-index (omega arith) refl).room in omega arith
 
 pub loop-i-init : goal.loop-i-init
 loop-i-init c =
-    let p = c.args.plan.now in
+    let p = c.args.query.now.plan.now in
     let e : vars_before p c.loop-outline.outline-index ≡ vars_before p c.loop-outline.outline-index + 0 = omega arith in
     rw e at c.loop-outline.invariant
 
 pub overflow_add-row : goal.overflow_add-row
 overflow_add-row c =
-    let t = (turn c).inside in
-    let g = (given c.requires.by_index.0 _ c.requires.by_index.1).most-rows in
+    let t = (turn (goal.at.overflow_add-row c).In-loop-i).inside in
+    let g = (given c.args.query.now.volume.bytes.now _ c.args.query.now.accepted).most-rows in
     omega arith
 
 pub list_at-list-requires : goal.list_at-list-requires
-list_at-list-requires c = let t = turn c in record {
+list_at-list-requires c = let t = turn (goal.at.list_at-list-requires c).In-loop-i in record {
   row_bound = t.inside;
   row_value = t.formed;
   by_index = (_, t.kind-is);
@@ -48,7 +48,7 @@ list_at-list-requires c = let t = turn c in record {
 pub loop-i-preserved : goal.loop-i-preserved
 loop-i-preserved c =
     let l = c.loop-i in
-    let p = c.args.plan.now in
+    let p = c.args.query.now.plan.now in
     let x = vars_before p c.loop-outline.outline-index + l.i in
     let e : x + 1 ≡ vars_before p c.loop-outline.outline-index + (l.i + 1) = omega arith in
     let t = turn (goal.at.loop-i-preserved c).In-loop-i in
@@ -56,7 +56,7 @@ loop-i-preserved c =
 
 pub loop-outline-preserved : goal.loop-outline-preserved
 loop-outline-preserved c =
-    let p = c.args.plan.now in
+    let p = c.args.query.now.plan.now in
     let k = c.loop-outline.outline-index in
     let h : k < (sizes p).patterns = omega arith in
     let m = (outlined c.args.table.now c.requires.tabled k h refl).vars_are in
@@ -67,6 +67,6 @@ loop-outline-preserved c =
 pub returns : goal.returns
 returns c =
     let l = c.loop-outline in
-    let p = c.args.plan.now in
+    let p = c.args.query.now.plan.now in
     let e : l.outline-index ≡ (sizes p).patterns = omega arith in
     rw (ap (vars_before p) e ∙ vars_before-end p) at l.invariant

@@ -6,7 +6,7 @@ use Rattle.search.specs.Inner.Setup.{ListsUsed}
 use Rattle.search.proofs.setup.lists_used.Given as goal
 
 abbrev pub invariant-loop-i : goal.invariant-loop-i
-invariant-loop-i l = ListsUsed l.plan (vars_before l.plan l.outline-index + l.i) l.used
+invariant-loop-i l = ListsUsed l.query.plan.now (vars_before l.query.plan.now l.outline-index + l.i) l.used
 
 abbrev pub invariant-loop-outline : goal.invariant-loop-outline
-invariant-loop-outline l = ListsUsed l.plan (vars_before l.plan l.outline-index) l.used
+invariant-loop-outline l = ListsUsed l.query.plan.now (vars_before l.query.plan.now l.outline-index) l.used

@@ -21,38 +21,37 @@ use Rattle.search.proofs.setup.set_cursors.Goals.{After-list_at-list, After-list
 -- the VOICE row of a variable, which an inner turn reads
 turn : (c : In-loop-i)
     → let o = outline_at c.args.table.now c.loop-outline.outline-index in
-    Voiced c.args.volume.now c.args.plan.now ((o.condition - o.vars) + c.loop-i.i)
-    (var_at c.args.plan.now (vars_before c.args.plan.now c.loop-outline.outline-index + c.loop-i.i))
+    Voiced c.args.query.now.volume.bytes.now c.args.query.now.plan.now ((o.condition - o.vars) + c.loop-i.i)
+    (var_at c.args.query.now.plan.now (vars_before c.args.query.now.plan.now c.loop-outline.outline-index + c.loop-i.i))
 turn c =
-    voice-at c.args.volume.now c.args.plan.now c.requires.accepted c.args.table.now c.requires.tabled c.loop-outline.outline-index c.loop-i.i
+    voice-at c.args.query.now.volume.bytes.now c.args.query.now.plan.now c.args.query.now.accepted c.args.table.now c.requires.tabled c.loop-outline.outline-index c.loop-i.i
     (omega arith) c.loop-i-test.true
 
 -- its place among those of the plan
 place : (c : In-loop-i)
     → let o = outline_at c.args.table.now c.loop-outline.outline-index in
-    let x = vars_before c.args.plan.now c.loop-outline.outline-index + c.loop-i.i in
-    (o.first + c.loop-i.i ≡ x) × (x < (sizes c.args.plan.now).vars)
+    let x = vars_before c.args.query.now.plan.now c.loop-outline.outline-index + c.loop-i.i in
+    (o.first + c.loop-i.i ≡ x) × (x < (sizes c.args.query.now.plan.now).vars)
 place c =
-    voice-place c.args.volume.now c.args.plan.now c.requires.accepted c.args.table.now c.requires.tabled c.loop-outline.outline-index
+    voice-place c.args.query.now.volume.bytes.now c.args.query.now.plan.now c.args.query.now.accepted c.args.table.now c.requires.tabled c.loop-outline.outline-index
     c.loop-i.i (omega arith) c.loop-i-test.true
 
 room : (c : In-loop-i) → (outline_at c.args.table.now c.loop-outline.outline-index).first + c.loop-i.i < most_vars
 room c =
-    voice-few c.args.volume.now c.args.plan.now c.requires.accepted c.args.table.now c.requires.tabled c.loop-outline.outline-index c.loop-i.i
+    voice-few c.args.query.now.volume.bytes.now c.args.query.now.plan.now c.args.query.now.accepted c.args.table.now c.requires.tabled c.loop-outline.outline-index c.loop-i.i
     (omega arith) c.loop-i-test.true
 
 -- the lists whose starts are stored are lists of the volume
 few-used : (c : After-lists_used-used)
-    → let v = c.args.volume.now in
+    → let v = c.args.query.now.volume.bytes.now in
     (c.lists_used-used.result ≤ list_count v) × (list_count v ≤ 1024)
 few-used c =
-    let g = given _ _ c.requires.accepted in
-    (used-within _ _ c.requires.accepted c.lists_used-used.result c.lists_used-used.ensures, (good _ g.volume-accepted).lists-most)
+    let q = c.args.query.now in
+    (used-within _ _ q.accepted c.lists_used-used.result c.lists_used-used.ensures, (good _ q.volume.accepted).lists-most)
 
 pub lists_used-used-requires : goal.lists_used-used-requires
 lists_used-used-requires c =
     record {
-      by_index = (_, c.requires.accepted);
       tabled = c.requires.tabled;
       table_len = c.requires.table_len;
     }
@@ -61,7 +60,6 @@ pub list_starts-requires : goal.list_starts-requires
 list_starts-requires c =
     let few = few-used (goal.at.list_starts-requires c).After-lists_used-used in
     record {
-      accepted = (given _ _ c.requires.accepted).volume-accepted;
       n_bound = few.0;
       n_in_bounds = omega arith;
     }
@@ -69,7 +67,7 @@ list_starts-requires c =
 pub loop-outline-init : goal.loop-outline-init
 loop-outline-init c =
     let a = c.args in
-    placing-first a.volume.now a.plan.now a.start (ats_of a.cursors.now) (ends_of a.cursors.now)
+    placing-first a.query.now.volume.bytes.now a.query.now.plan.now a.start (ats_of a.cursors.now) (ends_of a.cursors.now)
 
 pub overflow_sub-row : goal.overflow_sub-row
 overflow_sub-row c = let o = (outlined c.args.table.now c.requires.tabled c.loop-outline.outline-index (omega arith) refl).room in omega arith
@@ -78,19 +76,19 @@ pub loop-i-init : goal.loop-i-init
 loop-i-init c =
     let l = c.loop-outline in
     let a = c.args in
-    let p = a.plan.now in
-    placing_as a.volume.now p a.start (length (ats_of a.cursors.now)) (length (ends_of a.cursors.now)) (vars_before p l.outline-index)
+    let p = a.query.now.plan.now in
+    placing_as a.query.now.volume.bytes.now p a.start (length (ats_of a.cursors.now)) (length (ends_of a.cursors.now)) (vars_before p l.outline-index)
     (length (ats_of l.cursors)) (length (ends_of l.cursors)) (vars_before p l.outline-index + 0) (ats_of l.cursors) (ends_of l.cursors) l.invariant
     (sym l.invariant.same_ats) (sym l.invariant.same_ends) (omega arith)
 
 pub overflow_add-row : goal.overflow_add-row
 overflow_add-row c =
-    let t = (turn c).inside in
-    let g = (given _ _ c.requires.accepted).most-rows in
+    let t = (turn (goal.at.overflow_add-row c).In-loop-i).inside in
+    let g = (given _ _ c.args.query.now.accepted).most-rows in
     omega arith
 
 pub list_at-list-requires : goal.list_at-list-requires
-list_at-list-requires c = let t = turn c in record {
+list_at-list-requires c = let t = turn (goal.at.list_at-list-requires c).In-loop-i in record {
   row_bound = t.inside;
   row_value = t.formed;
   by_index = (_, t.kind-is);
@@ -98,10 +96,10 @@ list_at-list-requires c = let t = turn c in record {
 
 -- the list that it reads, that of the variable among those of the plan
 read : (c : After-list_at-list)
-    → c.list_at-list.result ≡ var_at c.args.plan.now (vars_before c.args.plan.now c.loop-outline.outline-index + c.loop-i.i)
+    → c.list_at-list.result ≡ var_at c.args.query.now.plan.now (vars_before c.args.query.now.plan.now c.loop-outline.outline-index + c.loop-i.i)
 read c =
     voiced-list
-    (voice-at c.args.volume.now c.args.plan.now c.requires.accepted c.args.table.now c.requires.tabled c.loop-outline.outline-index c.loop-i.i
+    (voice-at c.args.query.now.volume.bytes.now c.args.query.now.plan.now c.args.query.now.accepted c.args.table.now c.requires.tabled c.loop-outline.outline-index c.loop-i.i
     (omega arith) c.loop-i-test.true)
     c.list_at-list.result c.list_at-list.ensures
 
@@ -111,13 +109,11 @@ slice_bounds-cursor_on-end c = sym c.list_starts.ensures.starts_len_unchanged
 pub cursor_on-requires : goal.cursor_on-requires
 cursor_on-requires c =
     let begun = c.list_starts.ensures in
-    let g = given _ _ c.requires.accepted in
     let t = turn (goal.at.cursor_on-requires c).In-loop-i in
     let p = place (goal.at.cursor_on-requires c).In-loop-i in
     let list = read (goal.at.cursor_on-requires c).After-list_at-list in
     let above = c.lists_used-used.ensures.above _ p.1 in
     let few = few-used (goal.at.cursor_on-requires c).After-lists_used-used in record {
-      accepted = g.volume-accepted;
       list_bound = rw list t.there;
       list_in_bounds = omega arith;
       list_value = begun.by_index _ (omega arith);
@@ -153,13 +149,13 @@ loop-i-preserved c =
     let l = c.loop-i in
     let outer = c.loop-outline in
     let a = c.args in
-    let v = a.volume.now in
+    let v = a.query.now.volume.bytes.now in
     let t = reach (goal.at.loop-i-preserved c).In-loop-i in
     let p = place (goal.at.loop-i-preserved c).In-loop-i in
-    let x = vars_before a.plan.now outer.outline-index + l.i in
+    let x = vars_before a.query.now.plan.now outer.outline-index + l.i in
     let list = read (goal.at.loop-i-preserved c).After-list_at-list in
-    let e : x + 1 ≡ vars_before a.plan.now outer.outline-index + (l.i + 1) = omega arith in
-    let next = placing-next v a.plan.now a.start (length (ats_of outer.cursors)) (length (ends_of outer.cursors)) (ats_of l.cursors) (ends_of l.cursors) x l.invariant in
+    let e : x + 1 ≡ vars_before a.query.now.plan.now outer.outline-index + (l.i + 1) = omega arith in
+    let next = placing-next v a.query.now.plan.now a.start (length (ats_of outer.cursors)) (length (ends_of outer.cursors)) (ats_of l.cursors) (ends_of l.cursors) x l.invariant in
     let seeks = c.cursor_on.ensures ∙ ap (λ (list : ℕ). cursor_on v list a.start) list in
     rw (p.0, ← e, ats-set l.cursors x _, ends-set l.cursors x _) (next (omega (arith, t, p)) (omega (arith, t, p)) c.cursor_on.result seeks)
 
@@ -168,12 +164,12 @@ loop-outline-preserved c =
     let l = c.loop-i in
     let outer = c.loop-outline in
     let a = c.args in
-    let p = a.plan.now in
+    let p = a.query.now.plan.now in
     let k = outer.outline-index in
     let h : k < (sizes p).patterns = omega arith in
     let m = (outlined a.table.now c.requires.tabled k h refl).vars_are in
     let next = vars_before-next p k h in
-    placing_as a.volume.now p a.start (length (ats_of outer.cursors)) (length (ends_of outer.cursors)) (vars_before p k + l.i)
+    placing_as a.query.now.volume.bytes.now p a.start (length (ats_of outer.cursors)) (length (ends_of outer.cursors)) (vars_before p k + l.i)
     (length (ats_of a.cursors.now)) (length (ends_of a.cursors.now)) (vars_before p (k + 1)) (ats_of l.cursors) (ends_of l.cursors) l.invariant
     outer.invariant.same_ats outer.invariant.same_ends (omega arith)
 
@@ -181,5 +177,5 @@ pub returns : goal.returns
 returns c =
     let l = c.loop-outline in
     let a = c.args in
-    placing-done a.volume.now a.plan.now a.start (length (ats_of a.cursors.now)) (length (ends_of a.cursors.now)) (ats_of l.cursors)
+    placing-done a.query.now.volume.bytes.now a.query.now.plan.now a.start (length (ats_of a.cursors.now)) (length (ends_of a.cursors.now)) (ats_of l.cursors)
     (ends_of l.cursors) l.outline-index l.invariant (omega arith)

@@ -8,7 +8,7 @@ use Rattle.matcher.proofs.Laws.Placed.{Placing}
 use Rattle.search.proofs.setup.set_cursors.Given as goal
 
 abbrev pub invariant-loop-i : goal.invariant-loop-i
-invariant-loop-i l = Placing l.volume l.plan l.start (length (ats_of l.initial.cursors)) (length (ends_of l.initial.cursors)) (ats_of l.cursors) (ends_of l.cursors) (vars_before l.plan l.outline-index + l.i)
+invariant-loop-i l = Placing l.query.volume.bytes.now l.query.plan.now l.start (length (ats_of l.initial.cursors)) (length (ends_of l.initial.cursors)) (ats_of l.cursors) (ends_of l.cursors) (vars_before l.query.plan.now l.outline-index + l.i)
 
 abbrev pub invariant-loop-outline : goal.invariant-loop-outline
-invariant-loop-outline l = Placing l.volume l.plan l.start (length (ats_of l.initial.cursors)) (length (ends_of l.initial.cursors)) (ats_of l.cursors) (ends_of l.cursors) (vars_before l.plan l.outline-index)
+invariant-loop-outline l = Placing l.query.volume.bytes.now l.query.plan.now l.start (length (ats_of l.initial.cursors)) (length (ends_of l.initial.cursors)) (ats_of l.cursors) (ends_of l.cursors) (vars_before l.query.plan.now l.outline-index)

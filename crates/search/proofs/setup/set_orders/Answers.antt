@@ -12,7 +12,7 @@ use Rattle.search.proofs.setup.set_orders.Goals.{In-loop-outline}
 
 -- the outline of the pattern
 outline : (c : In-loop-outline)
-    → Outlined c.args.plan.now c.loop-outline.outline-index (outline_at c.args.table.now c.loop-outline.outline-index)
+    → Outlined c.args.query.now.plan.now c.loop-outline.outline-index (outline_at c.args.table.now c.loop-outline.outline-index)
 outline c = outlined c.args.table.now c.requires.tabled c.loop-outline.outline-index (omega arith) refl
 
 -- the buffer has room for its variables
@@ -22,8 +22,8 @@ room c =
     let o = outline c in
     let f = o.first-is in
     let n = o.vars_are in
-    let w = vars-within c.args.plan.now c.loop-outline.outline-index (omega arith) in
-    let m = (given _ _ c.requires.accepted).most-vars in
+    let w = vars-within c.args.query.now.plan.now c.loop-outline.outline-index (omega arith) in
+    let m = (given _ _ c.args.query.now.accepted).most-vars in
     let r = c.requires.most_vars_in_bounds in
     let l = c.loop-outline.invariant.same_length in
     omega arith
@@ -49,7 +49,6 @@ rarest_first-requires c =
     let r = room (goal.at.rarest_first-requires c).In-loop-outline in
     let l = lent_length (outline_at c.args.table.now c.loop-outline.outline-index).first c.loop-outline.orders in
     record {
-      accepted = c.requires.accepted;
       pattern_bound = o.there;
       outlines = o.entry.outlines;
       vars_in_bounds = omega arith;

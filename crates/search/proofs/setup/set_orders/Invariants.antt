@@ -5,4 +5,4 @@ use Rattle.search.proofs.Laws.Orders.{Ranking}
 use Rattle.search.proofs.setup.set_orders.Given as goal
 
 abbrev pub invariant-loop-outline : goal.invariant-loop-outline
-invariant-loop-outline l = Ranking l.volume l.plan (length l.initial.orders) l.orders l.outline-index
+invariant-loop-outline l = Ranking l.query.volume.bytes.now l.query.plan.now (length l.initial.orders) l.orders l.outline-index

@@ -12,7 +12,7 @@ use Rattle.search.proofs.walk.next_docs.Goals as goal
 use Rattle.search.proofs.walk.next_docs.Goals.{In-loop-k, Joined-else-not-fresh, else-not-fresh-via-then-not-fresh+else-doc-docs, else-not-fresh-via-else-not-fresh}
 
 -- it is one of the plan's patterns
-inside : (c : In-loop-k) → c.loop-k.k < (sizes c.args.plan.now).patterns
+inside : (c : In-loop-k) → c.loop-k.k < (sizes c.args.query.now.plan.now).patterns
 inside c = let l = c.requires.walks.table-length in let t = c.loop-k-test.true in omega arith
 
 -- the pattern's variables have their order

@@ -13,7 +13,7 @@ use Rattle.search.proofs.walk.settle_all.Goals.{then-docs-k+then-settle, else-do
 use Rattle.search.proofs.walk.settle_all.Goals.{In-loop-k}
 
 -- pattern k is one of the plan's, and its bit fits the bits
-inside : (c : In-loop-k) → c.loop-k.k < (sizes c.args.plan.now).patterns
+inside : (c : In-loop-k) → c.loop-k.k < (sizes c.args.query.now.plan.now).patterns
 inside c = let e = c.requires.walks.table-length in let t = c.loop-k-test.true in omega arith
 
 small : (c : In-loop-k) → (c.loop-k.weight ≤ 256) × (c.loop-k.bits < 256)

@@ -8,5 +8,5 @@ use Rattle.search.proofs.walk.settle_all.Given as goal
 
 abbrev pub invariant-loop-k : goal.invariant-loop-k
 invariant-loop-k l =
-    Settling l.volume l.plan (ends_of l.initial.cursors) l.docs l.document.doc (ats_of l.initial.cursors) l.initial.positions (ats_of l.cursors) l.positions l.bits l.weight l.k
+    Settling l.query.volume.bytes.now l.query.plan.now (ends_of l.initial.cursors) l.docs l.document.doc (ats_of l.initial.cursors) l.initial.positions (ats_of l.cursors) l.positions l.bits l.weight l.k
     × ((ends_of l.cursors ≡ ends_of l.initial.cursors) × (length l.paras ≡ length l.initial.paras))

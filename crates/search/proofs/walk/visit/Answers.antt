@@ -16,7 +16,7 @@ inside c = let l = c.least_of-doc.ensures.most in omega arith
 
 -- the walk's cursor on list 0 has not passed it
 document : (c : After-starts-1) → let walk = c.args.walk in
-    AtDocument c.args.volume.now (record { doc = c.least_of-doc.result; starts = walk.starts })
+    AtDocument c.args.query.now.volume.bytes.now (record { doc = c.least_of-doc.result; starts = walk.starts })
 document c =
     let w = c.requires.walking in
     at-document _ _ _ _
@@ -26,14 +26,14 @@ document c =
 
 -- the patterns' documents are as many as the patterns
 size : (c : After-next_docs)
-    → length c.next_docs.new.docs ≡ (sizes c.args.plan.now).patterns
+    → length c.next_docs.new.docs ≡ (sizes c.args.query.now.plan.now).patterns
 size c = c.next_docs.ensures.brought.docs-length ∙ c.requires.walking.docs-length
 
 -- there is a cursor for each variable, and a position
-room : (c : After-next_docs) → (sizes c.args.plan.now).vars ≤ length (ats_of c.next_docs.new.cursors)
+room : (c : After-next_docs) → (sizes c.args.query.now.plan.now).vars ≤ length (ats_of c.next_docs.new.cursors)
 room c = let a = c.requires.walking.ats-room in let e = c.next_docs.ensures.brought.ats-length in omega arith
 
-reach : (c : After-next_docs) → (sizes c.args.plan.now).vars ≤ length c.next_docs.new.positions
+reach : (c : After-next_docs) → (sizes c.args.query.now.plan.now).vars ≤ length c.next_docs.new.positions
 reach c = let a = c.requires.walking.positions-room in let e = c.next_docs.ensures.brought.positions-length in omega arith
 
 pub next_docs-requires : goal.next_docs-requires
