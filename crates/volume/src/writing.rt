@@ -69,9 +69,8 @@ fn stream_word(lists: &Lists<'_>, i: usize) -> u32
 // left is a multiple of eight, which a compiler copies in vectors with nothing over. The checksum
 // reads these words back at once, the last ones first, and would have to wait for words that were
 // stored one by one.
-fn put_words<F: Fn(usize) -> u32>(word: F, out: &mut [u8])
-    requires callable { (j : ℕ) → j < 126 → F.pre word j }
-    requires out_len { length out.old ≡ 512 }
+fn put_words<F: Fn(usize) -> u32>(word: F, out: &mut [u8; BLOCK_BYTES])
+    requires { (j : ℕ) → j < 126 → F.pre word j }
     ensures { (f : ℕ → ℕ) (from : ℕ) → ((j x : ℕ) → j < 126 → F.post word j x → x ≡ f (from + j)) → out.new ≡ filled f from out.old }
 {
     for j in 0..6 {
@@ -84,9 +83,8 @@ fn put_words<F: Fn(usize) -> u32>(word: F, out: &mut [u8])
 
 // Stores the stream words from `first` on as the words of a block. Where all of them are postings,
 // as in nearly every block, they are copied with no test for each.
-fn put_stream(lists: &Lists<'_>, first: usize, out: &mut [u8])
-    requires first_bound { first ≤ 1032192 }
-    requires out_len { length out.old ≡ 512 }
+fn put_stream(lists: &Lists<'_>, first: usize, out: &mut [u8; BLOCK_BYTES])
+    requires { first ≤ 1032192 }
     ensures { out.new ≡ filled (given lists.now.counts.now lists.now.postings.now) first out.old }
 {
     let postings = lists.postings;
@@ -100,8 +98,7 @@ fn put_stream(lists: &Lists<'_>, first: usize, out: &mut [u8])
 }
 
 // Stores the checksum of a block behind its other bytes.
-fn seal(out: &mut [u8])
-    requires { length out.old ≡ 512 }
+fn seal(out: &mut [u8; BLOCK_BYTES])
     ensures { out.new ≡ sealed (take 508 out.old) }
 {
     let sums = block_sums(&out[..], 0);
@@ -109,15 +106,19 @@ fn seal(out: &mut [u8])
     put16(out, SUM_B, sums.b);
 }
 
-// Stores block k.
+// Stores block k. It takes a slice: where an array is lent from a part of a slice, the proof does not
+// find how the part ends (tried in `put_blocks`).
 fn put_block(lists: &Lists<'_>, k: usize, out: &mut [u8])
     requires k_bound { k < 8192 }
     requires out_len { length out.old ≡ 512 }
     ensures { out.new ≡ sealed (block_body (given lists.now.counts.now lists.now.postings.now) k) }
 {
-    put32(out, 0, k as u32);
-    put_stream(lists, BLOCK_WORDS * k, out);
-    seal(out);
+    let Some(block) = out.as_mut_array() else {
+        unreachable!()
+    };
+    put32(block, 0, k as u32);
+    put_stream(lists, BLOCK_WORDS * k, block);
+    seal(block);
 }
 
 // Stores block k of a stream that is made on the way, given its words of that block.
@@ -127,9 +128,12 @@ pub fn put_made(words: &[u32], k: usize, out: &mut [u8])
     requires out_len { length out.old ≡ 512 }
     ensures { IsBlock words.now k out.new }
 {
-    put32(out, 0, k as u32);
-    put_words(|j| words[j], out);
-    seal(out);
+    let Some(block) = out.as_mut_array() else {
+        unreachable!()
+    };
+    put32(block, 0, k as u32);
+    put_words(|j| words[j], block);
+    seal(block);
 }
 
 // Stores the blocks from `from` to `to`.

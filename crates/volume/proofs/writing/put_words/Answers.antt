@@ -1,10 +1,11 @@
 use native.Mathlib.Omega.{arith}
+use Rattle.std.proofs.Common.{rules}
 use mathlib.Core.Path.{◌≡◌}
 use Rattle.volume.proofs.Laws.Storing.{filling-first, filling_again, filling-done}
 use Rattle.volume.proofs.writing.put_words.Goals as goal
 
 pub loop-j-init : goal.loop-j-init
-loop-j-init g c = λ f from value. filling-first f from _ c.requires.out_len
+loop-j-init g c = λ f from value. filling-first f from _ (search rules)
 
 pub loop-j-preserved : goal.loop-j-preserved
 loop-j-preserved g c =
