@@ -106,8 +106,8 @@ fn seal(out: &mut [u8; BLOCK_BYTES])
     put16(out, SUM_B, sums.b);
 }
 
-// Stores block k. It takes a slice: where an array is lent from a part of a slice, the proof does not
-// find how the part ends (tried in `put_blocks`).
+// Stores block k. It takes a slice: where `put_blocks` lends an array of a part of its slice, it was
+// tried and the proof does not close, since nothing says how that part ends.
 fn put_block(lists: &Lists<'_>, k: usize, out: &mut [u8])
     requires k_bound { k < 8192 }
     requires out_len { length out.old ≡ 512 }
