@@ -7,7 +7,7 @@ use Rattle.seq.specs.Refusals.{Said, refused, answered}
 use Rattle.seq.specs.Calls.{Form}
 use Rattle.enumeration.specs.Answers.{Page}
 use Rattle.enumeration.specs.Enumeration.{KeptAs}
-use Rattle.lihambozy.specs.declared.ListMatchesAnswer.{ListMatchesAnswer}
+use Rattle.lihambozy.specs.declared.answers.ListMatchesAnswer.{ListMatchesAnswer}
 use Rattle.lihambozy.specs.Flat.{flat_matches}
 
 -- 0 is DONE, and any other number MORE with these words

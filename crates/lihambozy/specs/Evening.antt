@@ -9,7 +9,7 @@ use Rattle.fulltext.specs.Positions.{limit}
 use Rattle.fulltext.specs.Documents.{Work, docs_in, rows_of_docs, work}
 use Rattle.search.specs.Search.{IsSearch, outcome}
 use Rattle.search.specs.Demands.{Holds3}
-use Rattle.lihambozy.specs.declared.ListAnswer.{ListAnswer}
+use Rattle.lihambozy.specs.declared.answers.ListAnswer.{ListAnswer}
 use Rattle.lihambozy.specs.Flat.{flat_plan}
 use Rattle.lihambozy.specs.Search.{structs}
 

@@ -1,26 +1,31 @@
 -- What the C functions answer: refusal 0 and the values, or a refusal's number, its place, and zeros. Assumes nothing.
-use Rattle.std.specs.Prelude.{ℕ, Bool, cond, List, replicate}
+use Rattle.std.specs.Prelude.{◌≡◌, ℕ, Bool, cond, List, replicate}
 use Rattle.std.proofs.Math.Option.{Option, none, some}
 use Rattle.seq.specs.Refusals.{Said, refused, answered}
 use Rattle.volume.specs.Answers.{Sizes}
 use Rattle.join.specs.Answers.{JoinSaid}
-use Rattle.plan.specs.Answers as planAnswers
+use Rattle.plan.specs.declared.answers.Sizes as plan
 use Rattle.plan.specs.declared.showing.Span.{Span}
 use Rattle.plan.specs.Limits.{most_pattern_vars}
 use Rattle.fulltext.specs.Positions.{limit}
 use Rattle.enumeration.specs.Answers as enumerationAnswers
 use Rattle.search.specs.Answers.{Next, done, more, Page}
-use Rattle.lihambozy.specs.declared.CheckVolumeAnswer.{CheckVolumeAnswer}
-use Rattle.lihambozy.specs.declared.ReadListAnswer.{ReadListAnswer}
-use Rattle.lihambozy.specs.declared.WriteVolumeAnswer.{WriteVolumeAnswer}
-use Rattle.lihambozy.specs.declared.JoinVolumesAnswer.{JoinVolumesAnswer}
-use Rattle.lihambozy.specs.declared.CheckPlanAnswer.{CheckPlanAnswer}
-use Rattle.lihambozy.specs.declared.PatternRowsAnswer.{PatternRowsAnswer}
-use Rattle.lihambozy.specs.declared.TestPositionsAnswer.{TestPositionsAnswer}
-use Rattle.lihambozy.specs.declared.ListAnswer.{ListAnswer}
-use Rattle.lihambozy.specs.declared.ListMatchesAnswer.{ListMatchesAnswer}
-use Rattle.lihambozy.specs.declared.LineToPlanAnswer.{LineToPlanAnswer}
-use Rattle.lihambozy.specs.declared.PlanToLineAnswer.{PlanToLineAnswer}
+use Rattle.lihambozy.specs.declared.refused.Refused.{Refused}
+use Rattle.lihambozy.specs.declared.answers.CheckVolumeAnswer.{CheckVolumeAnswer}
+use Rattle.lihambozy.specs.declared.answers.ReadListAnswer.{ReadListAnswer}
+use Rattle.lihambozy.specs.declared.answers.WriteVolumeAnswer.{WriteVolumeAnswer}
+use Rattle.lihambozy.specs.declared.answers.JoinVolumesAnswer.{JoinVolumesAnswer}
+use Rattle.lihambozy.specs.declared.answers.CheckPlanAnswer.{CheckPlanAnswer}
+use Rattle.lihambozy.specs.declared.answers.PatternRowsAnswer.{PatternRowsAnswer}
+use Rattle.lihambozy.specs.declared.answers.TestPositionsAnswer.{TestPositionsAnswer}
+use Rattle.lihambozy.specs.declared.answers.ListAnswer.{ListAnswer}
+use Rattle.lihambozy.specs.declared.answers.ListMatchesAnswer.{ListMatchesAnswer}
+use Rattle.lihambozy.specs.declared.answers.LineToPlanAnswer.{LineToPlanAnswer}
+use Rattle.lihambozy.specs.declared.answers.PlanToLineAnswer.{PlanToLineAnswer}
+
+-- a refusal's number and place are those that are said
+abbrev pub IsRefusal : {A : Type 0} → Refused → Said A → Type 0
+IsRefusal r said = said ≡ refused r.number r.at
 
 -- the answer of checking a volume
 abbrev pub flat_sizes : Said Sizes → CheckVolumeAnswer
@@ -46,7 +51,7 @@ abbrev pub flat_join : JoinSaid → JoinVolumesAnswer
 flat_join s = flat_joined s.volume s.said
 
 -- the answer of checking a plan
-abbrev pub flat_plan : Said planAnswers.Sizes → CheckPlanAnswer
+abbrev pub flat_plan : Said plan.Sizes → CheckPlanAnswer
 flat_plan (refused n p) = record { refusal = n; at = p; patterns = 0; vars = 0 }
 flat_plan (answered s) = record { refusal = 0; at = 0; patterns = s.patterns; vars = s.vars }
 

@@ -6,7 +6,7 @@ use Rattle.seq.specs.Calls.{Form}
 use Rattle.fulltext.specs.Positions.{limit}
 use Rattle.search.specs.Answers.{Next, done, more, Page}
 use Rattle.search.specs.Search.{KeptAs}
-use Rattle.lihambozy.specs.declared.ListAnswer.{ListAnswer}
+use Rattle.lihambozy.specs.declared.answers.ListAnswer.{ListAnswer}
 use Rattle.lihambozy.specs.Flat.{flat_listing}
 
 -- 65,536 is DONE, and any other number the document of MORE

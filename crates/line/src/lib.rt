@@ -1,4 +1,5 @@
-// Typed lines (02, N5), read: `read` gives the rows of a line.
+// Typed lines (02, N5), read: `read` stores the rows of a line and gives how many words they are, or
+// says by a `ReadError` why there are none.
 //
 // It has no `requires`. What it answers, and each lent word afterwards, is an equation with a
 // definition of `specs/`.

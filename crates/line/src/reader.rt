@@ -26,6 +26,7 @@ pub fn read(text: &[u8], out: &mut [u32]) -> Result<u32, ReadError>
             if out.len() < 4 * rows {
                 return Err(ReadError::Short);
             }
+            // It ends as the first pass did.
             let _ = read_rows(text, out);
             Ok(4 * rows as u32)
         }

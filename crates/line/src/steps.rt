@@ -1,6 +1,6 @@
 // Reading a pattern (02: figure) byte by byte: the state of the reading, and what a byte makes of
 // it.
-ghost use Rattle.std.specs.Prelude.{◌≡◌, ◌≤◌, ◌<◌};
+ghost use Rattle.std.specs.Prelude.{◌≡◌, ◌≤◌, ◌<◌, get_or};
 ghost use Rattle.grammar.specs.Grammar as grammar;
 ghost use Rattle.line.specs.Inner.States as states;
 
@@ -19,7 +19,12 @@ pub enum State {
     Lettered(Word),
     // In the numbers of a condition: how many stand in front of this one, and the first three of
     // them.
-    Counting(Word, u32, u32, u32, u32, Option<u32>),
+    Counting {
+        word: Word,
+        count: usize,
+        front: [u32; 3],
+        number: Option<u32>,
+    },
 }
 
 // What a byte makes of a state.
@@ -52,7 +57,7 @@ fn grow(number: Option<u32>, byte: u8, most: u32) -> Option<u32>
 }
 
 // How many numbers a condition has.
-fn arity(word: Word) -> u32
+fn arity(word: Word) -> usize
     ensures { result ≡ grammar.arity word }
 {
     match word {
@@ -64,7 +69,7 @@ fn arity(word: Word) -> u32
 }
 
 // The most that a number of a condition may be, with so many in front of it.
-fn most_of(word: Word, count: u32) -> u32
+fn most_of(word: Word, count: usize) -> u32
     requires { count < grammar.arity word }
     ensures { result ≡ grammar.most_of word count }
 {
@@ -86,11 +91,12 @@ fn ending(kind: Kind, byte: u8) -> Option<Next>
 }
 
 // The row of a condition whose last number is `last`, with the numbers in front of it.
-fn condition(word: Word, a: u32, b: u32, c: u32, last: u32) -> Kind
-    requires c_bound { c ≤ 65535 }
+fn condition(word: Word, front: [u32; 3], last: u32) -> Kind
+    requires third_bound { get_or front 2 0 ≤ 65535 }
     requires last_most { states.LastMost word last }
-    ensures { result ≡ states.condition_kind word a b c last }
+    ensures { result ≡ states.condition_kind word front last }
 {
+    let [a, b, c] = front;
     let predicate = match word {
         Word::Near => Predicate::Distance { a, b, limit: last },
         Word::Before => Predicate::Ordered { a, b: last },
@@ -136,43 +142,48 @@ fn letter(byte: u8) -> Option<Next>
     Some(Next::Goes(State::Lettered(word)))
 }
 
-// Behind a number n that is not the last of its condition.
-fn another(word: Word, count: u32, a: u32, b: u32, c: u32, n: u32, byte: u8) -> Option<Next>
-    requires { count < 4 }
-    ensures { result ≡ states.another_state word count a b c n byte }
+// Behind a whole number that is not the last of its condition.
+fn another(word: Word, count: usize, front: [u32; 3], whole: u32, byte: u8) -> Option<Next>
+    requires { count < 3 }
+    ensures { result ≡ states.another_state word count front whole byte }
 {
     if byte != b' ' {
         return None;
     }
-    let (a, b, c) = match count {
-        0 => (n, b, c),
-        1 => (a, n, c),
-        _ => (a, b, n),
-    };
-    Some(Next::Goes(State::Counting(word, count + 1, a, b, c, None)))
+    let mut front = front;
+    front[count] = whole;
+    Some(Next::Goes(State::Counting {
+        word,
+        count: count + 1,
+        front,
+        number: None,
+    }))
 }
 
 // In the numbers of a condition.
 fn in_condition(
     word: Word,
-    count: u32,
-    a: u32,
-    b: u32,
-    c: u32,
+    count: usize,
+    front: [u32; 3],
     number: Option<u32>,
     byte: u8,
 ) -> Option<Next>
-    requires { states.StateMost (states.counting word count a b c number) }
-    ensures { result ≡ states.step_counting word count a b c number byte }
+    requires { states.StateMost (states.counting word count front number) }
+    ensures { result ≡ states.step_counting word count front number byte }
 {
     if let Some(value) = grow(number, byte, most_of(word, count)) {
-        return Some(Next::Goes(State::Counting(word, count, a, b, c, Some(value))));
+        return Some(Next::Goes(State::Counting {
+            word,
+            count,
+            front,
+            number: Some(value),
+        }));
     }
-    let n = number?;
+    let whole = number?;
     if count + 1 < arity(word) {
-        return another(word, count, a, b, c, n, byte);
+        return another(word, count, front, whole, byte);
     }
-    ending(condition(word, a, b, c, n), byte)
+    ending(condition(word, front, whole), byte)
 }
 
 // What a byte makes of a state; none where no line of the grammar has the byte there.
@@ -183,12 +194,18 @@ pub fn step(state: State, byte: u8) -> Option<Next>
     match state {
         State::Listing(number) => in_list(number, byte),
         State::Semicolon => letter(byte),
-        State::Lettered(word) if byte == b' ' => {
-            Some(Next::Goes(State::Counting(word, 0, 0, 0, 0, None)))
-        }
+        State::Lettered(word) if byte == b' ' => Some(Next::Goes(State::Counting {
+            word,
+            count: 0,
+            front: [0; 3],
+            number: None,
+        })),
         State::Lettered(_) => None,
-        State::Counting(word, count, a, b, c, number) => {
-            in_condition(word, count, a, b, c, number, byte)
-        }
+        State::Counting {
+            word,
+            count,
+            front,
+            number,
+        } => in_condition(word, count, front, number, byte),
     }
 }

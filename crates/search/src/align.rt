@@ -12,7 +12,7 @@ use volume::Posting;
 // `first` on; 65,536 where there is none. Their cursors move there and not past it, and their
 // positions there are set. Each document that the first of the order comes to is sought by the
 // others in turn; where one of them has passed it, the first seeks the document which that one
-// came to.
+// came to. No `Option`: 65,536 stands behind every document, so that those found compare as numbers.
 pub fn align(
     volume: &[u8],
     order: &[usize],

@@ -130,11 +130,10 @@ fn settle_all(
     requires walks { Walks volume.now plan.now table.now orders.now (ends_of cursors.old) }
     requires at_document { AtDocument volume.now document }
     requires docs_len { length docs.now ≡ (sizes plan.now).patterns }
-    requires plan_in_bounds { (sizes plan.now).vars ≤ length cursors.old }
-    requires plan_in_bounds_2 { (sizes plan.now).vars ≤ length positions.old }
+    requires plan_in_bounds { (sizes plan.now).vars ≤ length positions.old }
     requires by_index { (k : ℕ) → k < (sizes plan.now).patterns
         → Candidate volume.now plan.now (ats_of cursors.old) (ends_of cursors.old) positions.old k document.doc (get_or docs.now k 0) }
-    requires plan_in_bounds_3 { (sizes plan.now).vars ≤ length paras.old }
+    requires plan_in_bounds_2 { (sizes plan.now).vars ≤ length paras.old }
     ensures settled_all { SettledAll volume.now plan.now (ends_of cursors.old) docs.now document.doc
         (ats_of cursors.old) positions.old result (ats_of cursors.new) positions.new }
     ensures ends_unchanged { ends_of cursors.new ≡ ends_of cursors.old }

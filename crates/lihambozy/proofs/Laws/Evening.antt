@@ -40,7 +40,7 @@ use Rattle.fulltext.proofs.Laws.Same.{matching-same, patterns-same, rows_shift}
 use Rattle.fulltext.proofs.Laws.Docs.{docs-parts, docs-none, rows_append}
 use Rattle.fulltext.proofs.Laws.Counts.{work_add, count_append, postings-zero}
 use Rattle.search.specs.Search.{IsSearch, outcome}
-use Rattle.lihambozy.specs.declared.ListAnswer.{ListAnswer}
+use Rattle.lihambozy.specs.declared.answers.ListAnswer.{ListAnswer}
 use Rattle.lihambozy.specs.Flat.{flat_plan, flat_join}
 use Rattle.lihambozy.specs.Search.{structs}
 use Rattle.lihambozy.specs.Evening.{raised_row, raised_rows, rows_of_both, Evening}

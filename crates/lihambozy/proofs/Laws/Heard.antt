@@ -16,7 +16,7 @@ use Rattle.search.specs.Listing.{list_answer}
 use Rattle.search.proofs.Laws.Stages.{list-number}
 use Rattle.search.proofs.Laws.ListFirst.{list-sound}
 use Rattle.search.proofs.Laws.Calls.{more-later}
-use Rattle.lihambozy.specs.declared.ListAnswer.{ListAnswer}
+use Rattle.lihambozy.specs.declared.answers.ListAnswer.{ListAnswer}
 use Rattle.lihambozy.specs.Flat.{flat_listing}
 use Rattle.lihambozy.specs.Search.{heard}
 

@@ -1,12 +1,13 @@
 -- Two volumes that can be joined: a document parts their postings. No contract cites this file.
+--     past_doc, past_doc-lt, past_doc_has     the number behind the last document of some postings: above each, and right behind one
 --     Parted, cut, parted     the first's postings lie below the cut; the second's, raised, from it on and below the limit
 -- Assumes nothing.
 use Prim.Native.Nat.{ℕ, ◌+◌, ◌-◌, max, ◌≤◌, ◌<◌}
 use native.Mathlib.Omega.{arith}
-use mathlib.Core.Path.{◌≡◌, refl}
+use mathlib.Core.Path.{◌≡◌, refl, ap}
 use mathlib.Core.Bool.{false}
-use mathlib.Core.Logic.{⊎_elim}
-use mathlib.Core.List.{List}
+use mathlib.Core.Logic.{inl, inr, ⊎_elim}
+use mathlib.Core.List.{List, [], ◌∷◌}
 use Rattle.seq.specs.Lists.{joined}
 use Rattle.seq.proofs.Laws.Tests.{below_or}
 use Rattle.seq.proofs.Laws.Members.{Has, has-joined}
@@ -14,10 +15,30 @@ use Rattle.volume.specs.Posting.{doc_of}
 use Rattle.volume.specs.Layout.{lists_of}
 use Rattle.join.specs.Join.{docs_wrong}
 use Rattle.join.specs.Refusals.{HasDoc}
-use Rattle.join.specs.Inner.Docs.{past_doc}
-use Rattle.join.proofs.Laws.Docs.{past_doc-lt, past_doc_has, posting_doc, docs-passes, docs-above}
+use Rattle.join.proofs.Laws.Docs.{posting_doc, docs-passes, docs-above}
 use Rattle.fulltext.specs.Positions.{limit, list_of, count_in}
 use Rattle.fulltext.proofs.Laws.Counts.{count_none}
+
+-- the number behind the last document; 0 where there is no posting
+unfoldable pub past_doc : List ℕ → ℕ
+past_doc [] = 0
+past_doc (x ∷ xs) = max (doc_of x + 1) (past_doc xs)
+
+past_doc-lt : (x : ℕ) (xs : List ℕ) → Has x xs → doc_of x < past_doc xs
+unfolding past_doc
+past_doc-lt x [] h = absurd h
+past_doc-lt x (y ∷ ys) h =
+    ⊎_elim (λ (e : y ≡ x). let d = ap doc_of e in omega arith) (λ (k : Has x ys). let l = past_doc-lt x ys k in omega arith) h
+
+-- where there is a posting, one has the last document
+past_doc_has : (xs : List ℕ) → 0 < past_doc xs → (x : ℕ) × Has x xs × (doc_of x + 1 ≡ past_doc xs)
+unfolding past_doc
+past_doc_has [] h = absurd (omega arith)
+past_doc_has (x ∷ xs) h =
+    ⊎_elim
+    (λ (l : doc_of x + 1 < past_doc xs). let w = past_doc_has xs (omega arith) in (w.0, inr w.1, let e = w.2 in omega arith))
+    (λ (l : past_doc xs ≤ doc_of x + 1). (x, inl refl, omega arith))
+    (below_or (doc_of x + 1) (past_doc xs))
 
 -- document c parts the postings of some lists from those of others, raised by h
 pub record Parted (h : ℕ) (first second : List (List ℕ)) (c : ℕ) : Type 0 where

@@ -1,6 +1,6 @@
 -- A law for each way through the reader of a pattern in `src/figure.rt`, and what all readers need. No contract cites this file.
 --     from_goes, from-none, from_deep, from_end, stops_at     the reading of a text, by what its next byte does
---     stored_append, stored-length, stored_one      rows are stored one behind the other
+--     stored_append, stored-length, stored_one, stored_two     rows are stored one behind the other
 --     Within, within_first, within-goes, within_emits     in a pattern: the invariant of its reader, and a byte that goes on
 --     within-length, within-most                    the buffer keeps its length, and the state its limits
 --     within_end, within-closes, within-stuck       how the reading of a pattern ends

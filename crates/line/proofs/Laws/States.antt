@@ -9,7 +9,7 @@ use mathlib.Core.Path.{◌≡◌, refl, sym, ap, ◌∙◌}
 use mathlib.Core.Bool.{Bool, true, false, cond, ◌&&◌}
 use mathlib.Core.List.{List, [], ◌∷◌, ◌++◌, map, map-append, append_assoc, append-nil}
 use lib.Dec.{eqb, ltb}
-use lib.ListN.{length, get_or}
+use lib.ListN.{length}
 use borrow.Author.Tests.{le-leb, lt-leb, ltb-true, ltb-false}
 use Rattle.grammar.specs.declared.tokens.Word.{Word}
 use Rattle.grammar.specs.declared.tokens.Word.TheVariants as word
@@ -28,10 +28,10 @@ use Rattle.grammar.specs.Grammar.{Figure, arity, most_of}
 use Rattle.grammar.specs.Reading as reading
 use Rattle.grammar.specs.Reading.{is_digit, may_grow, grown, grows, step_in}
 use Rattle.line.specs.Inner.States.{grown_by, ending_state, step_state, state_of}
-use Rattle.line.specs.Inner.States.{condition_kind, another_state}
+use Rattle.line.specs.Inner.States.{condition_kind, another_state, three}
 use Rattle.grammar.proofs.Laws.Reading.{PartialFits}
 use Rattle.grammar.proofs.Laws.Query.{voice, condition, end}
-pub use Rattle.grammar.proofs.Laws.Limits.{few, most-small}
+use Rattle.grammar.proofs.Laws.Limits.{few}
 
 -- a byte that is no digit
 pub grow-no_digit : (most : ℕ) (x : Option ℕ) (b : ℕ) → is_digit b ≡ false → grown_by most x b ≡ None
@@ -121,7 +121,7 @@ condition-follow f w ns =
 
 -- the kind of a condition from its numbers
 kind-follow : (w : Word) (ns : List ℕ) (n : ℕ) → length ns + 1 ≡ arity w
-    → Condition (predicate_by w (reading.behind ns n)) ≡ condition_kind w (get_or ns 0 0) (get_or ns 1 0) (get_or ns 2 0) n
+    → Condition (predicate_by w (reading.behind ns n)) ≡ condition_kind w (three ns) n
 kind-follow word.Near (a ∷ b ∷ []) n e = refl
 kind-follow word.Near [] n e = absurd (let z : ⊥ = omega arith in z)
 kind-follow word.Near (a ∷ []) n e = absurd (let z : ⊥ = omega arith in z)
@@ -144,7 +144,7 @@ kind-follow word.Apart (a ∷ b ∷ c ∷ d ∷ ns) n e = absurd (let z : ⊥ = 
 another-follows : (f : Figure) (w : Word) (ns : List ℕ) (n b : ℕ) → length ns + 1 < arity w
     → Follows (reading.counting f w ns (Some n))
     (cond (eqb b 32) (reading.goes (reading.counting f w (reading.behind ns n) None)) reading.stuck)
-    (another_state w (length ns) (get_or ns 0 0) (get_or ns 1 0) (get_or ns 2 0) n b)
+    (another_state w (length ns) (three ns) n b)
 another-follows f w [] n b l =
     both_ways (Follows (reading.counting f w [] (Some n))) (eqb b 32) _ _ _ _ (λ t. record { state = refl; rows = refl }) (λ t. tt)
 another-follows f w (x ∷ []) n b l =

@@ -1,8 +1,7 @@
--- What `src/listing.rt` keeps turn by turn in its short loops. No contract cites this file.
---     least_first, least_lower, least-same     the least of the first documents
---     length-vars, var-there                   the variables of a plan, and the list of each
---     seek_on, counted                         seeking on; the postings that a seek passes
---     Turn, turn                               a variable's cursor, and the postings that it passes
+-- The postings passed, variable by variable. No contract cites this file.
+--     length-vars, var-there     the variables of a plan, and the list of each
+--     seek_on, counted           seeking on; the postings that a seek passes
+--     Turn, turn                 a variable's cursor, and the postings that it passes
 --     Tallied, tallied-first, tallied-next, tallied-done     the postings of the first variables
 -- Assumes nothing.
 use Prim.Native.Nat.{ℕ, suc, ◌+◌, ◌-◌, ◌*◌, ◌<◌, ◌≤◌}
@@ -25,33 +24,13 @@ use Rattle.plan.specs.Rows.{rows_of}
 use Rattle.plan.specs.Patterns.{Pattern, no_row, patterns_of, vars_of}
 use Rattle.plan.specs.Check.{Accepted, sizes}
 use Rattle.plan.proofs.Laws.Accepted.{given}
-use Rattle.fulltext.specs.Positions.{limit, list_of, count_in}
+use Rattle.fulltext.specs.Positions.{list_of, count_in}
 use Rattle.fulltext.specs.Documents.{postings_in}
 use Rattle.matcher.specs.Inner.Cursors.{seek_from, Stretch, list_end}
 use Rattle.matcher.specs.Inner.Tables.{var_at, Cursors}
-use Rattle.search.specs.Inner.Walk.{LeastDoc}
 use Rattle.matcher.proofs.Laws.Cursors.{seek_ge, seek-le, seek-below, stretch-within, galloped-end}
 use Rattle.fulltext.proofs.Laws.Counts.{count_index}
 use Rattle.matcher.proofs.Laws.Volume.{list-is, list-stretch}
-
--- the least of no documents; of one more, which is below the least, or is not
-module _ (docs : List ℕ) where
-  pub least_first : LeastDoc docs 0 limit
-  least_first = record { most = omega arith; least = λ k h. absurd (let z : ⊥ = omega arith in z); one = λ h. absurd (let z : ⊥ = omega arith in z) }
-
-  pub least_lower : (k r : ℕ) → LeastDoc docs k r → get_or docs k 0 < r → LeastDoc docs (k + 1) (get_or docs k 0)
-  least_lower k r l h = record {
-    most = let m = l.most in omega arith;
-    least = λ j b. ⊎_elim (λ (c : j < k). let m = l.least j c in omega arith) (λ (c : k ≤ j). let e : j ≡ k = omega arith in rw e (let z : get_or docs k 0 ≤ get_or docs k 0 = omega arith in z)) (below_or j k);
-    one = λ b. (k, (omega arith, refl));
-  }
-
-  pub least-same : (k r : ℕ) → LeastDoc docs k r → r ≤ get_or docs k 0 → LeastDoc docs (k + 1) r
-  least-same k r l h = record {
-    most = l.most;
-    least = λ j b. ⊎_elim (λ (c : j < k). l.least j c) (λ (c : k ≤ j). let e : j ≡ k = omega arith in rw e h) (below_or j k);
-    one = λ b. let o = l.one b in (o.0, (let m = o.1.0 in omega arith, o.1.1));
-  }
 
 length-vars : (p : List ℕ) → length (vars_of (rows_of p)) ≡ (sizes p).vars
 unfolding vars_of sizes

@@ -32,14 +32,13 @@ stretch : (c : In-loop-i) → Stretch c.args.volume.now (get_or (ats_of c.loop-i
 stretch c =
     leap-stretch _ _ _ _ _ _ _ _ c.requires.order c.requires.by_index _ _ _ _ c.loop-i.invariant.0 c.loop-i-test.true _ refl
 
-abbrev var-of' : After-enter-moved → ℕ
-var-of' c = c.args.first + get_or c.args.order.now c.loop-i.i 0
-
 -- where the cursor stands behind its leap
-arrived : (c : After-enter-moved)
-    → Arrived c.args.volume.now (c.loop-i.d * 65536) (get_or (ats_of c.loop-i.cursors) (var-of' c) 0)
-    (get_or (ends_of c.args.cursors.now) (var-of' c) 0) c.enter-moved.result
-arrived c = rw (ats-at c.loop-i.cursors (var-of' c), ← c.loop-i.invariant.1, ends-at c.loop-i.cursors (var-of' c)) c.enter-moved.ensures
+arrived : (c : After-enter-moved) → let x = c.args.first + get_or c.args.order.now c.loop-i.i 0 in
+    Arrived c.args.volume.now (c.loop-i.d * 65536) (get_or (ats_of c.loop-i.cursors) x 0)
+    (get_or (ends_of c.args.cursors.now) x 0) c.enter-moved.result
+arrived c =
+    let x = c.args.first + get_or c.args.order.now c.loop-i.i 0 in
+    rw (ats-at c.loop-i.cursors x, ← c.loop-i.invariant.1, ends-at c.loop-i.cursors x) c.enter-moved.ensures
 
 -- there is a cursor for each variable
 room : (c : In-loop-i) → c.args.first + c.args.n ≤ length (ats_of c.args.cursors.now)

@@ -101,7 +101,7 @@ write_pairs-near-requires c =
     let r = reach (goal.at.write_pairs-near-requires c).In-loop-outline in
     let w = r.word in
     let i = r.position in
-    let n = length-set l.out l.to (l.left % 2) in
+    let n = length-set {A = ℕ} in
     let e : (o.first + o.vars) - o.first ≡ o.vars = omega arith in
     let s = length_slice a.positions.now o.first ((o.first + o.vars) - o.first) (omega arith) in
     let bit = ap (λ (b : ℕ). b % 2) (sym l.invariant.0.left_is) ∙ c.if-flag-eq1.true in
@@ -122,7 +122,7 @@ pub slice_bounds-fill-end : goal.slice_bounds-fill-end
 slice_bounds-fill-end c =
     let l = c.loop-outline in
     let r = (reach (goal.at.slice_bounds-fill-end c).In-loop-outline).word in
-    let n = length-set l.out l.to (l.left % 2) in
+    let n = length-set {A = ℕ} in
     omega arith
 
 pub overflow_mul-to : goal.overflow_mul-to
@@ -140,7 +140,7 @@ loop-outline-preserved c =
     let i = c.requires.by_index l.outline-index t in
     let g = given (goal.at.loop-outline-preserved c).In-loop-outline in
     let r = (reach (goal.at.loop-outline-preserved c).In-loop-outline).word in
-    let n = length-set l.out l.to (l.left % 2) in
+    let n = length-set {A = ℕ} in
     elim c.if-flag-eq1.branch [
       | then-flag-eq1 b ↦ rw (b.out-is, b.near-is) (
         writing-next _ _ _ _ _ _ _ _ l.out l.to l.left l.outline-index w t i g _ o.vars refl

@@ -33,11 +33,11 @@ pub settle-requires : goal.settle-requires
 settle-requires c =
     let l = c.loop-k in
     let p = c.requires in
-    let r = p.plan_in_bounds_3 in
+    let r = p.plan_in_bounds_2 in
     let e = l.invariant.1.1 in record {
       ready = rw l.invariant.1.0
           (settling-ready _ _ _ _ _ _ _ (ats_of l.cursors) l.positions l.bits l.weight l.k l.invariant.0 (inside (goal.at.settle-requires c).In-loop-k) c.if-docs-k.true
-          _ _ p.walks c.args.document refl p.at_document (ats-room c.args.cursors.now _ p.walks.ends-room) p.plan_in_bounds_2);
+          _ _ p.walks c.args.document refl p.at_document (ats-room c.args.cursors.now _ p.walks.ends-room) p.plan_in_bounds);
       plan_in_bounds = omega arith;
     }
 
@@ -52,7 +52,7 @@ overflow_mul-weight c = let s = small (goal.at.overflow_mul-weight c).In-loop-k 
 pub loop-k-preserved : goal.loop-k-preserved
 loop-k-preserved c =
     let l = c.loop-k in
-    let room = c.requires.plan_in_bounds_2 in
+    let room = c.requires.plan_in_bounds in
     let i = inside (goal.at.loop-k-preserved c).In-loop-k in
     elim c.if-docs-k.branch [
       | then-docs-k+then-settle w ↦ rw (w.cursors-is, w.positions-is, w.paras-is, w.bits-is) (

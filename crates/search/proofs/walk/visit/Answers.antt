@@ -12,7 +12,7 @@ use Rattle.search.proofs.walk.visit.Goals.{After-next_docs, After-starts-1, Else
 
 -- it is a document
 inside : (c : Else-doc-eq-DOCS) → c.least_of-doc.result < 65536
-inside c = let l = c.least_of-doc.ensures.most in let n = c.if-doc-eq-DOCS.false in omega arith
+inside c = let l = c.least_of-doc.ensures.most in omega arith
 
 -- the walk's cursor on list 0 has not passed it
 document : (c : After-starts-1) → let walk = c.args.walk in
@@ -21,7 +21,7 @@ document c =
     let w = c.requires.walking in
     at-document _ _ _ _
     (seen-from _ _ _ _ _ c.requires.walks _ _ _ _ _ _ _ _ c.next_docs.ensures.brought c.least_of-doc.ensures w.docs-length)
-    (let l = c.least_of-doc.ensures.most in let n = c.if-doc-eq-DOCS.false in omega arith)
+    (let l = c.least_of-doc.ensures.most in omega arith)
     w.starts-at w.starts-end
 
 -- the patterns' documents are as many as the patterns
@@ -57,7 +57,7 @@ pub returns-then-doc-eq-DOCS : goal.returns-then-doc-eq-DOCS
 returns-then-doc-eq-DOCS c =
     record {
       visited = seen-out _ _ _ _ _ c.requires.walks _ _ _ _ _ _ _ _ c.next_docs.ensures.brought c.least_of-doc.ensures
-          c.requires.walking.docs-length _ c.if-doc-eq-DOCS.true;
+          c.requires.walking.docs-length _ (omega arith);
       document = tt;
       ends_unchanged = c.next_docs.ensures.ends_unchanged;
       paras_len_unchanged = refl;
@@ -71,10 +71,9 @@ settle_all-found-requires c =
       walks = rw c.next_docs.ensures.ends_unchanged c.requires.walks;
       at_document = document (goal.at.settle_all-found-requires c).After-starts-1;
       docs_len = size (goal.at.settle_all-found-requires c).After-next_docs;
-      plan_in_bounds = let a = room (goal.at.settle_all-found-requires c).After-next_docs in let l = length-ats c.next_docs.new.cursors in omega arith;
-      plan_in_bounds_2 = reach (goal.at.settle_all-found-requires c).After-next_docs;
+      plan_in_bounds = reach (goal.at.settle_all-found-requires c).After-next_docs;
       by_index = rw c.next_docs.ensures.ends_unchanged here;
-      plan_in_bounds_3 = c.requires.plan_in_bounds;
+      plan_in_bounds_2 = c.requires.plan_in_bounds;
     }
 
 pub returns : goal.returns
