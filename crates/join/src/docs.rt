@@ -3,10 +3,9 @@ ghost use Rattle.std.specs.Prelude.{◌≡◌, true, ◌+◌, ◌≤◌};
 ghost use Rattle.seq.specs.Lists.{joined, rises};
 ghost use Rattle.seq.specs.Numbers.{run};
 ghost use Rattle.volume.specs.Layout.{word, list_count, stream_length, lists_of};
-ghost use Rattle.volume.specs.Check.{Accepted};
 ghost use Rattle.join.specs.Inner.Docs.{wider, range_of, clash};
 
-use volume::{Posting, count_at, lead, posting_at};
+use volume::{Posting, Volume, count_at, lead, posting_at};
 
 // The lowest and the last document of some postings.
 #[derive(Clone, Copy)]
@@ -42,17 +41,16 @@ fn wider(a: Option<DocRange>, b: Option<DocRange>) -> Option<DocRange>
     }
 }
 
-// The documents of all lists of an accepted volume.
-pub fn doc_range(volume: &[u8], lists: usize) -> Option<DocRange>
-    requires accepted { Accepted volume.now }
-    requires lists_value { lists ≡ list_count volume.now }
-    ensures { result ≡ range_of (joined (lists_of volume.now)) }
+// The documents of all lists of a volume.
+pub fn doc_range(volume: &Volume<'_>, lists: usize) -> Option<DocRange>
+    requires lists_value { lists ≡ list_count volume.now.bytes.now }
+    ensures { result ≡ range_of (joined (lists_of volume.now.bytes.now)) }
 {
     let mut range = None;
     let mut start = lead(lists);
     for i in 0..lists {
-        let count = count_at(volume, i) as usize;
-        range = wider(range, list_docs(volume, start, count));
+        let count = count_at(volume.bytes, i) as usize;
+        range = wider(range, list_docs(volume.bytes, start, count));
         start += count;
     }
     range

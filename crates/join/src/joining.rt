@@ -1,19 +1,20 @@
 // Joining two volumes.
 ghost use Rattle.std.specs.Prelude.{◌≡◌, ◌*◌, ◌≤◌, length};
 ghost use Rattle.volume.specs.Layout.{list_count, posting_count, blocks_for};
-ghost use Rattle.volume.specs.Check.{Accepted};
 ghost use Rattle.volume.specs.Inner.Storing.{stored_first};
 ghost use Rattle.join.specs.Answers.{said_joined};
 ghost use Rattle.join.specs.Join.{join_rest, join_answer, join_out};
 ghost use Rattle.join.specs.Refusals.{extent_of_both};
-ghost use Rattle.join.specs.Inner.Reading.{joined_word};
+ghost use Rattle.join.specs.Inner.Reading.{joined_word, Lifts};
 ghost use Rattle.join.specs.Inner.Joining.{rest_out};
 
 use super::answers::JoinError;
 use super::docs::{doc_range, docs_clash};
 use super::reading::front;
 use super::sources::Sources;
-use volume::{BLOCK_BYTES, BLOCK_WORDS, MAX_WORDS, Posting, Sizes, check, extent_of, put_made};
+use volume::{
+    BLOCK_BYTES, BLOCK_WORDS, MAX_WORDS, Posting, Sizes, Volume, check, extent_of, put_made,
+};
 
 // What is added to a posting that is raised by so many documents; 0 where no posting can be.
 fn lift_of(raise: u32) -> u32
@@ -42,24 +43,24 @@ fn put_joined(sources: &Sources, n: usize, out: &mut [u8])
     }
 }
 
-// Joins two accepted volumes of as many lists.
+// Joins two volumes of as many lists. That the first holds bytes is not known of a slice in a
+// struct: a clause says what follows for its postings.
 fn join_checked(
-    first: &[u8],
-    second: &[u8],
+    first: &Volume<'_>,
+    second: &Volume<'_>,
     one: Sizes,
     two: Sizes,
     raise: u32,
     out: &mut [u8],
 ) -> Result<u32, JoinError>
-    requires accepted { Accepted first.now }
-    requires accepted_2 { Accepted second.now }
-    requires lists_value { one.lists ≡ list_count first.now }
-    requires lists_value_2 { one.lists ≡ list_count second.now }
-    requires postings_value { one.postings ≡ posting_count first.now }
-    requires more_value { two.postings ≡ posting_count second.now }
+    requires lists_value { one.lists ≡ list_count first.now.bytes.now }
+    requires lists_value_2 { one.lists ≡ list_count second.now.bytes.now }
+    requires postings_value { one.postings ≡ posting_count first.now.bytes.now }
+    requires more_value { two.postings ≡ posting_count second.now.bytes.now }
+    requires words { Lifts 0 first.now.bytes.now }
     ensures result_value { said_joined result
-        ≡ record { volume = 0; said = join_rest raise first.now second.now (length out.old) } }
-    ensures out_after { out.new ≡ rest_out raise first.now second.now out.old }
+        ≡ record { volume = 0; said = join_rest raise first.now.bytes.now second.now.bytes.now (length out.old) } }
+    ensures out_after { out.new ≡ rest_out raise first.now.bytes.now second.now.bytes.now out.old }
 {
     let lists = one.lists as usize;
     if docs_clash(doc_range(first, lists), doc_range(second, lists), raise) {
@@ -76,8 +77,8 @@ fn join_checked(
         return Err(JoinError::Short);
     }
     let sources = Sources {
-        first,
-        second,
+        first: first.bytes,
+        second: second.bytes,
         lists,
         lift: lift_of(raise),
         all: extent_of(lists, postings) + extent_of(lists, more),
@@ -97,5 +98,7 @@ pub fn join(first: &[u8], second: &[u8], raise: u32, out: &mut [u8]) -> Result<u
     if one.lists != two.lists {
         return Err(JoinError::ListCounts);
     }
-    join_checked(first, second, one, two, raise, out)
+    let first = Volume { bytes: first };
+    let second = Volume { bytes: second };
+    join_checked(&first, &second, one, two, raise, out)
 }

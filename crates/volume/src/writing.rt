@@ -16,12 +16,19 @@ use super::layout::{
 use super::order::rising;
 use block::{block_sums, put16, put32};
 
+// The lists that are given to the writer: how many postings each has, and the postings of all.
+#[derive(Clone, Copy)]
+struct Lists<'a> {
+    counts: &'a [u32],
+    postings: &'a [u32],
+    ghost few: { length counts.now ≤ 1024 },
+}
+
 // The sum of the counts.
-fn sum_of(counts: &[u32]) -> u64
-    requires { length counts.now ≤ 1024 }
-    ensures { result ≡ sum_to (at counts.now) (length counts.now) }
+fn sum_of(lists: &Lists<'_>) -> u64
+    ensures { result ≡ sum_to (at lists.now.counts.now) (length lists.now.counts.now) }
 {
-    counts.iter().map(|&count| u64::from(count)).sum()
+    lists.counts.iter().map(|&count| u64::from(count)).sum()
 }
 
 // The lowest given list that does not rise.
@@ -41,19 +48,18 @@ fn bad_given(counts: &[u32], postings: &[u32]) -> Option<usize>
 }
 
 // Stream word i.
-fn stream_word(counts: &[u32], postings: &[u32], i: usize) -> u32
-    requires { length counts.now ≤ 1024 }
-    ensures { result ≡ given counts.now postings.now i }
+fn stream_word(lists: &Lists<'_>, i: usize) -> u32
+    ensures { result ≡ given lists.now.counts.now lists.now.postings.now i }
 {
-    let front = lead(counts.len());
+    let front = lead(lists.counts.len());
     if i == 0 {
         1
     } else if i == 1 {
-        counts.len() as u32
+        lists.counts.len() as u32
     } else if i < front {
-        counts[i - entry(0)]
-    } else if i - front < postings.len() {
-        postings[i - front]
+        lists.counts[i - entry(0)]
+    } else if i - front < lists.postings.len() {
+        lists.postings[i - front]
     } else {
         0
     }
@@ -78,18 +84,18 @@ fn put_words<F: Fn(usize) -> u32>(word: F, out: &mut [u8])
 
 // Stores the stream words from `first` on as the words of a block. Where all of them are postings,
 // as in nearly every block, they are copied with no test for each.
-fn put_stream(counts: &[u32], postings: &[u32], first: usize, out: &mut [u8])
-    requires counts_len_bound { length counts.now ≤ 1024 }
+fn put_stream(lists: &Lists<'_>, first: usize, out: &mut [u8])
     requires first_bound { first ≤ 1032192 }
     requires out_len { length out.old ≡ 512 }
-    ensures { out.new ≡ filled (given counts.now postings.now) first out.old }
+    ensures { out.new ≡ filled (given lists.now.counts.now lists.now.postings.now) first out.old }
 {
-    let front = lead(counts.len());
+    let postings = lists.postings;
+    let front = lead(lists.counts.len());
     if front <= first && first - front + BLOCK_WORDS <= postings.len() {
         let from = first - front;
         put_words(|j| postings[from + j], out);
     } else {
-        put_words(|j| stream_word(counts, postings, first + j), out);
+        put_words(|j| stream_word(lists, first + j), out);
     }
 }
 
@@ -104,14 +110,13 @@ fn seal(out: &mut [u8])
 }
 
 // Stores block k.
-fn put_block(counts: &[u32], postings: &[u32], k: usize, out: &mut [u8])
-    requires counts_len_bound { length counts.now ≤ 1024 }
+fn put_block(lists: &Lists<'_>, k: usize, out: &mut [u8])
     requires k_bound { k < 8192 }
     requires out_len { length out.old ≡ 512 }
-    ensures { out.new ≡ sealed (block_body (given counts.now postings.now) k) }
+    ensures { out.new ≡ sealed (block_body (given lists.now.counts.now lists.now.postings.now) k) }
 {
     put32(out, 0, k as u32);
-    put_stream(counts, postings, BLOCK_WORDS * k, out);
+    put_stream(lists, BLOCK_WORDS * k, out);
     seal(out);
 }
 
@@ -128,34 +133,32 @@ pub fn put_made(words: &[u32], k: usize, out: &mut [u8])
 }
 
 // Stores the blocks from `from` to `to`.
-fn put_blocks(counts: &[u32], postings: &[u32], from: usize, to: usize, out: &mut [u8])
-    requires counts_len_bound { length counts.now ≤ 1024 }
+fn put_blocks(lists: &Lists<'_>, from: usize, to: usize, out: &mut [u8])
     requires from_le_to { from ≤ to }
     requires to_bound { to ≤ 8192 }
     requires to_in_bounds { 512 * to ≤ length out.old }
-    ensures { out.new ≡ stored (given counts.now postings.now) from to out.old }
+    ensures { out.new ≡ stored (given lists.now.counts.now lists.now.postings.now) from to out.old }
 {
     for k in from..to {
         let start = BLOCK_BYTES * k;
-        put_block(counts, postings, k, &mut out[start..start + BLOCK_BYTES]);
+        put_block(lists, k, &mut out[start..start + BLOCK_BYTES]);
     }
 }
 
 // Stores the first n blocks in three runs: those that hold counts, those of postings alone, and the
 // others. In the second run the postings read and the blocks stored are two plain ranges, so that
 // one test tells the compiled loop that they lie apart, and it copies several postings at a time.
-fn put_volume(counts: &[u32], postings: &[u32], n: usize, out: &mut [u8])
-    requires counts_len_bound { length counts.now ≤ 1024 }
+fn put_volume(lists: &Lists<'_>, n: usize, out: &mut [u8])
     requires n_bound { n ≤ 8192 }
     requires n_in_bounds { 512 * n ≤ length out.old }
-    ensures { out.new ≡ stored_first (given counts.now postings.now) n out.old }
+    ensures { out.new ≡ stored_first (given lists.now.counts.now lists.now.postings.now) n out.old }
 {
-    let front = lead(counts.len());
-    let full = ((front + postings.len()) / BLOCK_WORDS).min(n);
+    let front = lead(lists.counts.len());
+    let full = ((front + lists.postings.len()) / BLOCK_WORDS).min(n);
     let first = ((front + LAST_WORD) / BLOCK_WORDS).min(full);
-    put_blocks(counts, postings, 0, first, out);
-    put_blocks(counts, postings, first, full, out);
-    put_blocks(counts, postings, full, n, out);
+    put_blocks(lists, 0, first, out);
+    put_blocks(lists, first, full, out);
+    put_blocks(lists, full, n, out);
 }
 
 // Writes the volume of the counts and the postings to the front of the output, and answers the
@@ -164,17 +167,18 @@ pub fn write(counts: &[u32], postings: &[u32], out: &mut [u8]) -> Result<u32, Wr
     ensures result_value { said_written result ≡ write_answer counts.now postings.now (length out.old) }
     ensures out_after { out.new ≡ write_out counts.now postings.now out.old }
 {
-    let lists = counts.len();
-    if lists < 1 || lists > MAX_LISTS {
+    let count = counts.len();
+    if count < 1 || count > MAX_LISTS {
         return Err(WriteError::ListCount);
     }
-    if sum_of(counts) != postings.len() as u64 {
+    let lists = Lists { counts, postings };
+    if sum_of(&lists) != postings.len() as u64 {
         return Err(WriteError::CountSum);
     }
     if let Some(list) = bad_given(counts, postings) {
         return Err(WriteError::Order(list as u32));
     }
-    let words = extent_of(lists, postings.len());
+    let words = extent_of(count, postings.len());
     if words > MAX_WORDS {
         return Err(WriteError::TooLarge);
     }
@@ -183,6 +187,6 @@ pub fn write(counts: &[u32], postings: &[u32], out: &mut [u8]) -> Result<u32, Wr
     if out.len() < size {
         return Err(WriteError::Short);
     }
-    put_volume(counts, postings, n, out);
+    put_volume(&lists, n, out);
     Ok(n as u32)
 }

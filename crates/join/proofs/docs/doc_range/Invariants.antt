@@ -7,4 +7,4 @@ use Rattle.join.proofs.Laws.Docs.{first_postings}
 use Rattle.join.proofs.docs.doc_range.Given as goal
 
 abbrev pub invariant-loop-i : goal.invariant-loop-i
-invariant-loop-i l = (l.range ≡ range_of (first_postings l.volume l.i)) × (l.start ≡ start l.volume l.i)
+invariant-loop-i l = (l.range ≡ range_of (first_postings l.volume.bytes.now l.i)) × (l.start ≡ start l.volume.bytes.now l.i)

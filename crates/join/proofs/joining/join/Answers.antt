@@ -1,4 +1,5 @@
 -- `joining::join` meets its contract: the verdict on each volume first, then 24, then what `join_checked` answers. Assumes nothing.
+use native.Mathlib.Omega.{arith}
 use mathlib.Core.Path.{◌≡◌, refl, sym, ap, ◌∙◌}
 use Rattle.std.proofs.Common.{Result, Ok, Err}
 use Rattle.std.specs.Result.{MatchResult, IsErrAnd}
@@ -7,6 +8,7 @@ use Rattle.seq.specs.Refusals.{answered}
 use Rattle.volume.specs.Answers.{Sizes, said_checked}
 use Rattle.volume.specs.Check.{verdict}
 use Rattle.volume.proofs.Laws.Check.{accepted_by, sizes_are}
+use Rattle.volume.proofs.Laws.Stream.{word_lt}
 use Rattle.join.specs.Answers.{said_joined}
 use Rattle.join.proofs.Laws.Calls.{refuses-first, refuses-second, refuses-counts, goes_on}
 use Rattle.join.proofs.joining.join.Goals as goal
@@ -61,6 +63,12 @@ returns-then-one-two c =
     let w = refuses-counts _ _ _ _ (first_found one) (first-told one) (second-found two) (second-told two) c.if-one-two.true in
     record { result_value = w.0; out_after = w.1 }
 
+pub invariant_of-first : goal.invariant_of-first
+invariant_of-first c = record { accepted = accepted_by _ (first_found (goal.at.invariant_of-first c).In_ok-one) (sym (first-told (goal.at.invariant_of-first c).In_ok-one)) }
+
+pub invariant_of-second : goal.invariant_of-second
+invariant_of-second c = record { accepted = accepted_by _ (second-found (goal.at.invariant_of-second c).In_ok-two) (sym (second-told (goal.at.invariant_of-second c).In_ok-two)) }
+
 pub join_checked-requires : goal.join_checked-requires
 unfolding first_found second-found
 join_checked-requires c =
@@ -68,13 +76,13 @@ join_checked-requires c =
     let t = second-told (goal.at.join_checked-requires c).In_ok-two in
     let a = sizes_are _ _ (sym s) in
     let b = sizes_are _ _ (sym t) in
+    let bytes = c.type_inv.first in
     record {
-      accepted = accepted_by _ _ (sym s);
-      accepted_2 = accepted_by _ _ (sym t);
       lists_value = ap (λ (x : Sizes). x.lists) a;
       lists_value_2 = c.if-one-two.false ∙ ap (λ (x : Sizes). x.lists) b;
       postings_value = ap (λ (x : Sizes). x.postings) a;
       more_value = ap (λ (x : Sizes). x.postings) b;
+      words = record { each = λ i k l. omega (arith, word_lt c.args.first.now i (λ j. omega (arith, bytes j))) };
     }
 
 pub returns : goal.returns

@@ -8,7 +8,6 @@ use Rattle.std.specs.Int.{div_ceil}
 use Rattle.volume.specs.Layout.{list_count, posting_count, blocks_for}
 use Rattle.volume.specs.Check.{Accepted}
 use Rattle.volume.proofs.Laws.Check.{good}
-use Rattle.volume.proofs.Laws.Stream.{word_lt}
 use Rattle.join.specs.Refusals.{extent_of_both}
 use Rattle.join.specs.Inner.Docs.{clash}
 use Rattle.join.specs.declared.docs.DocRange.{DocRange}
@@ -17,7 +16,7 @@ use Rattle.join.proofs.joining.join_checked.Goals as goal
 use Rattle.join.proofs.joining.join_checked.Goals.{After-docs_clash, After-extent_of-words, Start}
 
 -- what is given: both volumes are accepted, of as many lists, and their sizes
-given : (c : Start) → let v = c.args.first.now in let w = c.args.second.now in
+given : (c : Start) → let v = c.args.first.now.bytes.now in let w = c.args.second.now.bytes.now in
     record {
       first : Accepted v;
       second : Accepted w;
@@ -31,15 +30,15 @@ given : (c : Start) → let v = c.args.first.now in let w = c.args.second.now in
     }
 given c =
     let p = c.requires in
-    let g = good c.args.first.now p.accepted in
+    let g = good c.args.first.now.bytes.now c.args.first.now.accepted in
     let f = g.fits in
     let m = g.blocks-most in
-    let h = good c.args.second.now p.accepted_2 in
+    let h = good c.args.second.now.bytes.now c.args.second.now.accepted in
     let k = h.fits in
     let n = h.blocks-most in
     record {
-      first = p.accepted;
-      second = p.accepted_2;
+      first = c.args.first.now.accepted;
+      second = c.args.second.now.accepted;
       same = sym p.lists_value_2 ∙ p.lists_value;
       lists = p.lists_value;
       postings = p.postings_value;
@@ -51,7 +50,7 @@ given c =
 
 -- what the test of 25 finds
 clash-is : (c : After-docs_clash)
-    → c.docs_clash.result ≡ found c.args.raise c.args.first.now c.args.second.now c.args.out.now
+    → c.docs_clash.result ≡ found c.args.raise c.args.first.now.bytes.now c.args.second.now.bytes.now c.args.out.now
 clash-is c = c.docs_clash.ensures ∙ ap₂ (λ (a b : Option DocRange). clash c.args.raise a b) c.doc_range.ensures c.doc_range-2.ensures
 
 -- the number of blocks, as `div_ceil` gives it
@@ -59,7 +58,7 @@ blocks_are : (n e : ℕ) → n ≡ div_ceil e 126 → n ≡ blocks_for e
 blocks_are n e h = omega arith
 
 -- the number of stream words
-words_are : (c : After-extent_of-words) → c.extent_of-words.result ≡ extent_of_both c.args.first.now c.args.second.now
+words_are : (c : After-extent_of-words) → c.extent_of-words.result ≡ extent_of_both c.args.first.now.bytes.now c.args.second.now.bytes.now
 words_are c = let e = c.extent_of-words.ensures in omega arith
 
 pub returns-then-docs_clash : goal.returns-then-docs_clash
@@ -100,12 +99,11 @@ invariant_of-sources c =
     let y = c.extent_of-2.ensures in
     let z = g.same in
     let fits = rw e at c.if-words-gt-MAX_WORDS.false in
-    let bytes = c.type_inv.first in
     let clear = sym (clash-is (goal.at.invariant_of-sources c).After-docs_clash) ∙ c.if-docs_clash.false in
     record {
       joinable = can-join _ _ _ c.args.out.now g.first g.second g.same clear fits;
       lists_are = g.lists;
-      words = record { each = λ i k l. omega (arith, word_lt c.args.first.now i (λ j. omega (arith, bytes j))) };
+      words = c.requires.words;
       lifts = can_lift _ _ _ c.args.out.now g.first g.second g.same clear fits _ c.lift_of.ensures;
       all_is = omega arith;
     }

@@ -8,7 +8,6 @@ loop-k-init c = laying-first _ _ _ _ (omega arith) (omega arith)
 
 pub put_block-requires : goal.put_block-requires
 put_block-requires c = record {
-  counts_len_bound = omega arith;
   k_bound = omega arith;
   out_len = simp (length-take, length-drop) (omega arith);
 }

@@ -6,4 +6,4 @@ use Rattle.volume.proofs.Laws.Storing.{Laying}
 use Rattle.volume.proofs.writing.put_blocks.Given as goal
 
 abbrev pub invariant-loop-k : goal.invariant-loop-k
-invariant-loop-k l = Laying (at (stream_of l.counts l.postings)) l.from l.to l.initial.out l.out l.k
+invariant-loop-k l = Laying (at (stream_of l.lists.counts.now l.lists.postings.now)) l.from l.to l.initial.out l.out l.k

@@ -11,5 +11,5 @@ pub returns-then-first-front : goal.returns-then-first-front
 returns-then-first-front c =
     let a = c.args in
     let front = c.lead-front.result in
-    let stored = c.put_words.ensures (at a.postings.now) (a.first - front) (λ j x h e. search rules) in
-    rw (← word_bytes-postings a.counts.now a.postings.now a.first (a.first - front) 126 (omega arith)) stored
+    let stored = c.put_words.ensures (at a.lists.now.postings.now) (a.first - front) (λ j x h e. search rules) in
+    rw (← word_bytes-postings a.lists.now.counts.now a.lists.now.postings.now a.first (a.first - front) 126 (omega arith)) stored

@@ -15,14 +15,14 @@ returns-then-i-eq1 c = rw c.if-i-eq1.true
 pub returns-then-i-front : goal.returns-then-i-front
 returns-then-i-front c =
     let a = c.args in
-    rw c.entry.ensures (sym (stream-count a.counts.now a.postings.now a.i (omega arith) (omega arith)))
+    rw c.entry.ensures (sym (stream-count a.lists.now.counts.now a.lists.now.postings.now a.i (omega arith) (omega arith)))
 
 pub returns-then-i-front-2 : goal.returns-then-i-front-2
 returns-then-i-front-2 c =
     let a = c.args in
-    sym (stream_posting a.counts.now a.postings.now a.i _ (omega arith))
+    sym (stream_posting a.lists.now.counts.now a.lists.now.postings.now a.i _ (omega arith))
 
 pub returns-else-i-front-2 : goal.returns-else-i-front-2
 returns-else-i-front-2 c =
     let a = c.args in
-    sym (stream-zero a.counts.now a.postings.now a.i (a.i - c.lead-front.result) (omega arith) (omega arith))
+    sym (stream-zero a.lists.now.counts.now a.lists.now.postings.now a.i (a.i - c.lead-front.result) (omega arith) (omega arith))

@@ -19,6 +19,6 @@ same_sum xs = same_fold 0 xs ∙ zero-add _
 
 pub returns : goal.returns
 returns c =
-    let counts = c.args.counts.now in
+    let counts = c.args.lists.now.counts.now in
     let all : c.sum.result ≡ sum counts = search rules in
     all ∙ same_sum counts ∙ sym (sum-total counts)

@@ -28,13 +28,13 @@ ordered c = record {
   order = no_index _ _ c.in_default.ensures;
 }
 
-pub returns-then-lists-lt1 : goal.returns-then-lists-lt1
-returns-then-lists-lt1 c =
-    let w = refuses-counts _ _ _ (⊎_elim (λ h. inl h) (λ h. inr h.1) c.then-lists-lt1.either) in
+pub returns-then-count-lt1 : goal.returns-then-count-lt1
+returns-then-count-lt1 c =
+    let w = refuses-counts _ _ _ (⊎_elim (λ h. inl h) (λ h. inr h.1) c.then-count-lt1.either) in
     record { result_value = w.0; out_after = w.1 }
 
-pub sum_of-requires : goal.sum_of-requires
-sum_of-requires c = omega (arith, ltb-false)
+pub invariant_of-lists : goal.invariant_of-lists
+invariant_of-lists c = record { few = omega (arith, ltb-false) }
 
 pub returns-then-sum_of-postings : goal.returns-then-sum_of-postings
 returns-then-sum_of-postings c =
@@ -62,7 +62,7 @@ returns-then-out-size c =
     record { result_value = w.0; out_after = w.1 }
 
 pub put_volume-requires : goal.put_volume-requires
-put_volume-requires c = record { counts_len_bound = omega (arith, ltb-false); n_bound = omega (arith, ltb-false); n_in_bounds = omega (arith, ltb-false) }
+put_volume-requires c = record { n_bound = omega (arith, ltb-false); n_in_bounds = omega (arith, ltb-false) }
 
 pub returns : goal.returns
 returns c =
