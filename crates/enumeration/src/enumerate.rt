@@ -43,14 +43,13 @@ fn set_cursors(query: &Query, outline: Outline, doc: u32, cursors: &mut [Cursor]
 }
 
 // The bounds behind a match: its positions, and one on at its last variable.
-fn step_past(positions: &[u32], n: usize, lows: &mut [u32])
+fn step_past(positions: &[u32; MOST_PATTERN_VARS], n: usize, lows: &mut [u32; MOST_PATTERN_VARS])
     requires le_n { 1 ≤ n }
     requires n_in_bounds { n ≤ length positions.now }
-    requires n_in_bounds_2 { n ≤ length lows.old }
     requires by_index { (x : ℕ) → x < n → get_or positions.now x 0 ≤ 65535 }
     ensures { Stepped positions.now n lows.old lows.new }
 {
-    lows[..n].copy_from_slice(&positions[..n]);
+    *lows = *positions;
     lows[n - 1] += 1;
 }
 

@@ -153,7 +153,22 @@ impl Cursor {
         }
     }
 
-    // The same, for a document that is near, and the posting there.
+    // Past position `pos` of document `doc`: to the first posting from here on behind it; to the end
+    // where there is none.
+    pub fn advance_past(self, volume: &[u8], doc: u32, pos: u32) -> Cursor
+        requires { Stretch volume.now self.at self.end }
+        ensures value { result ≡ sought volume.now (doc * 65536 + pos + 1) self }
+        ensures forward { Forward self result }
+    {
+        let moved = self.advance(volume, bound_of(doc, pos) + 1);
+        Cursor {
+            at: moved.at,
+            ..self
+        }
+    }
+
+    // To the first posting from here on in document `doc`, which is near, or a later one, and the
+    // posting there.
     #[inline(always)]
     pub fn enter(self, volume: &[u8], doc: u32) -> Reached
         requires { Stretch volume.now self.at self.end }

@@ -90,9 +90,11 @@ pub fn match_from(
 {
     let volume = query.volume.bytes;
     let plan = query.plan;
+    // The fields one by one: a copy of the whole document is read back slower than it is written.
+    let Document { doc, starts } = document;
     let opened = OpenDocument {
         volume: query.volume,
-        document,
+        document: Document { doc, starts },
     };
     let n = outline.vars;
     let count = outline.last - outline.condition;
@@ -112,7 +114,7 @@ pub fn match_from(
                 if x < held {
                     return false;
                 }
-                if !jump(volume, document.doc, x, short.need, cursors, positions) {
+                if !jump(volume, doc, x, short.need, cursors, positions) {
                     return false;
                 }
                 largest = largest.max(positions[x]);

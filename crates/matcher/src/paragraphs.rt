@@ -68,7 +68,7 @@ fn past_start(opened: &OpenDocument<'_>, pos: u32, mark: usize, other: usize) ->
     let first = Cursor { at, end };
     let from = resume(volume, first, bound, other);
     let cursor = Cursor { at: from, end };
-    let next = cursor.advance(volume, bound);
+    let next = cursor.advance_past(volume, document.doc, pos);
     next.at
 }
 

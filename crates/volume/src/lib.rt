@@ -4,9 +4,9 @@
 //
 // None of the four has a `requires`. What each one answers, and what it leaves in a lent buffer, is
 // an equation with a definition of `specs/`. `word_at`, `word_behind`, `word_in_block`,
-// `posting_at`, `below_in_window`, `below_across`, `count_at`, `list_span` and `list_starts` serve
-// the crates above, on a volume that they have checked, and `Volume` is the bytes of one; `entry`,
-// `lead` and `extent_of` say where its parts stand. `put_made` stores a block of a volume whose words
+// `posting_at`, `below_in_window`, `below_across` and `count_at` serve the crates above, on a volume
+// that they have checked. `Volume` is the bytes of one, and says where its lists lie; `entry`, `lead`
+// and `extent_of` say where the other parts stand. `put_made` stores a block of a volume whose words
 // are made on the way.
 #![tactic(auto)]
 
@@ -30,7 +30,7 @@ pub use layout::{
     BLOCK_BYTES, BLOCK_WORDS, LAST_WORD, ListSpan, MAX_LISTS, MAX_WORDS, entry, extent_of, lead,
 };
 pub use posting::Posting;
-pub use reading::{list_span, list_starts, read_list};
+pub use reading::read_list;
 pub use stream::{
     below_across, below_in_window, count_at, posting_at, word_at, word_behind, word_in_block,
 };

@@ -264,6 +264,16 @@ struct Function {
     head: String,
 }
 
+/// The type of a line that begins its methods, without its parameters.
+fn type_of(line: &str) -> Option<&str> {
+    let rest = line.strip_prefix("impl")?.strip_suffix(" {")?;
+    let named = match rest.strip_prefix('<') {
+        Some(rest) => rest.split_once("> ")?.1,
+        None => rest.strip_prefix(' ')?,
+    };
+    named.split('<').next()
+}
+
 fn functions(of: &str) -> Vec<Function> {
     let mut functions = Vec::new();
     let folder = format!("crates/{of}/src");
@@ -273,8 +283,8 @@ fn functions(of: &str) -> Vec<Function> {
         let lines: Vec<&str> = text.lines().collect();
         let mut methods_of = None;
         for (i, line) in lines.iter().enumerate() {
-            match line.strip_prefix("impl ") {
-                Some(rest) => methods_of = rest.strip_suffix(" {"),
+            match type_of(line) {
+                Some(name) => methods_of = Some(name),
                 None if *line == "}" => methods_of = None,
                 None => {}
             }

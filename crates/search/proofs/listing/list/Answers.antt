@@ -23,14 +23,6 @@ returns-then-out-row_words c =
     let r = c.row_words.ensures in
     rw (← e.volume, ← e.plan) (short-kept _ _ _ c.args.out.now _ q.accepted c.if-start-gt-LAST_DOC.false (omega arith))
 
-pub list_from-requires : goal.list_from-requires
-list_from-requires c =
-    let r = c.row_words.ensures in
-    record {
-      start_bound = let h = c.if-start-gt-LAST_DOC.false in omega arith;
-      vars_in_bounds = omega arith;
-    }
-
 pub returns-in_err-query : goal.returns-in_err-query
 returns-in_err-query c =
     let p = err_from_is_err_and c.from_residual.result c.from_residual.ensures.1 in

@@ -143,17 +143,6 @@ visit-requires c =
       plan_in_bounds = omega arith;
     }
 
-pub tally-tally-requires : goal.tally-tally-requires
-tally-tally-requires c =
-    let p = c.requires in
-    let d = p.start_bound in
-    record {
-      firsts_len = p.firsts_len;
-      start_le_doc = omega arith;
-      doc_bound = omega arith;
-      cursors = p.firsts;
-    }
-
 pub overflow_cast-result : goal.overflow_cast-result
 overflow_cast-result c = let n = visit-rows _ _ _ _ _ _ _ (ended (goal.at.overflow_cast-result c).In_default) in omega arith
 
@@ -204,16 +193,6 @@ loop-seen-preserved-then-not-answer_of c =
         (ends_same (goal.at.loop-seen-preserved-then-not-answer_of c).After-visit, (known-size (goal.at.loop-seen-preserved-then-not-answer_of c).After-answer_of, (remembers (goal.at.loop-seen-preserved-then-not-answer_of c).After-answer_of, (positions-size (goal.at.loop-seen-preserved-then-not-answer_of c).After-visit, (paras-size (goal.at.loop-seen-preserved-then-not-answer_of c).After-visit, within))))),
       ),
     )
-
-pub tally-tally-requires-then-rows-room : goal.tally-tally-requires-then-rows-room
-tally-tally-requires-then-rows-room c =
-    let p = c.requires in
-    record {
-      firsts_len = p.firsts_len;
-      start_le_doc = (reached (goal.at.tally-tally-requires-then-rows-room c).In-Some).from;
-      doc_bound = c.in-Some.ensures.visited.most;
-      cursors = p.firsts;
-    }
 
 pub overflow_cast-result-then-rows-room : goal.overflow_cast-result-then-rows-room
 overflow_cast-result-then-rows-room c = let n = visit-rows _ _ _ _ _ _ _ (reached (goal.at.overflow_cast-result-then-rows-room c).In-Some) in omega arith

@@ -7,6 +7,7 @@ use lib.Seq.{length-take-le}
 use Rattle.plan.specs.Limits.{most_patterns, most_vars}
 use Rattle.plan.specs.Check.{sizes}
 use Rattle.plan.specs.declared.answers.Sizes.{Sizes}
+use Rattle.plan.specs.Inner.Outline.{Tabled}
 use Rattle.plan.proofs.Laws.Accepted.{given}
 use Rattle.matcher.proofs.Laws.Cursors.{length-ends}
 use Rattle.search.proofs.Laws.Orders.{ordered}
@@ -40,15 +41,14 @@ table-length c =
     let m = (given _ _ q.accepted).most-patterns in
     length-take-le q.sizes.patterns _ (let t = table-size c in omega arith) ∙ e
 
-pub lay_out-requires : goal.lay_out-requires
-lay_out-requires c =
-    let q = c.args.query.now in
-    let m = (few (goal.at.lay_out-requires c).Start).0 in
-    record {
-      by_index = (q.volume.bytes.now, q.accepted);
-      patterns_value = ap (λ (s : Sizes). s.patterns) q.sizes_are;
-      patterns_in_bounds = omega arith;
-    }
+-- they are the plan's
+tabled : (c : After-lay_out) → let q = c.args.query.now in Tabled q.plan.now (take q.sizes.patterns c.lay_out.new.table)
+tabled c = tabled-part _ _ _ (ap (λ (s : Sizes). s.patterns) c.args.query.now.sizes_are) c.lay_out.ensures
+
+pub lay_out-requires-clause-patterns_in_bounds : goal.lay_out-requires-clause-patterns_in_bounds
+lay_out-requires-clause-patterns_in_bounds c =
+    let m = (few (goal.at.lay_out-requires-clause-patterns_in_bounds c).Start).0 in
+    omega arith
 
 pub slice_bounds-table-end : goal.slice_bounds-table-end
 slice_bounds-table-end c =
@@ -56,24 +56,17 @@ slice_bounds-table-end c =
     let t = table-size (goal.at.slice_bounds-table-end c).After-lay_out in
     sym (length-take-le c.args.query.now.sizes.patterns _ (omega arith))
 
-pub set_cursors-requires : goal.set_cursors-requires
-set_cursors-requires c =
-    let p = c.requires in
-    record {
-      tabled = tabled-part _ _ _ (ap (λ (s : Sizes). s.patterns) c.args.query.now.sizes_are) c.lay_out.ensures;
-      table_len = table-length (goal.at.set_cursors-requires c).After-lay_out;
-      start_bound = p.start_bound;
-      most_vars_in_bounds = omega arith;
-    }
+pub set_cursors-requires-clause-tabled : goal.set_cursors-requires-clause-tabled
+set_cursors-requires-clause-tabled c = tabled (goal.at.set_cursors-requires-clause-tabled c).After-lay_out
 
-pub set_orders-requires : goal.set_orders-requires
-set_orders-requires c =
-    let p = c.requires in
-    record {
-      tabled = tabled-part _ _ _ (ap (λ (s : Sizes). s.patterns) c.args.query.now.sizes_are) c.lay_out.ensures;
-      table_len = table-length (goal.at.set_orders-requires c).After-lay_out;
-      most_vars_in_bounds = omega arith;
-    }
+pub set_cursors-requires-clause-table_len : goal.set_cursors-requires-clause-table_len
+set_cursors-requires-clause-table_len c = table-length (goal.at.set_cursors-requires-clause-table_len c).After-lay_out
+
+pub set_orders-requires-clause-tabled : goal.set_orders-requires-clause-tabled
+set_orders-requires-clause-tabled c = tabled (goal.at.set_orders-requires-clause-tabled c).After-lay_out
+
+pub set_orders-requires-clause-table_len : goal.set_orders-requires-clause-table_len
+set_orders-requires-clause-table_len c = table-length (goal.at.set_orders-requires-clause-table_len c).After-lay_out
 
 pub slice_bounds-firsts-end : goal.slice_bounds-firsts-end
 slice_bounds-firsts-end c =
@@ -108,12 +101,12 @@ list_docs-requires c =
     let many = (few (goal.at.list_docs-requires c).Start).1 in
     let r = firsts-size (goal.at.list_docs-requires c).After-set_cursors in
     let firsts = take q.sizes.vars c.set_cursors.new.cursors in
-    let n : length firsts ≡ q.sizes.vars = length-take-le c.args.query.now.sizes.vars _ (omega arith) in
+    let n : length firsts ≡ q.sizes.vars = length-take-le q.sizes.vars _ (omega arith) in
     let e = length-ends firsts in
     record {
       walks = record {
         accepted = q.accepted;
-        tabled = tabled-part _ _ _ (ap (λ (s : Sizes). s.patterns) c.args.query.now.sizes_are) c.lay_out.ensures;
+        tabled = tabled (goal.at.list_docs-requires c).After-lay_out;
         table-length = table-length (goal.at.list_docs-requires c).After-lay_out;
         ends-room = omega arith;
         ordered = ordered _ _ _ c.set_orders.ensures.rarest_each;

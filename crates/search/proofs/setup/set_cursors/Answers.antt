@@ -49,18 +49,11 @@ few-used c =
     let q = c.args.query.now in
     (used-within _ _ q.accepted c.lists_used-used.result c.lists_used-used.ensures, (good _ q.volume.accepted).lists-most)
 
-pub lists_used-used-requires : goal.lists_used-used-requires
-lists_used-used-requires c =
-    record {
-      tabled = c.requires.tabled;
-      table_len = c.requires.table_len;
-    }
-
 pub list_starts-requires : goal.list_starts-requires
 list_starts-requires c =
     let few = few-used (goal.at.list_starts-requires c).After-lists_used-used in
     record {
-      n_bound = few.0;
+      n_bound = omega arith;
       n_in_bounds = omega arith;
     }
 
@@ -102,9 +95,6 @@ read c =
     (voice-at c.args.query.now.volume.bytes.now c.args.query.now.plan.now c.args.query.now.accepted c.args.table.now c.requires.tabled c.loop-outline.outline-index c.loop-i.i
     (omega arith) c.loop-i-test.true)
     c.list_at-list.result c.list_at-list.ensures
-
-pub slice_bounds-cursor_on-end : goal.slice_bounds-cursor_on-end
-slice_bounds-cursor_on-end c = sym c.list_starts.ensures.starts_len_unchanged
 
 pub cursor_on-requires : goal.cursor_on-requires
 cursor_on-requires c =

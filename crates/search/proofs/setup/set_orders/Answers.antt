@@ -43,16 +43,11 @@ slice_bounds-rarest_first-start c = let r = room (goal.at.slice_bounds-rarest_fi
 pub slice_bounds-rarest_first-end : goal.slice_bounds-rarest_first-end
 slice_bounds-rarest_first-end c = let r = room (goal.at.slice_bounds-rarest_first-end c).In-loop-outline in omega arith
 
-pub rarest_first-requires : goal.rarest_first-requires
-rarest_first-requires c =
-    let o = outline (goal.at.rarest_first-requires c).In-loop-outline in
-    let r = room (goal.at.rarest_first-requires c).In-loop-outline in
+pub rarest_first-requires-clause-vars_in_bounds : goal.rarest_first-requires-clause-vars_in_bounds
+rarest_first-requires-clause-vars_in_bounds c =
+    let r = room (goal.at.rarest_first-requires-clause-vars_in_bounds c).In-loop-outline in
     let l = lent_length (outline_at c.args.table.now c.loop-outline.outline-index).first c.loop-outline.orders in
-    record {
-      pattern_bound = o.there;
-      outlines = o.entry.outlines;
-      vars_in_bounds = omega arith;
-    }
+    omega arith
 
 pub loop-outline-preserved : goal.loop-outline-preserved
 loop-outline-preserved c =
@@ -62,9 +57,6 @@ loop-outline-preserved c =
     let sorted = c.rarest_first in
     ranking-next _ _ _ l.orders l.outline-index (outline_at c.args.table.now c.loop-outline.outline-index).first sorted.new.order l.invariant (omega arith)
     o.first-is (omega arith) sorted.ensures.order_len_unchanged (rw o.pattern-is at sorted.ensures.rarest_first)
-
-pub shape_of-orders : goal.shape_of-orders
-shape_of-orders c = c.loop-outline.invariant.same_length
 
 pub returns : goal.returns
 returns c =
