@@ -16,7 +16,8 @@ use volume::{
     BLOCK_BYTES, BLOCK_WORDS, MAX_WORDS, Posting, Sizes, Volume, check, extent_of, put_made,
 };
 
-// What is added to a posting that is raised by so many documents; 0 where no posting can be.
+// What is added to a posting that is raised by so many documents; 0 where no posting can be. No
+// `Option`: a second volume without postings is joined with any number, and nothing is added.
 fn lift_of(raise: u32) -> u32
     ensures { raise ≤ 65535 → result ≡ 65536 * raise }
 {

@@ -24,7 +24,8 @@ pub fn is_end(kind: Kind) -> bool
 }
 
 // The first row from row `from` on that `test` holds of; where there is none, the number of rows, or
-// `from` if that is larger.
+// `from` if that is larger. No `Option`: the definition `first_of`, on which `Demands.Parts` rests,
+// gives this number.
 pub fn first_of<F: Fn(Kind) -> bool>(plan: &[u32], from: usize, test: F) -> usize
     requires by_index { (v : List ℕ) × Accepted v plan.now }
     requires test_callable { F.IsAlwaysCallable test }

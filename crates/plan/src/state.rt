@@ -18,7 +18,8 @@ const MOST_PATTERNS: u32 = limits::MOST_PATTERNS as u32;
 // The state in front of a row.
 #[derive(Clone, Copy, Debug, PartialEq, Eq)]
 pub struct State {
-    // The variables of the open pattern; 0 where none is open.
+    // The variables of the open pattern; 0 where none is open. No `Option`: an open pattern has one at
+    // least, and the tests compare it with limits.
     pub vars: u32,
     // Whether its conditions have begun.
     pub begun: bool,
