@@ -10,6 +10,14 @@ use super::layout::{BLOCK_BYTES, BLOCK_WORDS, LAST_WORD, SUM_A, SUM_B};
 use super::order::{fall_at, falls_in};
 use block::{block_sums, read16, read32};
 
+// Bytes that are whole blocks, and no more of them than a volume has.
+#[derive(Clone, Copy)]
+pub struct Blocks<'a> {
+    pub bytes: &'a [u8],
+    ghost whole: { Whole bytes.now },
+    ghost few: { blocks bytes.now ≤ 8192 },
+}
+
 // Whether the number of block k is wrong.
 fn number_wrong(volume: &[u8], k: usize) -> bool
     requires { k < blocks volume.now }
@@ -46,16 +54,15 @@ fn check_block(volume: &[u8], k: usize) -> Result<(), Refusal>
 
 // One pass over the blocks: the falls of the stream, or why the lowest block that is wrong is
 // refused.
-pub fn check_blocks(volume: &[u8]) -> Result<usize, Refusal>
-    requires whole { Whole volume.now }
-    requires volume_bound { blocks volume.now ≤ 8192 }
-    ensures { result ≡ blocks_answer volume.now }
+pub fn check_blocks(whole: &Blocks<'_>) -> Result<usize, Refusal>
+    ensures { result ≡ blocks_answer whole.now.bytes.now }
 {
+    let volume = whole.bytes;
     let mut falls: usize = 0;
     for k in 0..volume.len() / BLOCK_BYTES {
         check_block(volume, k)?;
         falls += falls_in(volume, k) as usize;
-        falls += fall_at(volume, BLOCK_WORDS * k + LAST_WORD) as usize;
+        falls += fall_at(whole, BLOCK_WORDS * k + LAST_WORD) as usize;
     }
     Ok(falls)
 }

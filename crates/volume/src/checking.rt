@@ -1,13 +1,12 @@
 // Checking a volume.
 ghost use Rattle.std.specs.Prelude.{◌≡◌, ◌≤◌};
 ghost use Rattle.volume.specs.Layout.{blocks, stream_length};
-ghost use Rattle.volume.specs.Inner.Places.{Whole};
 ghost use Rattle.volume.specs.Answers.{said_checked};
 ghost use Rattle.volume.specs.Check.{length_wrong, stream_verdict, verdict};
 ghost use Rattle.volume.specs.Inner.Falls.{falls_before};
 
 use super::answers::{Refusal, Sizes};
-use super::blocks::check_blocks;
+use super::blocks::{Blocks, check_blocks};
 use super::layout::{BLOCK_BYTES, BLOCK_WORDS, LAST_WORD, MAX_BLOCKS, MAX_LISTS, extent_of, lead};
 use super::order::bad_list;
 use super::stream::{bad_word, count_sum, word_at};
@@ -21,13 +20,12 @@ fn length_wrong(volume: &[u8]) -> bool
 }
 
 // The stream of a volume whose blocks are in order, given its falls.
-fn check_stream(volume: &[u8], all: usize) -> Result<Sizes, Refusal>
-    requires whole { Whole volume.now }
-    requires bound { 1 ≤ blocks volume.now }
-    requires volume_bound { blocks volume.now ≤ 8192 }
-    requires all_value { all ≡ falls_before volume.now (stream_length volume.now) }
-    ensures { said_checked result ≡ stream_verdict volume.now }
+fn check_stream(whole: &Blocks<'_>, all: usize) -> Result<Sizes, Refusal>
+    requires bound { 1 ≤ blocks whole.now.bytes.now }
+    requires all_value { all ≡ falls_before whole.now.bytes.now (stream_length whole.now.bytes.now) }
+    ensures { said_checked result ≡ stream_verdict whole.now.bytes.now }
 {
+    let volume = whole.bytes;
     let end = BLOCK_WORDS * (volume.len() / BLOCK_BYTES);
     if word_at(volume, 0) != 1 {
         return Err(Refusal::Version);
@@ -45,7 +43,7 @@ fn check_stream(volume: &[u8], all: usize) -> Result<Sizes, Refusal>
     if (used + LAST_WORD) / BLOCK_WORDS != volume.len() / BLOCK_BYTES {
         return Err(Refusal::Extent);
     }
-    if let Some(list) = bad_list(volume, lists, used, all) {
+    if let Some(list) = bad_list(whole, lists, used, all) {
         return Err(Refusal::Order(list as u32));
     }
     if let Some(i) = bad_word(volume, used, end) {
@@ -64,6 +62,7 @@ pub fn check(volume: &[u8]) -> Result<Sizes, Refusal>
     if length_wrong(volume) {
         return Err(Refusal::Length);
     }
-    let falls = check_blocks(volume)?;
-    check_stream(volume, falls)
+    let whole = Blocks { bytes: volume };
+    let falls = check_blocks(&whole)?;
+    check_stream(&whole, falls)
 }

@@ -8,10 +8,10 @@ ghost use Rattle.std.specs.Prelude.{◌≡◌, ℕ, ◌+◌, ◌*◌, ◌-◌, �
 ghost use Rattle.seq.specs.Lists.{rises};
 ghost use Rattle.seq.specs.Numbers.{run, index_below};
 ghost use Rattle.volume.specs.Layout.{blocks, word, list_count, extent, stream_length};
-ghost use Rattle.volume.specs.Inner.Places.{Whole};
 ghost use Rattle.volume.specs.Check.{bad_list};
 ghost use Rattle.volume.specs.Inner.Falls.{fall_of, fall, falls_before, ListFalls};
 
+use super::blocks::Blocks;
 use super::layout::{BLOCK_BYTES, BLOCK_WORDS, LAST_WORD, lead};
 use super::stream::{count_at, word_at};
 use block::read32;
@@ -40,12 +40,12 @@ pub fn falls_in(volume: &[u8], k: usize) -> u32
 }
 
 // Whether there is a fall at stream index i.
-pub fn fall_at(volume: &[u8], i: usize) -> u32
-    requires whole { Whole volume.now }
-    requires i_bound { i < stream_length volume.now }
-    ensures value { result ≡ fall (word volume.now) i }
+pub fn fall_at(whole: &Blocks<'_>, i: usize) -> u32
+    requires { i < stream_length whole.now.bytes.now }
+    ensures value { result ≡ fall (word whole.now.bytes.now) i }
     ensures upper_bound { result ≤ 1 }
 {
+    let volume = whole.bytes;
     let next = i + 1;
     if next == BLOCK_WORDS * (volume.len() / BLOCK_BYTES) {
         1
@@ -55,35 +55,34 @@ pub fn fall_at(volume: &[u8], i: usize) -> u32
 }
 
 // The falls from stream index `from` up to `end`.
-fn falls_from(volume: &[u8], from: usize, end: usize) -> usize
-    requires whole { Whole volume.now }
+fn falls_from(whole: &Blocks<'_>, from: usize, end: usize) -> usize
     requires from_le_end { from ≤ end }
-    requires end_bound { end ≤ stream_length volume.now }
-    ensures result_value { falls_before volume.now from + result ≡ falls_before volume.now end }
+    requires end_bound { end ≤ stream_length whole.now.bytes.now }
+    ensures result_value { falls_before whole.now.bytes.now from + result ≡ falls_before whole.now.bytes.now end }
     ensures upper_bound { result ≤ end - from }
 {
     let mut n: usize = 0;
     for i in from..end {
-        n += fall_at(volume, i) as usize;
+        n += fall_at(whole, i) as usize;
     }
     n
 }
 
 // The falls at the last postings of the lists.
-fn list_falls(volume: &[u8], lists: usize) -> usize
-    requires whole { Whole volume.now }
-    requires lists_value { lists ≡ list_count volume.now }
+fn list_falls(whole: &Blocks<'_>, lists: usize) -> usize
+    requires lists_value { lists ≡ list_count whole.now.bytes.now }
     requires lists_bound { lists ≤ 1024 }
-    requires volume_bound { extent volume.now ≤ stream_length volume.now }
-    ensures { ListFalls volume.now result }
+    requires extent_bound { extent whole.now.bytes.now ≤ stream_length whole.now.bytes.now }
+    ensures { ListFalls whole.now.bytes.now result }
 {
+    let volume = whole.bytes;
     let mut n: usize = 0;
     let mut end: usize = lead(lists);
     for i in 0..lists {
         let size = count_at(volume, i) as usize;
         end += size;
         if 0 < size {
-            n += fall_at(volume, end - 1) as usize;
+            n += fall_at(whole, end - 1) as usize;
         }
     }
     n
@@ -125,19 +124,19 @@ fn walk_lists(volume: &[u8], lists: usize) -> Option<usize>
 }
 
 // The same, given the falls of the whole stream and the number of words in front of the zeros.
-pub fn bad_list(volume: &[u8], lists: usize, used: usize, all: usize) -> Option<usize>
-    requires whole { Whole volume.now }
-    requires lists_value { lists ≡ list_count volume.now }
+pub fn bad_list(whole: &Blocks<'_>, lists: usize, used: usize, all: usize) -> Option<usize>
+    requires lists_value { lists ≡ list_count whole.now.bytes.now }
     requires lists_bound { lists ≤ 1024 }
-    requires used_value { used ≡ extent volume.now }
-    requires used_bound { used ≤ stream_length volume.now }
-    requires all_value { all ≡ falls_before volume.now (stream_length volume.now) }
-    ensures { result ≡ index_below (list_count volume.now) (bad_list volume.now) }
+    requires used_value { used ≡ extent whole.now.bytes.now }
+    requires used_bound { used ≤ stream_length whole.now.bytes.now }
+    requires all_value { all ≡ falls_before whole.now.bytes.now (stream_length whole.now.bytes.now) }
+    ensures { result ≡ index_below (list_count whole.now.bytes.now) (bad_list whole.now.bytes.now) }
 {
+    let volume = whole.bytes;
     let end = BLOCK_WORDS * (volume.len() / BLOCK_BYTES);
-    let head = falls_from(volume, 0, lead(lists));
-    let tail = falls_from(volume, used, end);
-    if head + list_falls(volume, lists) + tail == all {
+    let head = falls_from(whole, 0, lead(lists));
+    let tail = falls_from(whole, used, end);
+    if head + list_falls(whole, lists) + tail == all {
         None
     } else {
         walk_lists(volume, lists)

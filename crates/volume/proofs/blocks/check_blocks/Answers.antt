@@ -22,7 +22,7 @@ loop-k-init c = record { few = omega arith; counted = refl; search = ap (first_f
 pub loop-k-preserved : goal.loop-k-preserved
 loop-k-preserved c =
     let l = c.loop-k in
-    let v = c.args.volume.now in
+    let v = c.args.whole.now.bytes.now in
     let right : block_wrong v l.k ≡ false = block-right v l.k _ c.in_ok-check_block.ensures in
     let inside : falls_before v (126 * l.k) + c.falls_in.result ≡ falls_before v (126 * l.k + 125) = c.falls_in.ensures.result_value in
     let last : falls_before v (126 * l.k + 125 + 1) ≡ falls_before v (126 * l.k + 125) + fall (word v) (126 * l.k + 125) = sum_step (fall (word v)) (126 * l.k + 125) in
@@ -36,7 +36,7 @@ loop-k-preserved c =
 pub returns-in_err-check_block : goal.returns-in_err-check_block
 returns-in_err-check_block c =
     let l = c.loop-k in
-    let v = c.args.volume.now in
+    let v = c.args.whole.now.bytes.now in
     let p = err_from_is_err_and c.from_residual.result c.from_residual.ensures.1 in
     let w = block-refused v l.k _ c.in_err-check_block.ensures in
     let bad : bad_block v ≡ l.k = sym l.invariant.search ∙ first_hit (block_wrong v) l.k (length v / 512) c.loop-k-test.true w.0 in
@@ -45,7 +45,7 @@ returns-in_err-check_block c =
 pub returns : goal.returns
 returns c =
     let l = c.loop-k in
-    let v = c.args.volume.now in
+    let v = c.args.whole.now.bytes.now in
     let bad = sym l.invariant.search ∙ first-end (block_wrong v) l.k (length v / 512) c.loop-k-test.false in
     let e : l.k ≡ length v / 512 = omega arith in
     rw (pass_done v (blocks_wrong-false v (omega arith))) (ap Ok (rw e at l.invariant.counted))

@@ -11,6 +11,6 @@ use Rattle.volume.proofs.blocks.check_blocks.Given as goal
 abbrev pub invariant-loop-k : goal.invariant-loop-k
 invariant-loop-k l = record {
   few : l.falls ≤ 126 * l.k;
-  counted : l.falls ≡ falls_before l.volume (126 * l.k);
-  search : first_from (block_wrong l.volume) l.k (length l.volume / 512 - l.k) ≡ bad_block l.volume;
+  counted : l.falls ≡ falls_before l.whole.bytes.now (126 * l.k);
+  search : first_from (block_wrong l.whole.bytes.now) l.k (length l.whole.bytes.now / 512 - l.k) ≡ bad_block l.whole.bytes.now;
 }

@@ -15,10 +15,10 @@ length-is c = sym c.length_wrong.ensures ∙ c.if-length_wrong.false
 pub returns-then-length_wrong : goal.returns-then-length_wrong
 returns-then-length_wrong c = sym (verdict-length _ (sym c.length_wrong.ensures ∙ c.if-length_wrong.true))
 
-pub check_blocks-requires : goal.check_blocks-requires
-check_blocks-requires c =
+pub invariant_of-whole : goal.invariant_of-whole
+invariant_of-whole c =
     let w = length_right _ (sym c.length_wrong.ensures ∙ c.if-length_wrong.false) in
-    record { whole = w.whole; volume_bound = w.most }
+    record { whole = w.whole; few = w.most }
 
 pub returns-in_err-falls : goal.returns-in_err-falls
 returns-in_err-falls c =
@@ -29,7 +29,7 @@ pub check_stream-requires : goal.check_stream-requires
 check_stream-requires c =
     let w = length_right _ (length-is (goal.at.check_stream-requires c).After-check_blocks) in
     let falls = pass-falls c.args.volume.now _ c.in_ok-falls.ensures in
-    record { whole = w.whole; bound = w.some; volume_bound = w.most; all_value = falls.1 }
+    record { bound = w.some; all_value = falls.1 }
 
 pub returns : goal.returns
 returns c =

@@ -16,10 +16,10 @@ use Rattle.volume.proofs.checking.check_stream.Goals as goal
 use Rattle.volume.proofs.checking.check_stream.Goals.{After-bad_list, After-extent_of-used, After-lead, Else-word_at-ne1, In_default}
 
 -- what is known behind each test
-version-is : (c : Else-word_at-ne1) → version_wrong c.args.volume.now ≡ false
+version-is : (c : Else-word_at-ne1) → version_wrong c.args.whole.now.bytes.now ≡ false
 version-is c = fails (version_wrong_decides _) (λ n. n (sym c.word_at.ensures ∙ c.if-word_at-ne1.false))
 
-list_count-is : (c : After-lead) → list_count_wrong c.args.volume.now ≡ false
+list_count-is : (c : After-lead) → list_count_wrong c.args.whole.now.bytes.now ≡ false
 list_count-is c =
     let t = c.word_at-t.ensures in
     fails (list_count_wrong_decides _) (⊎_elim (λ h. omega arith) (λ h. omega arith))
@@ -28,16 +28,16 @@ list_count-is c =
 extent_told : (v : List ℕ) (t sum used : ℕ) → t ≡ list_count v → sum ≡ sum_to (count v) t → used ≡ extent_of t sum → used ≡ extent v
 extent_told v t sum used e s u = u ∙ ap₂ (λ (a b : ℕ). extent_of a b) e (s ∙ ap (sum_to (count v)) e)
 
-extent-is : (c : After-extent_of-used) → c.extent_of-used.result ≡ extent c.args.volume.now
-extent-is c = extent_told c.args.volume.now _ _ _ c.word_at-t.ensures c.count_sum-sum.ensures.value c.extent_of-used.ensures
+extent-is : (c : After-extent_of-used) → c.extent_of-used.result ≡ extent c.args.whole.now.bytes.now
+extent-is c = extent_told c.args.whole.now.bytes.now _ _ _ c.word_at-t.ensures c.count_sum-sum.ensures.value c.extent_of-used.ensures
 
-extent-fits : (c : After-bad_list) → extent_wrong c.args.volume.now ≡ false
+extent-fits : (c : After-bad_list) → extent_wrong c.args.whole.now.bytes.now ≡ false
 extent-fits c =
-    let v = c.args.volume.now in
+    let v = c.args.whole.now.bytes.now in
     let e = extent_told v _ _ _ c.word_at-t.ensures c.count_sum-sum.ensures.value c.extent_of-used.ensures in
     fails (extent_wrong_decides v) (λ n. n (rw (ap blocks_for (sym e) ∙ c.if-used-volume.false) at (least-blocks_for (extent v))))
 
-order_is : (c : In_default) → lists_wrong c.args.volume.now ≡ false
+order_is : (c : In_default) → lists_wrong c.args.whole.now.bytes.now ≡ false
 order_is c = lists_wrong-false _ (no_index _ _ c.in_default.ensures)
 
 -- the search among the zero words
@@ -78,7 +78,6 @@ bad_list-requires c =
     let t = c.word_at-t.ensures in
     let e = extent-is (goal.at.bad_list-requires c).After-extent_of-used in
     record {
-      whole = p.whole;
       lists_value = t;
       lists_bound = omega arith;
       used_value = e;
@@ -103,7 +102,7 @@ pub returns-in-Some-bad_word : goal.returns-in-Some-bad_word
 returns-in-Some-bad_word c =
     let g = goal.at.returns-in-Some-bad_word c in
     let i = some_index _ _ _ c.in-Some-bad_word.ensures in
-    let bad = bad-word-is c.args.volume.now _ (extent-is g.After-extent_of-used) in
+    let bad = bad-word-is c.args.whole.now.bytes.now _ (extent-is g.After-extent_of-used) in
     ap (refused 8) (i.0 ∙ bad)
     ∙ sym (stream_padding _ (version-is g.Else-word_at-ne1) (list_count-is g.After-lead) (extent-fits g.After-bad_list) (order_is g.In_default)
     (tail_wrong-true _ (rw bad at i.1)))
@@ -111,7 +110,7 @@ returns-in-Some-bad_word c =
 pub returns : goal.returns
 returns c =
     let g = goal.at.returns c in
-    let v = c.args.volume.now in
+    let v = c.args.whole.now.bytes.now in
     let t = c.word_at-t.ensures in
     let bad = bad-word-is v _ (extent-is g.After-extent_of-used) in
     ap₂ (λ (a b : ℕ). answered (record { lists = a; postings = b })) t (c.count_sum-sum.ensures.value ∙ ap (sum_to (count v)) t)

@@ -12,7 +12,7 @@ use Rattle.volume.proofs.order.bad_list.Goals as goal
 pub returns-then-head-list_falls : goal.returns-then-head-list_falls
 returns-then-head-list_falls c =
     let p = c.requires in
-    let v = c.args.volume.now in
+    let v = c.args.whole.now.bytes.now in
     let head : falls_before v 0 + c.falls_from-head.result ≡ falls_before v (lead (list_count v))
     = rw (c.lead.ensures, p.lists_value) at c.falls_from-head.ensures.result_value in
     let tail : falls_before v (extent v) + c.falls_from-tail.result ≡ _ = rw p.used_value at c.falls_from-tail.ensures.result_value in

@@ -9,7 +9,7 @@ use Rattle.volume.proofs.order.fall_at.Goals as goal
 
 pub returns-then-next-volume : goal.returns-then-next-volume
 returns-then-next-volume c = let a = c.args in record {
-  value = sym (fall-last a.volume.now (length a.volume.now / 512) a.i c.requires.whole c.if-next-volume.true);
+  value = sym (fall-last a.whole.now.bytes.now (length a.whole.now.bytes.now / 512) a.i c.args.whole.now.whole c.if-next-volume.true);
   upper_bound = omega arith;
 }
 

@@ -9,7 +9,7 @@ use Rattle.volume.proofs.order.falls_from.Goals as goal
 pub loop-i-preserved : goal.loop-i-preserved
 loop-i-preserved c =
     let l = c.loop-i in
-    let v = c.args.volume.now in
+    let v = c.args.whole.now.bytes.now in
     let step : falls_before v (l.i + 1) ≡ falls_before v l.i + fall (word v) l.i = sum_step (fall (word v)) l.i in
     omega arith
 

@@ -5,4 +5,4 @@ use Rattle.volume.specs.Inner.Falls.{falls_before}
 use Rattle.volume.proofs.order.falls_from.Given as goal
 
 abbrev pub invariant-loop-i : goal.invariant-loop-i
-invariant-loop-i l = (l.n + l.from ≤ l.i) × (falls_before l.volume l.from + l.n ≡ falls_before l.volume l.i)
+invariant-loop-i l = (l.n + l.from ≤ l.i) × (falls_before l.whole.bytes.now l.from + l.n ≡ falls_before l.whole.bytes.now l.i)

@@ -10,10 +10,10 @@ use Rattle.volume.proofs.order.list_falls.Goals.{After-count_at-size, else-size-
 
 -- the list that is read ends inside the blocks
 in_blocks : (c : After-count_at-size)
-    → c.loop-i.end + c.count_at-size.result ≤ 126 * (length c.args.volume.now / 512)
+    → c.loop-i.end + c.count_at-size.result ≤ 126 * (length c.args.whole.now.bytes.now / 512)
 in_blocks c =
     let l = c.loop-i in
-    let v = c.args.volume.now in
+    let v = c.args.whole.now.bytes.now in
     let here = l.invariant.1.here in
     let size : c.count_at-size.result ≡ count v l.i = c.count_at-size.ensures in
     let w = list-within v l.i (omega arith) in
@@ -26,7 +26,7 @@ pub overflow_add-end : goal.overflow_add-end
 overflow_add-end c = let w = in_blocks c in omega arith
 
 pub fall_at-requires : goal.fall_at-requires
-fall_at-requires c = let w = in_blocks (goal.at.fall_at-requires c).After-count_at-size in record { whole = omega arith; i_bound = omega arith }
+fall_at-requires c = let w = in_blocks (goal.at.fall_at-requires c).After-count_at-size in omega arith
 
 pub overflow_add-n : goal.overflow_add-n
 overflow_add-n c = let f = c.loop-i.invariant.1.few in omega arith
@@ -34,7 +34,7 @@ overflow_add-n c = let f = c.loop-i.invariant.1.few in omega arith
 pub loop-i-preserved : goal.loop-i-preserved
 loop-i-preserved c =
     let l = c.loop-i in
-    let v = c.args.volume.now in
+    let v = c.args.whole.now.bytes.now in
     let size : c.count_at-size.result ≡ count v l.i = c.count_at-size.ensures in
     let in-lists : l.i < list_count v = omega arith in (
       l.invariant.0,

@@ -6,4 +6,4 @@ use Rattle.volume.proofs.Laws.Falls.{ListsSoFar}
 use Rattle.volume.proofs.order.list_falls.Given as goal
 
 abbrev pub invariant-loop-i : goal.invariant-loop-i
-invariant-loop-i l = (l.lists ≡ list_count l.volume) × ListsSoFar l.volume l.n l.end l.i
+invariant-loop-i l = (l.lists ≡ list_count l.whole.bytes.now) × ListsSoFar l.whole.bytes.now l.n l.end l.i
