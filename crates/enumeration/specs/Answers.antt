@@ -36,7 +36,3 @@ said_matched (Err e) = said_error e
 abbrev pub beside_next : Option (List ℕ) → List ℕ
 beside_next none = replicate most_pattern_vars 0
 beside_next (some words) = words
-
-abbrev pub beside_of : Said Page → List ℕ
-beside_of (refused n q) = replicate most_pattern_vars 0
-beside_of (answered page) = beside_next page.next

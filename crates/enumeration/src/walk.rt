@@ -12,7 +12,7 @@ pub struct PatternInDocument<'a> {
     pub document: Document,
     // The variables, each once: the order in which they are brought to their bounds.
     pub order: [usize; MOST_PATTERN_VARS],
-    // For each variable a cursor on its list, in front of the document.
+    // For each variable a cursor on its list, at the first posting in the document or a later one.
     pub firsts: [Cursor; MOST_PATTERN_VARS],
 }
 

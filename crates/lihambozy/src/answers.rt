@@ -1,6 +1,7 @@
 // What the C functions answer: structs of 32-bit words, but for the 64-bit count of
 // `lhz_list_matches`. On a refusal `refusal` is its number, `at` is the place that it names or 0, and
-// the values are 0; else `refusal` and `at` are 0.
+// the values are 0, but for `volume` of joining; else `refusal` and `at` are 0. The answer of
+// `lhz_pattern_rows` has values alone.
 use plan::MOST_PATTERN_VARS;
 
 // What `lhz_check_volume` answers: the number of lists and of postings.

@@ -1,8 +1,9 @@
 // The library that other languages link: the public calls as C functions.
 //
 // A slice passes as a pointer and a count of its elements. Each answer is a struct (`answers`): that
-// of the call below, told by `told`, and its refusals by `refused`. No call has a `requires`; each
-// promise is that of the call below it, told as a struct.
+// of the call below, told by `told`, and its refusals by `refused`. The span of a pattern is told
+// where it is found. No call has a `requires`; each promise is that of the call below it, told as a
+// struct.
 #![tactic(auto)]
 
 ghost use Rattle.std.specs.Prelude.{◌≡◌, length};
@@ -24,7 +25,7 @@ mod answers;
 mod refused;
 mod told;
 
-use answers::{
+pub use answers::{
     CheckPlanAnswer, CheckVolumeAnswer, JoinVolumesAnswer, LineToPlanAnswer, ListAnswer,
     ListMatchesAnswer, PatternRowsAnswer, PlanToLineAnswer, ReadListAnswer, TestPositionsAnswer,
     WriteVolumeAnswer,

@@ -106,8 +106,8 @@ fn seal(out: &mut [u8; BLOCK_BYTES])
     put16(out, SUM_B, sums.b);
 }
 
-// Stores block k. It takes a slice: where `put_blocks` lends an array of a part of its slice, it was
-// tried and the proof does not close, since nothing says how that part ends.
+// Stores block k. It takes a slice: of an array that is lent of a part of a slice, no contract of the
+// library says what the part holds afterwards, so that `put_blocks` would not be proved.
 fn put_block(lists: &Lists<'_>, k: usize, out: &mut [u8])
     requires k_bound { k < 8192 }
     requires out_len { length out.old ≡ 512 }

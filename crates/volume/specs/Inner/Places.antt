@@ -1,5 +1,5 @@
 -- Bytes that are whole blocks, for the functions that are called behind the test of the length; and where a list lies, for the
--- contract of `reading::list_span`, by which `matcher` and `search` set a cursor. No call's promise rests on this file.
+-- contract of `Volume::list_span`, by which `matcher` sets a cursor. No call's promise rests on this file.
 -- Assumes nothing.
 use Rattle.std.specs.Prelude.{ℕ, ◌*◌, ◌≡◌, List, length}
 use Rattle.volume.specs.declared.layout.ListSpan.{ListSpan}
