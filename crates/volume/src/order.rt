@@ -104,6 +104,28 @@ pub fn rising<F: Fn(usize) -> u32>(word: F, from: usize, end: usize) -> bool
     falls == 0
 }
 
+// Whether n words of a volume from stream index `from` on rise. It reads each word once and ends at
+// the first fall. Kept beside `rising`, which reads two words a step, up to the end: with that one a
+// volume that is refused for its order takes up to five times as long.
+fn words_rise(volume: &[u8], from: usize, n: usize) -> bool
+    requires { from + n ≤ stream_length volume.now }
+    ensures { result ≡ rises (run (word volume.now) from n) }
+{
+    if n == 0 {
+        return true;
+    }
+    let end = from + n;
+    let mut last = word_at(volume, from);
+    for i in from + 1..end {
+        let next = word_at(volume, i);
+        if next <= last {
+            return false;
+        }
+        last = next;
+    }
+    true
+}
+
 // The lowest list that does not rise. Kept beside `bad_given` of the writer: one function for both
 // would take two closures and, for the bound of its sums, a ghost function of the lists' sizes.
 fn walk_lists(volume: &[u8], lists: usize) -> Option<usize>
@@ -114,11 +136,11 @@ fn walk_lists(volume: &[u8], lists: usize) -> Option<usize>
 {
     let mut start: usize = lead(lists);
     for i in 0..lists {
-        let end = start + count_at(volume, i) as usize;
-        if !rising(|k| word_at(volume, k), start, end) {
+        let size = count_at(volume, i) as usize;
+        if !words_rise(volume, start, size) {
             return Some(i);
         }
-        start = end;
+        start += size;
     }
     None
 }

@@ -93,7 +93,9 @@ fn put_stream(lists: &Lists<'_>, first: usize, out: &mut [u8; BLOCK_BYTES])
         let from = first - front;
         put_words(|j| postings[from + j], out);
     } else {
-        put_words(|j| stream_word(lists, first + j), out);
+        // A copy: of what is lent, each field would be read anew behind each word that is stored.
+        let own = *lists;
+        put_words(|j| stream_word(&own, first + j), out);
     }
 }
 

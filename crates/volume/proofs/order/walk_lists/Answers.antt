@@ -1,7 +1,6 @@
 use native.Mathlib.Omega.{arith}
-use Rattle.std.proofs.Common.{rules}
 use Prim.Native.Nat.{ℕ, ◌+◌, ◌*◌, ◌/◌, ◌≤◌}
-use native.Mathlib.Nat.{sub-zero, add-sub_cancel_left}
+use native.Mathlib.Nat.{sub-zero}
 use mathlib.Core.Path.{◌≡◌, sym, ap, ap₂, ◌∙◌}
 use mathlib.Core.Bool.{not}
 use lib.ListN.{length}
@@ -12,26 +11,25 @@ use Rattle.volume.specs.Layout.{list_count, count, word}
 use Rattle.volume.specs.Check.{order_wrong, bad_list}
 use Rattle.volume.proofs.Laws.Check.{list-within}
 use Rattle.volume.proofs.order.walk_lists.Goals as goal
-use Rattle.volume.proofs.order.walk_lists.Goals.{After-count_at, After-rising}
+use Rattle.volume.proofs.order.walk_lists.Goals.{After-count_at-size, After-words_rise}
 
 -- the list that is read ends inside the blocks
-in_blocks : (c : After-count_at)
-    → c.loop-i.start + c.count_at.result ≤ 126 * (length c.args.volume.now / 512)
+in_blocks : (c : After-count_at-size)
+    → c.loop-i.start + c.count_at-size.result ≤ 126 * (length c.args.volume.now / 512)
 in_blocks c =
     let l = c.loop-i in
     let v = c.args.volume.now in
-    let size : c.count_at.result ≡ count v l.i = c.count_at.ensures in
+    let size : c.count_at-size.result ≡ count v l.i = c.count_at-size.ensures in
     let w = list-within v l.i (omega arith) in
     omega arith
 
 -- what the walk of the list tells
-order_is : (c : After-rising) → order_wrong c.args.volume.now c.loop-i.i ≡ not c.rising.result
+order_is : (c : After-words_rise) → order_wrong c.args.volume.now c.loop-i.i ≡ not c.words_rise.result
 unfolding order_wrong
 order_is c =
     let l = c.loop-i in
     let v = c.args.volume.now in
-    let tells = c.rising.ensures (word v) (λ i x h e. search rules) in
-    ap not (sym (tells ∙ ap₂ (λ (s n : ℕ). rises (run (word v) s n)) l.invariant.0 (add-sub_cancel_left _ _ ∙ c.count_at.ensures)))
+    ap not (sym (c.words_rise.ensures ∙ ap₂ (λ (s n : ℕ). rises (run (word v) s n)) l.invariant.0 c.count_at-size.ensures))
 
 pub loop-i-init : goal.loop-i-init
 unfolding sum_to
@@ -39,21 +37,19 @@ loop-i-init c =
     let p = c.requires.lists_value in
     (omega arith, ap (first_from (order_wrong _) 0) (sub-zero _ ∙ p))
 
-pub rising-requires : goal.rising-requires
-rising-requires c =
-    let w = in_blocks (goal.at.rising-requires c).After-count_at in
-    record { callable = λ i h. search rules; from_le_end = omega arith; end_bound = omega arith; end_fits = omega arith }
+pub words_rise-requires : goal.words_rise-requires
+words_rise-requires c = in_blocks c
 
-pub returns-then-not-rising : goal.returns-then-not-rising
-returns-then-not-rising c =
+pub returns-then-not-words_rise : goal.returns-then-not-words_rise
+returns-then-not-words_rise c =
     let l = c.loop-i in
     let a = c.args in
     let v = a.volume.now in
-    let bad : bad_list v ≡ l.i = sym l.invariant.1 ∙ first_hit (order_wrong v) l.i a.lists c.loop-i-test.true (order_is (goal.at.returns-then-not-rising c).After-rising ∙ c.if-not-rising.true-raw) in
+    let bad : bad_list v ≡ l.i = sym l.invariant.1 ∙ first_hit (order_wrong v) l.i a.lists c.loop-i-test.true (order_is (goal.at.returns-then-not-words_rise c).After-words_rise ∙ c.if-not-words_rise.true-raw) in
     rw bad (sym (index-found (list_count v) l.i (omega arith)))
 
-pub overflow_add-end : goal.overflow_add-end
-overflow_add-end c = let w = in_blocks (goal.at.overflow_add-end c).After-count_at in omega arith
+pub overflow_add-start : goal.overflow_add-start
+overflow_add-start c = let w = in_blocks (goal.at.overflow_add-start c).After-count_at-size in omega arith
 
 pub loop-i-preserved : goal.loop-i-preserved
 loop-i-preserved c =
@@ -61,9 +57,9 @@ loop-i-preserved c =
     let a = c.args in
     let v = a.volume.now in
     let step : sum_to (count v) (l.i + 1) ≡ sum_to (count v) l.i + count v l.i = sum_step (count v) l.i in
-    let size : c.count_at.result ≡ count v l.i = c.count_at.ensures in (
+    let size : c.count_at-size.result ≡ count v l.i = c.count_at-size.ensures in (
       omega arith,
-      sym (first_miss (order_wrong v) l.i a.lists c.loop-i-test.true (order_is (goal.at.loop-i-preserved c).After-rising ∙ c.if-not-rising.false-raw)) ∙ l.invariant.1,
+      sym (first_miss (order_wrong v) l.i a.lists c.loop-i-test.true (order_is (goal.at.loop-i-preserved c).After-words_rise ∙ c.if-not-words_rise.false-raw)) ∙ l.invariant.1,
     )
 
 pub returns : goal.returns
