@@ -53,7 +53,7 @@ pub fn figure(text: &[u8], from: usize, first: usize, out: &mut [u32]) -> Result
         };
         match next {
             Next::Goes(goes) => state = goes,
-            Next::Emits(kind, goes) => {
+            Next::Emits(goes, kind) => {
                 put(out, rows, kind);
                 rows += 1;
                 state = goes;

@@ -21,7 +21,7 @@ pub enum State {
     // them.
     Counting {
         word: Word,
-        count: usize,
+        count: u32,
         front: [u32; 3],
         number: Option<u32>,
     },
@@ -31,8 +31,9 @@ pub enum State {
 #[derive(Clone, Copy, Debug, PartialEq, Eq)]
 pub enum Next {
     Goes(State),
-    // A row is whole.
-    Emits(Kind, State),
+    // A row is whole. The state stands in front, where `Goes` has it: so a compiled loop leaves it
+    // where it is.
+    Emits(State, Kind),
     // The last row is whole, and END follows.
     Closes(Kind),
 }
@@ -46,10 +47,12 @@ fn grow(number: Option<u32>, byte: u8, most: u32) -> Option<u32>
     if !byte.is_ascii_digit() {
         return None;
     }
-    if number == Some(0) {
-        return None;
-    }
-    let value = 10 * number.unwrap_or(0) + u32::from(byte - b'0');
+    let digit = u32::from(byte - b'0');
+    let value = match number {
+        None => digit,
+        Some(0) => return None,
+        Some(front) => 10 * front + digit,
+    };
     if most < value {
         return None;
     }
@@ -57,7 +60,7 @@ fn grow(number: Option<u32>, byte: u8, most: u32) -> Option<u32>
 }
 
 // How many numbers a condition has.
-fn arity(word: Word) -> usize
+fn arity(word: Word) -> u32
     ensures { result ≡ grammar.arity word }
 {
     match word {
@@ -69,7 +72,7 @@ fn arity(word: Word) -> usize
 }
 
 // The most that a number of a condition may be, with so many in front of it.
-fn most_of(word: Word, count: usize) -> u32
+fn most_of(word: Word, count: u32) -> u32
     requires { count < grammar.arity word }
     ensures { result ≡ grammar.most_of word count }
 {
@@ -84,7 +87,7 @@ fn ending(kind: Kind, byte: u8) -> Option<Next>
     ensures { result ≡ states.ending_state kind byte }
 {
     match byte {
-        b';' => Some(Next::Emits(kind, State::Semicolon)),
+        b';' => Some(Next::Emits(State::Semicolon, kind)),
         b']' => Some(Next::Closes(kind)),
         _ => None,
     }
@@ -122,7 +125,7 @@ fn in_list(number: Option<u32>, byte: u8) -> Option<Next>
     }
     let kind = Kind::Voice(number?);
     if byte == b' ' {
-        return Some(Next::Emits(kind, State::Listing(None)));
+        return Some(Next::Emits(State::Listing(None), kind));
     }
     ending(kind, byte)
 }
@@ -143,7 +146,7 @@ fn letter(byte: u8) -> Option<Next>
 }
 
 // Behind a whole number that is not the last of its condition.
-fn another(word: Word, count: usize, front: [u32; 3], whole: u32, byte: u8) -> Option<Next>
+fn another(word: Word, count: u32, front: [u32; 3], whole: u32, byte: u8) -> Option<Next>
     requires { count < 3 }
     ensures { result ≡ states.another_state word count front whole byte }
 {
@@ -151,7 +154,12 @@ fn another(word: Word, count: usize, front: [u32; 3], whole: u32, byte: u8) -> O
         return None;
     }
     let mut front = front;
-    front[count] = whole;
+    // Each index is constant, so that a compiled loop keeps the numbers in registers.
+    match count {
+        0 => front[0] = whole,
+        1 => front[1] = whole,
+        _ => front[2] = whole,
+    }
     Some(Next::Goes(State::Counting {
         word,
         count: count + 1,
@@ -163,7 +171,7 @@ fn another(word: Word, count: usize, front: [u32; 3], whole: u32, byte: u8) -> O
 // In the numbers of a condition.
 fn in_condition(
     word: Word,
-    count: usize,
+    count: u32,
     front: [u32; 3],
     number: Option<u32>,
     byte: u8,

@@ -215,13 +215,13 @@ module _ (s : List ℕ) (start n : ℕ) (out : List ℕ) where
           go stuck q r t = absurd r
 
       -- a byte behind a row
-      pub within_emits : (k : Kind) (to : State) → step_state state (get_or s at 0) ≡ Some (Emits k to)
+      pub within_emits : (k : Kind) (to : State) → step_state state (get_or s at 0) ≡ Some (Emits to k)
           → Within s start n out (at + 1) to (rows + 1) (put_row out' rows k)
       within_emits k to e =
           go (step_in w.read (get_or s at 0)) refl (subst (Follows w.read (step_in w.read (get_or s at 0))) e follows)
           (step_in-told w.read (get_or s at 0) w.sound)
         where
-          go : (m : reading.Next) → step_in w.read (get_or s at 0) ≡ m → Follows w.read m (Some (Emits k to))
+          go : (m : reading.Next) → step_in w.read (get_or s at 0) ≡ m → Follows w.read m (Some (Emits to k))
               → NextTold (partial_text w.read ++ (get_or s at 0 ∷ [])) m
               → Within s start n out (at + 1) to (rows + 1) (put_row out' rows k)
           go (goes f) q r t = record {

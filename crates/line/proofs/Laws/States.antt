@@ -79,15 +79,15 @@ pub record Closing (f : reading.Partial) (x : Figure) (k : Kind) : Type 0 where
 -- what a byte makes of the pattern f so far, and what it makes of the state
 abbrev pub Follows : reading.Partial → reading.Next → Option Next → Type 0
 Follows f (reading.goes g) (Some (Goes s)) = Going f g s
-Follows f (reading.goes g) (Some (Emits k s)) = Emitting f g k s
+Follows f (reading.goes g) (Some (Emits s k)) = Emitting f g k s
 Follows f (reading.goes g) (Some (Closes k)) = ⊥
 Follows f (reading.goes g) None = ⊥
 Follows f (reading.closes x) (Some (Goes s)) = ⊥
-Follows f (reading.closes x) (Some (Emits k s)) = ⊥
+Follows f (reading.closes x) (Some (Emits s k)) = ⊥
 Follows f (reading.closes x) (Some (Closes k)) = Closing f x k
 Follows f (reading.closes x) None = ⊥
 Follows f reading.stuck (Some (Goes s)) = ⊥
-Follows f reading.stuck (Some (Emits k s)) = ⊥
+Follows f reading.stuck (Some (Emits s k)) = ⊥
 Follows f reading.stuck (Some (Closes k)) = ⊥
 Follows f reading.stuck None = Unit
 

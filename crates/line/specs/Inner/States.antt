@@ -51,14 +51,14 @@ condition_kind word.Apart ns n = Condition (Proximity (get_or ns 0 0) (get_or ns
 
 -- behind a whole number at the end of a list or of a condition
 abbrev pub ending_state : Kind → ℕ → Option Next
-ending_state k b = cond (eqb b 59) (Some (Emits k Semicolon)) (cond (eqb b 93) (Some (Closes k)) None)
+ending_state k b = cond (eqb b 59) (Some (Emits Semicolon k)) (cond (eqb b 93) (Some (Closes k)) None)
 
 -- a byte in the list numbers
 abbrev pub step_listing : Option ℕ → ℕ → Option Next
 step_listing None b = cond (grows 65536 None b) (Some (Goes (Listing (Some (grown None b))))) None
 step_listing (Some n) b =
     cond (grows 65536 (Some n) b) (Some (Goes (Listing (Some (grown (Some n) b)))))
-    (cond (eqb b 32) (Some (Emits (Voice n) (Listing None))) (ending_state (Voice n) b))
+    (cond (eqb b 32) (Some (Emits (Listing None) (Voice n))) (ending_state (Voice n) b))
 
 -- a byte behind `;`
 abbrev pub step_semicolon : ℕ → Option Next

@@ -1,51 +1,48 @@
 -- `steps::grow` meets its contract: a law of `Laws/States.antt` for each way through it. Assumes nothing.
 use native.Mathlib.Omega.{arith}
-use mathlib.Core.Path.{◌≡◌, refl, sym, ◌∙◌}
+use mathlib.Core.Path.{◌≡◌, refl, sym, ap, ◌∙◌}
 use mathlib.Core.Bool.{true, false}
-use lib.Dec.{eqb}
-use borrow.Author.Tests.{lt-ltb, eqb-true, eqb-false}
-use Rattle.std.proofs.Common.{ℕ, ◌<◌, Option, Some, None}
-use Rattle.std.specs.Option.{option_eq, unwrap_or}
-use Rattle.grammar.specs.Reading.{value_of, may_grow}
+use borrow.Author.Tests.{lt-ltb}
+use Rattle.std.proofs.Common.{ℕ, ◌<◌, Option, Some}
+use Rattle.grammar.specs.Reading.{may_grow, grown}
 use Rattle.line.proofs.Laws.States.{grow-no_digit, grow-zero, grow-over, grow-digit}
 use Rattle.line.proofs.steps.grow.Goals as goal
+use Rattle.line.proofs.steps.grow.Goals.{in-None, in-Some, Joined-number}
 
--- a number that is no zero may grow
-may : (x : Option ℕ) → option_eq eqb x (Some 0) ≡ false → may_grow x ≡ true
-may None e = refl
-may (Some n) e = let f = eqb-false n 0 e in lt-ltb 0 n (let l : 0 < n = omega arith in l)
+-- a zero may not grow
+may-not : (x : Option ℕ) → x ≡ Some 0 → may_grow x ≡ false
+may-not x e = rw e refl
 
-may-not : (x : Option ℕ) → option_eq eqb x (Some 0) ≡ true → may_grow x ≡ false
-may-not None e = cc
-may-not (Some n) e = rw (eqb-true n 0 e) refl
-
--- its value so far
-so-far : (x : Option ℕ) → unwrap_or x 0 ≡ value_of x
-so-far None = refl
-so-far (Some n) = refl
+-- the number may grow, and this is what it grows to
+grows-to : (c : Joined-number) → (may_grow c.args.number ≡ true) × (c.match-number.value ≡ grown c.args.number c.args.byte)
+grows-to c = elim c.match-number.branch [
+  | in-None w ↦ rw w.in-None.is (refl, let e = w.value-is in let f = c.from-digit.ensures in omega arith)
+  | in-Some w ↦
+      let n = rw w.in-Some.is at w.in-Some.front-test.1 in
+      let some : 0 < w.in-Some.front = omega arith in
+      rw w.in-Some.is (lt-ltb 0 w.in-Some.front some, let e = w.value-is in let f = c.from-digit.ensures in omega arith)
+]
 
 pub returns-then-not-is_ascii_digit : goal.returns-then-not-is_ascii_digit
 returns-then-not-is_ascii_digit c =
     let a = c.args in
     sym (grow-no_digit a.most a.number a.byte (sym c.is_ascii_digit.ensures.value ∙ c.if-not-is_ascii_digit.true))
 
-pub returns-then-eq : goal.returns-then-eq
-returns-then-eq c =
+pub returns-in-Some-eq0 : goal.returns-in-Some-eq0
+returns-in-Some-eq0 c =
     let a = c.args in
-    sym (grow-zero a.most a.number a.byte (may-not a.number (sym c.eq.ensures ∙ c.if-eq.true)))
+    sym (grow-zero a.most a.number a.byte (may-not a.number (c.in-Some-eq0.is ∙ ap Some (sym c.in-Some-eq0.field-0-is ∙ c.in-Some-eq0.field-0-test))))
 
 pub returns-then-most-value : goal.returns-then-most-value
 returns-then-most-value c =
     let a = c.args in
     let d = sym c.is_ascii_digit.ensures.value ∙ c.if-not-is_ascii_digit.false in
-    let m = may a.number (sym c.eq.ensures ∙ c.if-eq.false) in
-    let v = so-far a.number in
-    sym (grow-over a.most a.number a.byte _ d m (omega arith) c.if-most-value.true)
+    let g = grows-to (goal.at.returns-then-most-value c).Joined-number in
+    sym (grow-over a.most a.number a.byte c.match-number.value d g.0 g.1 c.if-most-value.true)
 
 pub returns : goal.returns
 returns c =
     let a = c.args in
     let d = sym c.is_ascii_digit.ensures.value ∙ c.if-not-is_ascii_digit.false in
-    let m = may a.number (sym c.eq.ensures ∙ c.if-eq.false) in
-    let v = so-far a.number in
-    sym (grow-digit a.most a.number a.byte _ d m (omega arith) c.if-most-value.false)
+    let g = grows-to (goal.at.returns c).Joined-number in
+    sym (grow-digit a.most a.number a.byte c.match-number.value d g.0 g.1 c.if-most-value.false)
