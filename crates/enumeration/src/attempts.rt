@@ -32,7 +32,8 @@ fn stand_from(
     ensures positions_len_unchanged { length positions.new ≡ length positions.old }
 {
     for &x in &pattern.order[..pattern.outline.vars] {
-        here[x] = marks[x];
+        // Its list is the same. A whole cursor would be read back slower than its index was written.
+        here[x].at = marks[x].at;
         if !jump(
             pattern.query.volume.bytes,
             pattern.document.doc,
@@ -50,7 +51,9 @@ fn stand_from(
 // The least match of a pattern in a document that is in no variable below its bound and has the
 // first `held` variables at theirs. The variables are brought there from their marks, in the order
 // given, and their cursors are left at the match. Whether there is one. As soon as a variable that
-// is held would have to move, there is none.
+// is held would have to move, there is none. It is a part of the loop of `next_match`: a call would
+// read all of the pattern anew for each variable.
+#[inline(always)]
 pub fn match_held(pattern: &PatternInDocument, held: usize, walk: &mut Walk) -> bool
     requires sought { SoughtIn pattern.now }
     requires walking { Walking pattern.now walk.old }
@@ -79,7 +82,8 @@ pub fn match_held(pattern: &PatternInDocument, held: usize, walk: &mut Walk) -> 
         return false;
     }
     match_from(
-        &pattern.query,
+        &pattern.query.volume,
+        pattern.query.plan,
         pattern.outline,
         pattern.document,
         held,

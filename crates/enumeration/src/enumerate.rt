@@ -1,9 +1,10 @@
 // The call that writes the matches of a pattern in a document.
 ghost use Rattle.std.specs.Prelude.{◌≡◌, ℕ, ◌<◌, ◌≤◌, length, get_or};
+ghost use Rattle.plan.specs.Limits.{most_pattern_vars};
 ghost use Rattle.plan.specs.Accepted.{pattern_at};
 ghost use Rattle.plan.specs.Inner.Outline.{Outlines};
 ghost use Rattle.matcher.specs.Inner.Shortfall.{InDocument};
-ghost use Rattle.matcher.specs.Inner.Cursors.{no_cursor};
+ghost use Rattle.matcher.specs.Inner.Cursors.{no_cursor, ats_of, ends_of};
 ghost use Rattle.matcher.specs.Inner.Tables.{cursor_on};
 ghost use Rattle.enumeration.specs.Answers.{said_matched};
 ghost use Rattle.enumeration.specs.Enumeration.{Kept};
@@ -13,7 +14,7 @@ ghost use Rattle.enumeration.specs.Inner.Walking.{SoughtIn};
 use super::answers::{MatchError, Matches};
 use super::next::next_match;
 use super::walk::{PatternInDocument, Walk};
-use matcher::{Cursor, Document, in_document, rarest_first, starts_of};
+use matcher::{Cursor, Document, in_document, put_row, rarest_first, starts_of};
 use plan::{MOST_PATTERN_VARS, MOST_PATTERNS, Outline, Query, lay_out, list_at};
 use volume::{MAX_LISTS, Posting};
 
@@ -53,6 +54,18 @@ fn step_past(positions: &[u32; MOST_PATTERN_VARS], n: usize, lows: &mut [u32; MO
     lows[n - 1] += 1;
 }
 
+// Sets the marks of the first n variables where their cursors stand. Each is on its list: the index
+// alone is set, since a whole cursor would be read slower than its index was written.
+fn set_marks(here: &[Cursor; MOST_PATTERN_VARS], n: usize, marks: &mut [Cursor; MOST_PATTERN_VARS])
+    requires { n ≤ most_pattern_vars }
+    ensures by_index { (x : ℕ) → x < n → get_or (ats_of marks.new) x 0 ≡ get_or (ats_of here.now) x 0 }
+    ensures ends_unchanged { ends_of marks.new ≡ ends_of marks.old }
+{
+    for x in 0..n {
+        marks[x].at = here[x].at;
+    }
+}
+
 // Writes the matches of a pattern in a document from `from` on to the front of out, as many as fit.
 fn write_matches(pattern: &PatternInDocument, from: &[u32], out: &mut [u32]) -> Matches
     requires sought { SoughtIn pattern.now }
@@ -84,11 +97,10 @@ fn write_matches(pattern: &PatternInDocument, from: &[u32], out: &mut [u32]) -> 
                 next: Some(next),
             };
         }
-        out[count * n..count * n + n].copy_from_slice(&walk.positions[..n]);
+        put_row(&walk.positions, n, out, count * n);
         count += 1;
         step_past(&walk.positions, n, &mut walk.lows);
-        let here = walk.here;
-        walk.marks = here;
+        set_marks(&walk.here, n, &mut walk.marks);
     }
     Matches {
         count: count as u64,
@@ -124,7 +136,7 @@ fn matches_of(
     let starts = list.seek(query.volume.bytes, doc);
     let document = Document { doc, starts };
     let mut order = [0; MOST_PATTERN_VARS];
-    rarest_first(query, outline, &mut order);
+    rarest_first(&query.volume, query.plan, outline, &mut order);
     let found = PatternInDocument {
         query: *query,
         outline,

@@ -25,6 +25,7 @@ pub fn next_match(pattern: &PatternInDocument, walk: &mut Walk) -> bool
     ensures standing { let s = pattern.now in result ≡ true
         → Standing s.query.volume.bytes.now s.document.doc (form_of s) (ats_of walk.new.here)
         walk.new.positions }
+    ensures marks_end { ends_of walk.new.marks ≡ ends_of pattern.now.firsts }
     ensures ends_unchanged { ends_of walk.new.here ≡ ends_of walk.old.here }
     ensures lows_len_unchanged { length walk.new.lows ≡ length walk.old.lows }
     ensures positions_len_unchanged { length walk.new.positions ≡ length walk.old.positions }

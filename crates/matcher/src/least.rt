@@ -9,8 +9,8 @@ ghost use Rattle.matcher.specs.Inner.Order.{Order};
 
 use super::cursor::{Cursor, Document, OpenDocument, bound_of};
 use super::predicates::{falls_short, largest_of};
-use plan::{Outline, Query, predicate_at};
-use volume::Posting;
+use plan::{Outline, predicate_at};
+use volume::{Posting, Volume};
 
 // Moves variable x to its first position in a document that is not below `need`. Whether there is
 // one. It is a part of the settling loop, where a call would store the slices.
@@ -61,7 +61,8 @@ fn next_turn(i: usize, n: usize) -> usize
 // variables, each once. `paras` has for each variable where the start of its paragraph was found
 // last. Whether there is such a match; then the cursors stand at it.
 pub fn match_from(
-    query: &Query<'_>,
+    volume: &Volume<'_>,
+    plan: &[u32],
     outline: Outline,
     document: Document,
     held: usize,
@@ -70,30 +71,27 @@ pub fn match_from(
     positions: &mut [u32],
     paras: &mut [usize],
 ) -> bool
-    requires posed { Posed query.now.volume.bytes.now query.now.plan.now outline document
-        (ends_of cursors.old) }
+    requires posed { Posed volume.now.bytes.now plan.now outline document (ends_of cursors.old) }
     requires order { Order outline.vars order.now }
     requires positions_in_bounds { outline.vars ≤ length positions.old }
-    requires standing { Standing query.now.volume.bytes.now document.doc
-        (pattern_at query.now.plan.now outline.pattern) (ats_of cursors.old) positions.old }
+    requires standing { Standing volume.now.bytes.now document.doc
+        (pattern_at plan.now outline.pattern) (ats_of cursors.old) positions.old }
     requires held_le_vars { held ≤ outline.vars }
     requires paras_in_bounds { outline.vars ≤ length paras.old }
-    ensures held_match { HeldMatch (lists_of query.now.volume.bytes.now) document.doc
-        (pattern_at query.now.plan.now outline.pattern) (take outline.vars positions.old) held
+    ensures held_match { HeldMatch (lists_of volume.now.bytes.now) document.doc
+        (pattern_at plan.now outline.pattern) (take outline.vars positions.old) held
         result (take outline.vars positions.new) }
-    ensures standing_2 { Standing query.now.volume.bytes.now document.doc
-        (pattern_at query.now.plan.now outline.pattern) (ats_of cursors.new) positions.new }
+    ensures standing_2 { Standing volume.now.bytes.now document.doc
+        (pattern_at plan.now outline.pattern) (ats_of cursors.new) positions.new }
     ensures within { Within outline.vars (ats_of cursors.old) (ats_of cursors.new) }
     ensures within_2 { Within outline.vars positions.old positions.new }
     ensures ends_unchanged { ends_of cursors.new ≡ ends_of cursors.old }
     ensures paras_len_unchanged { length paras.new ≡ length paras.old }
 {
-    let volume = query.volume.bytes;
-    let plan = query.plan;
     // The fields one by one: a copy of the whole document is read back slower than it is written.
     let Document { doc, starts } = document;
     let opened = OpenDocument {
-        volume: query.volume,
+        volume: *volume,
         document: Document { doc, starts },
     };
     let n = outline.vars;
@@ -114,7 +112,7 @@ pub fn match_from(
                 if x < held {
                     return false;
                 }
-                if !jump(volume, doc, x, short.need, cursors, positions) {
+                if !jump(volume.bytes, doc, x, short.need, cursors, positions) {
                     return false;
                 }
                 largest = largest.max(positions[x]);

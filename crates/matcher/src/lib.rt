@@ -2,10 +2,10 @@
 // testing given positions.
 //
 // `test` has no `requires`; what it answers is an equation with a definition of `specs/`. The others
-// serve the crates above, on a volume that they have checked (`volume::Volume`) and a plan over it
-// (`plan::Query`): cursors and their moves, the order of a pattern's variables (`rarest_first`), its
-// least match in a document (`match_from`), the start of a position's paragraph (`para_near`, by an
-// `OpenDocument`), and `jump`, `put_row` and `in_document`.
+// serve the crates above, on a volume that they have checked (`volume::Volume`) and a plan over it:
+// cursors and their moves, the order of a pattern's variables (`rarest_first`), its least match in a
+// document (`match_from`), the start of a position's paragraph (`para_near`, by an `OpenDocument`),
+// and `jump`, `put_row` and `in_document`.
 #![tactic(auto)]
 
 mod answers;

@@ -10,7 +10,7 @@ ghost use Rattle.matcher.specs.Inner.Cursors.{ats_of, ends_of};
 ghost use Rattle.matcher.specs.Inner.Settling.{Asked, Found, StoodAt};
 
 use super::answers::TestError;
-use super::cursor::{Cursor, Document, bound_of, list_cursor, starts_of};
+use super::cursor::{Cursor, Document, list_cursor, starts_of};
 use super::least::match_from;
 use super::rarest::rarest_first;
 use super::store::put_row;
@@ -27,14 +27,15 @@ pub fn in_document(positions: &[u32]) -> bool
 // A cursor on a list at a position of a document; none where the list does not hold the position.
 fn cursor_at(volume: &Volume<'_>, list: usize, doc: u32, pos: u32) -> Option<Cursor>
     requires list_bound { list < list_count volume.now.bytes.now }
+    requires doc_bound { doc ≤ 65535 }
     requires pos_bound { pos ≤ 65535 }
     ensures { Found volume.now.bytes.now list doc pos result }
 {
     let first = list_cursor(volume, list);
-    let bound = bound_of(doc, pos);
-    let reached = first.advance(volume.bytes, bound);
+    let sought = Posting::new(doc as u16, pos as u16);
+    let reached = first.advance(volume.bytes, u64::from(sought.bits));
     let posting = reached.posting?;
-    if u64::from(posting.bits) == bound {
+    if posting.bits == sought.bits {
         return Some(Cursor {
             at: reached.at,
             ..first
@@ -83,14 +84,15 @@ fn is_match(query: &Query<'_>, outline: Outline, doc: u32, positions: &[u32]) ->
         return false;
     }
     let mut order = [0; MOST_PATTERN_VARS];
-    rarest_first(query, outline, &mut order);
+    rarest_first(&query.volume, query.plan, outline, &mut order);
     let mut moved = [0; MOST_PATTERN_VARS];
     put_row(positions, n, &mut moved, 0);
     let mut paras = [0; MOST_PATTERN_VARS];
     let starts = starts_of(&query.volume);
     let document = Document { doc, starts };
     match_from(
-        query,
+        &query.volume,
+        query.plan,
         outline,
         document,
         n,

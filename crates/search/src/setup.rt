@@ -77,6 +77,11 @@ pub fn set_orders(query: &Query<'_>, table: &[Outline], orders: &mut [usize])
     ensures orders_len_unchanged { length orders.new ≡ length orders.old }
 {
     for &outline in table {
-        rarest_first(query, outline, &mut orders[outline.first..]);
+        rarest_first(
+            &query.volume,
+            query.plan,
+            outline,
+            &mut orders[outline.first..],
+        );
     }
 }

@@ -104,7 +104,8 @@ fn settle(
     }
     let first = outline.first;
     match_from(
-        query,
+        &query.volume,
+        query.plan,
         outline,
         document,
         0,

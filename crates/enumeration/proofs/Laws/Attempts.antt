@@ -129,19 +129,26 @@ module _ (v : List ℕ) (d : ℕ) (order ends lows marks here₀ ps₀ : List �
 
 -- a cursor set to its mark
 module _ (here marks : List Cursor) (x : ℕ) where
-  pub set-ats : ats_of (set here x (get_or marks x no_cursor)) ≡ set (ats_of here) x (get_or (ats_of marks) x 0)
-  set-ats = ats-set here x (get_or marks x no_cursor) ∙ ap (λ (i : ℕ). set (ats_of here) x i) (sym (ats-at marks x))
+  -- the index alone
+  abbrev pub marked-at : List Cursor
+  marked-at = set here x (record { at = (get_or marks x no_cursor).at; end = (get_or here x no_cursor).end })
+
+  pub set-ats : ats_of marked-at ≡ set (ats_of here) x (get_or (ats_of marks) x 0)
+  set-ats = ats-set here x _ ∙ ap (λ (i : ℕ). set (ats_of here) x i) (sym (ats-at marks x))
+
+  pub set-at-ends : ends_of marked-at ≡ ends_of here
+  set-at-ends = ends-kept here x _ refl
 
   pub set-ends : ends_of marks ≡ ends_of here → ends_of (set here x (get_or marks x no_cursor)) ≡ ends_of here
   set-ends e = ends-kept here x (get_or marks x no_cursor) (sym (ends-at marks x) ∙ ap (λ (es : List ℕ). get_or es x 0) e ∙ ends-at here x)
 
   -- it jumps from there
-  pub jumps-from : (v : List ℕ) (d need : ℕ) (ends ps : List ℕ) (r : Bool) (here' ps' : List ℕ) → ends_of marks ≡ ends → ends_of here ≡ ends
-      → Jumped v d (get_or (ends_of (set here x (get_or marks x no_cursor))) x 0) need x (ats_of (set here x (get_or marks x no_cursor))) ps r here' ps'
+  pub jumps-from : (v : List ℕ) (d need : ℕ) (ends ps : List ℕ) (r : Bool) (here' ps' : List ℕ) → ends_of here ≡ ends
+      → Jumped v d (get_or (ends_of marked-at) x 0) need x (ats_of marked-at) ps r here' ps'
       → Jumped v d (get_or ends x 0) need x (set (ats_of here) x (get_or (ats_of marks) x 0)) ps r here' ps'
-  jumps-from v d need ends ps r here' ps' m h j =
-      subst (λ (es : List ℕ). Jumped v d (get_or es x 0) need x (set (ats_of here) x (get_or (ats_of marks) x 0)) ps r here' ps') (set-ends (m ∙ sym h) ∙ h)
-      (subst (λ (is : List ℕ). Jumped v d (get_or (ends_of (set here x (get_or marks x no_cursor))) x 0) need x is ps r here' ps') set-ats j)
+  jumps-from v d need ends ps r here' ps' h j =
+      subst (λ (es : List ℕ). Jumped v d (get_or es x 0) need x (set (ats_of here) x (get_or (ats_of marks) x 0)) ps r here' ps') (set-at-ends ∙ h)
+      (subst (λ (is : List ℕ). Jumped v d (get_or (ends_of marked-at) x 0) need x is ps r here' ps') set-ats j)
 
 -- a pattern in a document, from marks in front of its bounds
 module _ (v p : List ℕ) (o : Outline) (doc : Document) (ends : List ℕ) (q : Posed v p o doc ends) where

@@ -20,13 +20,12 @@ use mathlib.Core.List.{List, [], ◌∷◌, ◌++◌, append-nil}
 use mathlib.Core.Option.{Option, none, some}
 use lib.ListN.{length, get_or, set, take, drop, replicate, length-set, length-append, length-drop, drop_of_length-le}
 use lib.Seq.{get_or-set_same, get_or-set_other, get_or-take, length-take-le, take_at, take_all, take-suc, drop-cons}
-use borrow.Rule.Slice.PartMut.{put_mid}
 use Rattle.seq.specs.Lists.{joined, first, rises}
 use Rattle.seq.specs.Refusals.{answered}
 use Rattle.seq.proofs.Laws.Decides as decides
 use Rattle.seq.proofs.Laws.Tests.{below_or}
 use Rattle.seq.proofs.Laws.Lists.{joined_append}
-use Rattle.seq.proofs.Laws.Stores.{put-part}
+use Rattle.seq.proofs.Laws.Stores.{put-over}
 use Rattle.seq.proofs.Laws.Members.{Every, every_take, joined-even}
 use Rattle.volume.specs.Layout.{lists_of}
 use Rattle.plan.specs.declared.outline.Outline.{Outline}
@@ -203,22 +202,26 @@ module _ (v p : List ℕ) (o : Outline) (doc : Document) (order firsts ends : Li
           let a = get_or-take n ps' x 0 h in
           omega arith
 
-      pub wrote : n ≤ 8 → (here' : List ℕ) → Standing v d f here' ps' → count < length out₀ / n → (ys lows'' lows' : List ℕ) → ys ≡ take n ps' → length lows'' ≡ length lows → Stepped ps' n lows'' lows'
-          → Writing v d f n from out₀ lows' here' (put_mid (count * n) (count * n + n - count * n) out ys) (count + 1)
-      wrote few here' stands r ys lows'' lows' is kept s' = record {
+      pub wrote : n ≤ 8 → (here' marks' : List ℕ) → Standing v d f here' ps' → ((x : ℕ) → x < n → get_or marks' x 0 ≡ get_or here' x 0) → count < length out₀ / n → (out' lows'' lows' : List ℕ)
+          → out' ≡ take (count * n) out ++ take n ps' ++ drop (count * n + n) out → length lows'' ≡ length lows → Stepped ps' n lows'' lows'
+          → Writing v d f n from out₀ lows' marks' out' (count + 1)
+      wrote few here' marks' stands same r out' lows'' lows' put kept s' = record {
         lows-length = lows-long;
         small = λ x h.
             ⊎_elim
             (λ (k : x + 1 < n). let a = s'.front x k in let b = next_small x h in omega arith)
             (λ (k : n ≤ x + 1). let a = s'.last x (omega arith) in let b = next_small x h in omega arith)
             (below_or (x + 1) n);
-        marked = match-marked here' ps' lows'' lows' stands s';
+        marked = λ x h.
+            subst (λ (i : ℕ). Mark v (get_or f.vars x 0) d (get_or lows' x 0) i) (sym (same x (let q = many in omega arith)))
+            (match-marked here' ps' lows'' lows' stands s' x h);
         left = rest;
         within = let a = more in omega arith;
         room = (le-div_iff_mul-le some-vars).0 (omega arith);
         laid =
-            put-part (joined (take count all)) out₀ out ys (count * n) (count * n + n) words (omega arith) g.laid
-            ∙ ap (λ (xs : List ℕ). (joined (take count all) ++ xs) ++ drop (count * n + n) out₀) is
+            put
+            ∙ ap (λ (xs : List ℕ). take (count * n) xs ++ take n ps' ++ drop (count * n + n) xs) g.laid
+            ∙ put-over (joined (take count all)) out₀ (take n ps') (count * n) n words
             ∙ ap₂ (λ (xs : List ℕ) (i : ℕ). xs ++ drop i out₀) more-joined more-words;
       }
         where

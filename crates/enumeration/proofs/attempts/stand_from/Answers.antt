@@ -6,7 +6,7 @@ use lib.Seq.{length-take-le, get_or-take}
 use borrow.Author.Rules.{rules}
 use Rattle.matcher.specs.Inner.Cursors.{ats_of, ends_of}
 use Rattle.matcher.proofs.Laws.Cursors.{length-ats}
-use Rattle.enumeration.proofs.Laws.Attempts.{posed-few, mark-stretch, mark-start, standing-next, standing-out, standing-done, set-ats, set-ends, jumps-from}
+use Rattle.enumeration.proofs.Laws.Attempts.{posed-few, mark-stretch, mark-start, standing-next, standing-out, standing-done, set-ats, set-at-ends, jumps-from}
 use Rattle.enumeration.proofs.attempts.stand_from.Goals as goal
 use Rattle.enumeration.proofs.attempts.stand_from.Goals.{Start, In-loop-x}
 
@@ -41,7 +41,7 @@ jump-requires-clause-stretch c =
     let h = here-long (goal.at.jump-requires-clause-stretch c).Start in
     let q = positions-long (goal.at.jump-requires-clause-stretch c).Start in
     let x = get_or (take c.args.pattern.now.outline.vars c.args.pattern.now.order) c.loop-x.x-index 0 in
-    rw (set-ats c.loop-x.here c.args.marks.now x, set-ends c.loop-x.here c.args.marks.now x (p.marks_end ∙ sym (ends i)) ∙ ends i)
+    rw (set-ats c.loop-x.here c.args.marks.now x, set-at-ends c.loop-x.here c.args.marks.now x ∙ ends i)
     (mark-start _ _ _ _ _ _ _ _ (ats_of c.loop-x.here) c.loop-x.positions c.loop-x.x-index c.loop-x.invariant.standing (omega arith) (omega arith) _ (mark-stretch _ _ _ _ _ p.sought.posed _ _ p.marked _ v))
 
 pub returns-then-not-jump-clause-stood_from : goal.returns-then-not-jump-clause-stood_from
@@ -54,12 +54,12 @@ returns-then-not-jump-clause-stood_from c =
     let q = positions-long (goal.at.returns-then-not-jump-clause-stood_from c).Start in
     let x = get_or (take c.args.pattern.now.outline.vars c.args.pattern.now.order) c.loop-x.x-index 0 in
     standing-out _ _ _ _ _ _ _ _ (ats_of c.loop-x.here) c.loop-x.positions c.loop-x.x-index c.loop-x.invariant.standing (omega arith) (omega arith) _ _ _ v c.jump.result
-    (jumps-from c.loop-x.here c.args.marks.now x _ _ _ _ _ _ _ _ p.marks_end (ends i) c.jump.ensures.jumped) c.if-not-jump.true
+    (jumps-from c.loop-x.here c.args.marks.now x _ _ _ _ _ _ _ _ (ends i) c.jump.ensures.jumped) c.if-not-jump.true
 
 pub returns-then-not-jump-clause-ends_unchanged : goal.returns-then-not-jump-clause-ends_unchanged
 returns-then-not-jump-clause-ends_unchanged c =
     let i = (goal.at.returns-then-not-jump-clause-ends_unchanged c).In-loop-x in
-    c.jump.ensures.ends_unchanged ∙ set-ends c.loop-x.here c.args.marks.now _ (c.requires.marks_end ∙ sym (ends i)) ∙ c.loop-x.invariant.ends
+    c.jump.ensures.ends_unchanged ∙ set-at-ends c.loop-x.here c.args.marks.now _ ∙ c.loop-x.invariant.ends
 
 pub loop-x-preserved : goal.loop-x-preserved
 loop-x-preserved c =
@@ -73,8 +73,8 @@ loop-x-preserved c =
     record {
       standing =
           standing-next _ _ _ _ _ _ _ _ (ats_of c.loop-x.here) c.loop-x.positions c.loop-x.x-index c.loop-x.invariant.standing (omega arith) (omega arith) _ _ c.jump.result
-          (jumps-from c.loop-x.here c.args.marks.now x _ _ _ _ _ _ _ _ p.marks_end (ends i) c.jump.ensures.jumped) c.if-not-jump.false;
-      ends = c.jump.ensures.ends_unchanged ∙ set-ends c.loop-x.here c.args.marks.now x (p.marks_end ∙ sym (ends i)) ∙ c.loop-x.invariant.ends;
+          (jumps-from c.loop-x.here c.args.marks.now x _ _ _ _ _ _ _ _ (ends i) c.jump.ensures.jumped) c.if-not-jump.false;
+      ends = c.jump.ensures.ends_unchanged ∙ set-at-ends c.loop-x.here c.args.marks.now x ∙ c.loop-x.invariant.ends;
     }
 
 pub returns-clause-stood_from : goal.returns-clause-stood_from

@@ -54,11 +54,16 @@ returns-then-count-room c =
     let w = stops _ _ _ _ _ _ _ p.sought _ _ _ _ _ _ c.loop-walk.invariant.writing _ (positions-long m) (sought m true c.loop-walk-test.true) (omega arith) _ c.copy_from_slice-then-count-room.ensures.after in
     wrote_kept _ _ _ _ _ _ _ p.sought _ _ p.from_len p.in_document p.vars_in_bounds _ _ w
 
-pub slice_bounds-copy_from_slice-end-in-loop-walk : goal.slice_bounds-copy_from_slice-end-in-loop-walk
-slice_bounds-copy_from_slice-end-in-loop-walk c =
+pub put_row-requires : goal.put_row-requires
+put_row-requires c =
     let k = room-count _ _ _ _ _ _ _ c.requires.sought _ _ _ _ _ _ c.loop-walk.invariant.writing in
-    let r = fits_more c.loop-walk.count c.args.pattern.now.outline.vars (length c.args.out.now) (some-vars (goal.at.slice_bounds-copy_from_slice-end-in-loop-walk c).Start) (omega arith) in
-    omega arith
+    let r = fits_more c.loop-walk.count c.args.pattern.now.outline.vars (length c.args.out.now) (some-vars (goal.at.put_row-requires c).Start) (omega arith) in
+    let f = few-vars (goal.at.put_row-requires c).Start in
+    let p = positions-long (goal.at.put_row-requires c).After-next_match in
+    record { n_in_bounds = omega arith; n_in_bounds_2 = omega arith }
+
+pub set_marks-requires : goal.set_marks-requires
+set_marks-requires c = few-vars (goal.at.set_marks-requires c).Start
 
 pub loop-walk-preserved : goal.loop-walk-preserved
 loop-walk-preserved c =
@@ -69,9 +74,9 @@ loop-walk-preserved c =
     let e = c.next_match.ensures in
     record {
       writing =
-          wrote _ _ _ _ _ _ _ c.requires.sought _ _ _ _ _ _ i.writing _ (positions-long m) (sought m true t) (few-vars (goal.at.loop-walk-preserved c).Start) _
-          (e.standing t) (omega arith) _ _ _ c.copy_from_slice-in-loop-walk.ensures.after e.lows_len_unchanged c.step_past.ensures;
-      marks_end = e.ends_unchanged ∙ i.here_end;
+          wrote _ _ _ _ _ _ _ c.requires.sought _ _ _ _ _ _ i.writing _ (positions-long m) (sought m true t) (few-vars (goal.at.loop-walk-preserved c).Start) _ _
+          (e.standing t) c.set_marks.ensures.by_index (omega arith) _ _ _ c.put_row.ensures e.lows_len_unchanged c.step_past.ensures;
+      marks_end = c.set_marks.ensures.ends_unchanged ∙ e.marks_end;
       here_end = e.ends_unchanged ∙ i.here_end;
       positions_long = positions-long m;
     }

@@ -22,7 +22,7 @@ kept c = c.falls_short.ensures.paras_len_unchanged ∙ c.loop-left.invariant.par
 -- the variable that is left short
 short : (c : In-Some)
     → let l = c.loop-left in let a = c.args in
-    LeftShort (starts_in (lists_of a.query.now.volume.bytes.now) a.document.doc) c.predicate_at-predicate.result (take a.outline.vars l.positions) c.in-Some.short.var c.in-Some.short.need
+    LeftShort (starts_in (lists_of a.volume.now.bytes.now) a.document.doc) c.predicate_at-predicate.result (take a.outline.vars l.positions) c.in-Some.short.var c.in-Some.short.need
 short c = subst (Told _ _ _) c.in-Some.is c.falls_short.ensures.told
 
 pub invariant_of-opened : goal.invariant_of-opened
@@ -125,7 +125,7 @@ returns-then-not-jump c =
     let s = c.requires in
     let a = c.args in
     let x = c.in-Some.short.var in
-    let j = subst (λ (r : Bool). Jumped a.query.now.volume.bytes.now a.document.doc (get_or (ends_of a.cursors.now) x 0) c.in-Some.short.need x (ats_of l.cursors) l.positions r (ats_of c.jump.new.cursors) c.jump.new.positions) c.if-not-jump.true (rw l.invariant.ends at c.jump.ensures.jumped) in
+    let j = subst (λ (r : Bool). Jumped a.volume.now.bytes.now a.document.doc (get_or (ends_of a.cursors.now) x 0) c.in-Some.short.need x (ats_of l.cursors) l.positions r (ats_of c.jump.new.cursors) c.jump.new.positions) c.if-not-jump.true (rw l.invariant.ends at c.jump.ensures.jumped) in
     record {
       held_match = tried-out _ _ _ _ _ s.posed l.turn (tried-turn l.invariant.tried c.loop-left-test.true) _ c.predicate_at-predicate.ensures _ _ _ _ _ _ _ l.invariant.tried (ats-room c.args.cursors.now _ s.posed.room) s.positions_in_bounds _ _ (short (goal.at.returns-then-not-jump c).In-Some) _ _ j _;
       standing_2 = rw (j.1.0, j.1.1) (record { each = l.invariant.tried.low.standing });
@@ -138,7 +138,7 @@ returns-then-not-jump c =
 -- behind a move
 moved : (c : Else-not-jump)
     → let l = c.loop-left in let a = c.args in
-    Tried a.query.now.volume.bytes.now a.query.now.plan.now a.outline a.document.doc a.held (ats_of a.cursors.now) a.positions.now (ats_of c.jump.new.cursors) c.jump.new.positions
+    Tried a.volume.now.bytes.now a.plan.now a.outline a.document.doc a.held (ats_of a.cursors.now) a.positions.now (ats_of c.jump.new.cursors) c.jump.new.positions
     (max l.largest (get_or c.jump.new.positions c.in-Some.short.var 0)) l.turn (a.outline.last - a.outline.condition)
     × (slack c.jump.new.positions < slack l.positions)
 moved c =
@@ -146,7 +146,7 @@ moved c =
     let s = c.requires in
     let a = c.args in
     let x = c.in-Some.short.var in
-    let j = subst (λ (r : Bool). Jumped a.query.now.volume.bytes.now a.document.doc (get_or (ends_of a.cursors.now) x 0) c.in-Some.short.need x (ats_of l.cursors) l.positions r (ats_of c.jump.new.cursors) c.jump.new.positions) c.if-not-jump.false (rw l.invariant.ends at c.jump.ensures.jumped) in
+    let j = subst (λ (r : Bool). Jumped a.volume.now.bytes.now a.document.doc (get_or (ends_of a.cursors.now) x 0) c.in-Some.short.need x (ats_of l.cursors) l.positions r (ats_of c.jump.new.cursors) c.jump.new.positions) c.if-not-jump.false (rw l.invariant.ends at c.jump.ensures.jumped) in
     tried-jump _ _ _ _ _ s.posed l.turn (tried-turn l.invariant.tried c.loop-left-test.true) _ c.predicate_at-predicate.ensures _ _ _ _ _ _ _ l.invariant.tried (ats-room c.args.cursors.now _ s.posed.room) s.positions_in_bounds _ _ (subst (Told _ _ _) c.in-Some.is c.falls_short.ensures.told) c.if-x-held.false _ _ j
 
 pub bounds-positions-x : goal.bounds-positions-x

@@ -9,7 +9,7 @@ use Rattle.matcher.proofs.least.match_from.Given as goal
 
 abbrev pub invariant-loop-left : goal.invariant-loop-left
 invariant-loop-left l = record {
-  tried : Tried l.query.volume.bytes.now l.query.plan.now l.outline l.doc l.held (ats_of l.initial.cursors) l.initial.positions (ats_of l.cursors) l.positions l.largest l.turn l.left;
+  tried : Tried l.volume.bytes.now l.plan l.outline l.doc l.held (ats_of l.initial.cursors) l.initial.positions (ats_of l.cursors) l.positions l.largest l.turn l.left;
   paras : length l.paras ≡ length l.initial.paras;
   ends : ends_of l.cursors ≡ ends_of l.initial.cursors;
 }

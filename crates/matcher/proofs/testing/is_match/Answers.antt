@@ -35,6 +35,7 @@ rarest_first-requires c =
     let m = s.outlines.vars_are in
     let q = few-vars s in
     record {
+      accepted = c.args.query.now.accepted;
       pattern_bound = s.pattern;
       outlines = s.outlines;
       vars_in_bounds = omega arith;

@@ -41,6 +41,7 @@ cursor_at-requires c =
     let s = c.requires.asked in
     record {
       list_bound = there (goal.at.cursor_at-requires c).After-list_at-list;
+      doc_bound = s.doc-small;
       pos_bound = s.small c.loop-x.x c.loop-x-test.true;
     }
 

@@ -29,13 +29,13 @@ reach c =
     (r.0, (omega arith, (r.1.1.1, omega arith)))
 
 pub offset_bounds-orders-first : goal.offset_bounds-orders-first
-offset_bounds-orders-first c = let r = reach c in omega arith
+offset_bounds-orders-first c = let r = reach (goal.at.offset_bounds-orders-first c).Else-outline in omega arith
 
 pub slice_bounds-match_from-count : goal.slice_bounds-match_from-count
-slice_bounds-match_from-count c = let r = reach c in omega arith
+slice_bounds-match_from-count c = let r = reach (goal.at.slice_bounds-match_from-count c).Else-outline in omega arith
 
 pub slice_bounds-match_from-start : goal.slice_bounds-match_from-start
-slice_bounds-match_from-start c = let r = reach c in omega arith
+slice_bounds-match_from-start c = let r = reach (goal.at.slice_bounds-match_from-start c).Else-outline in omega arith
 
 pub offset_bounds-cursors-first : goal.offset_bounds-cursors-first
 offset_bounds-cursors-first c = let r = reach (goal.at.offset_bounds-cursors-first c).Else-outline in omega arith
