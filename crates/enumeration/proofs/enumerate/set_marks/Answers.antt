@@ -1,13 +1,13 @@
-use Prim.Native.Nat.{ℕ, ◌+◌, ◌<◌, ◌≤◌}
+use Prim.Native.Nat.{ℕ, ◌<◌, ◌≤◌}
 use native.Mathlib.Omega.{arith}
 use mathlib.Core.Path.{◌≡◌, refl, sym, ap, ◌∙◌}
-use mathlib.Core.Logic.{⊎_elim, ◌≢◌}
+use mathlib.Core.Logic.{⊎_elim}
 use mathlib.Core.List.{List}
-use lib.ListN.{length, get_or, length-set}
+use lib.ListN.{get_or, length-set}
 use lib.Seq.{get_or-set_same, get_or-set_other}
 use borrow.Author.Rules.{rules}
 use Rattle.seq.proofs.Laws.Tests.{below_or}
-use Rattle.matcher.specs.Inner.Cursors.{ats_of, ends_of}
+use Rattle.matcher.specs.Inner.Cursors.{ats_of}
 use Rattle.matcher.proofs.Laws.Cursors.{length-ats, ats-at, ats-set, ends-kept}
 use Rattle.enumeration.proofs.enumerate.set_marks.Goals as goal
 
